@@ -1,0 +1,46 @@
+-- The table of refusals: rows of a number and a condition, of which the first that holds is the answer, 0 for none.
+-- Assumes nothing.
+use Prim.Native.Nat.{ℕ}
+use mathlib.Core.Bool.{Bool, true, false}
+use mathlib.Core.List.{List, [], _∷_}
+use mathlib.Core.Path.{_≡_}
+use lib.Dec.{ltb}
+
+pub record Row : Type 0 where
+  pub number : ℕ
+  pub holds : Bool
+
+abbrev pub row : ℕ → Bool → Row
+row n b = record { number = n; holds = b }
+
+abbrev pub choose : {A : Type 0} → Bool → A → A → A
+choose true a b = a
+choose false a b = b
+
+-- the number of the first row that holds
+abbrev pub judge : List Row → ℕ
+judge [] = 0
+judge (r ∷ rs) = choose (r .holds) (r .number) (judge rs)
+
+abbrev pub either : Bool → Bool → Bool
+either true b = true
+either false b = b
+
+abbrev pub both : Bool → Bool → Bool
+both true b = b
+both false b = false
+
+-- some element passes the test
+abbrev pub any : {A : Type 0} → (A → Bool) → List A → Bool
+any p [] = false
+any p (x ∷ xs) = either (p x) (any p xs)
+
+-- no row holds
+abbrev pub Quiet : List Row → Type 0
+Quiet [] = Unit {0}
+Quiet (r ∷ rs) = (r .holds ≡ false) × Quiet rs
+
+-- no row has the number 0
+abbrev pub numbered : List Row → Bool
+numbered [] = true
+numbered (r ∷ rs) = both (ltb 0 (r .number)) (numbered rs)
