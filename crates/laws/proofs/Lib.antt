@@ -1,3 +1,6 @@
 pub mod Loops
 pub mod Refusal
 pub mod Buffer
+pub mod Cases
+pub mod Products
+pub mod Signed
