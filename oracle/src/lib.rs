@@ -11,6 +11,7 @@ use stand_ins::{Error, bitreader, frame_header, inter_pred};
 
 use bitreader::BitReader;
 use encoder::bitwriter::BitWriter;
+use encoder::global_motion::MotionSample;
 use encoder::{frame_obu, global_motion};
 use uncompressed_header_tail::{GlobalMotionParams, TOTAL_REFS_PER_FRAME, WarpModelType};
 
@@ -60,10 +61,31 @@ pub fn sample_of(word: u32) -> [f64; 4] {
     [centre(word >> 20 & 63), centre(word >> 26), motion(word >> 2 & 511), motion(word >> 11 & 511)]
 }
 
+/// Samples in the Rust's own form, so that a measurement needn't count the copying.
+pub struct Samples(Vec<MotionSample>);
+
+impl Samples {
+    pub fn new(samples: &[[f64; 4]]) -> Self {
+        Self(global_motion::samples(samples))
+    }
+
+    pub fn fit(&self, kind: u8) -> Option<[f64; 6]> {
+        assert_ne!(kind, 0, "IDENTITY has no fit");
+        global_motion::fit(type_of(kind), &self.0).map(|m| m.map(canonical))
+    }
+
+    pub fn score(&self, params: &[i32; 6]) -> f64 {
+        canonical(global_motion::score(params, &self.0))
+    }
+
+    pub fn quantize_model(&self, model: &[f64; 6], kind: u8, high: bool) -> [i32; 6] {
+        global_motion::quantize(model, type_of(kind), high, &self.0)
+    }
+}
+
 /// `fit_translation`, `fit_rotzoom` or `fit_affine` for type 1, 2 or 3; none where elimination refuses.
 pub fn fit(kind: u8, samples: &[[f64; 4]]) -> Option<[f64; 6]> {
-    assert_ne!(kind, 0, "IDENTITY has no fit");
-    global_motion::fit(type_of(kind), &global_motion::samples(samples)).map(|m| m.map(canonical))
+    Samples::new(samples).fit(kind)
 }
 
 /// `solve_linear` of three unknowns.
@@ -78,7 +100,7 @@ pub fn solve4(a: [[f64; 4]; 4], b: [f64; 4]) -> Option<[f64; 4]> {
 
 /// `mean_sq_residual` of `continuous_of_params`.
 pub fn score(params: &[i32; 6], samples: &[[f64; 4]]) -> f64 {
-    canonical(global_motion::score(params, &global_motion::samples(samples)))
+    Samples::new(samples).score(params)
 }
 
 /// The lines of `quantize_model` that make a grid number of a binary64.
@@ -87,7 +109,7 @@ pub fn grid_number(value: f64) -> i32 {
 }
 
 pub fn quantize_model(model: &[f64; 6], kind: u8, high: bool, samples: &[[f64; 4]]) -> [i32; 6] {
-    global_motion::quantize(model, type_of(kind), high, &global_motion::samples(samples))
+    Samples::new(samples).quantize_model(model, kind, high)
 }
 
 pub fn quantize_global_param(kind: u8, high: bool, slot: usize, value: i32) -> i32 {

@@ -105,7 +105,7 @@ impl Fields<'_> {
         let (params, prior) = (self.models()?, self.models()?);
         let (bytes, bits) = oracle::write_header(&types, &params, high, &prior);
         let digits: String = bytes.iter().map(|byte| format!("{byte:02x}")).collect();
-        Ok(format!("{bits} {digits}"))
+        Ok(format!("{bits} .{digits}"))
     }
 
     fn read(&mut self) -> Answer {
@@ -154,9 +154,9 @@ impl<'a> Fields<'a> {
     /// Bytes in hexadecimal after a full stop, which stands alone for none.
     fn bytes(&mut self) -> Answer<Vec<u8>> {
         let field = self.next()?;
-        let digits = field.strip_prefix('.').filter(|digits| digits.is_ascii() && digits.len() % 2 == 0);
+        let digits = field.strip_prefix('.').filter(|digits| is_hexadecimal(digits) && digits.len() % 2 == 0);
         let digits = digits.ok_or_else(|| format!("{field} isn't a full stop and bytes"))?;
-        let byte = |at: usize| u8::from_str_radix(&digits[at..at + 2], 16).map_err(|_| format!("{field} isn't bytes"));
+        let byte = |at: usize| u8::from_str_radix(&digits[at..at + 2], 16).map_err(|error| error.to_string());
         (0..digits.len()).step_by(2).map(byte).collect()
     }
 
@@ -199,8 +199,13 @@ impl<'a> Fields<'a> {
 
 /// 16 hexadecimal digits, the bits of a binary64.
 fn float_of(field: &str) -> Answer<f64> {
-    let bits = u64::from_str_radix(field, 16).ok().filter(|_| field.len() == 16);
+    let digits = Some(field).filter(|digits| is_hexadecimal(digits) && digits.len() == 16);
+    let bits = digits.and_then(|digits| u64::from_str_radix(digits, 16).ok());
     bits.map(f64::from_bits).ok_or_else(|| format!("{field} isn't 16 hexadecimal digits"))
+}
+
+fn is_hexadecimal(digits: &str) -> bool {
+    digits.bytes().all(|digit| digit.is_ascii_hexdigit())
 }
 
 fn floats(values: &[f64]) -> String {

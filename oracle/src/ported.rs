@@ -1,7 +1,7 @@
 //! The ported Rust, included as build.rs prepared it, each file in the module that it names itself by.
 //! Functions after an `include!` are ours: they reach what is private to the module.
 
-#[allow(dead_code)]
+#[allow(dead_code, clippy::all)]
 pub mod uncompressed_header_tail {
     include!(concat!(env!("OUT_DIR"), "/uncompressed_header_tail.rs"));
 
@@ -15,7 +15,7 @@ pub mod uncompressed_header_tail {
 }
 
 pub mod encoder {
-    #[allow(dead_code)]
+    #[allow(dead_code, clippy::all)]
     pub mod bitwriter {
         include!(concat!(env!("OUT_DIR"), "/bitwriter.rs"));
     }
@@ -23,9 +23,8 @@ pub mod encoder {
     pub mod frame_obu {
         use crate::encoder::bitwriter::BitWriter;
         use crate::uncompressed_header_tail::{
-            GM_ABS_ALPHA_BITS, GM_ABS_TRANS_BITS, GM_ABS_TRANS_ONLY_BITS, GM_ALPHA_PREC_BITS,
-            GM_TRANS_ONLY_PREC_BITS, GM_TRANS_PREC_BITS, GlobalMotionParams, TOTAL_REFS_PER_FRAME,
-            WARPEDMODEL_PREC_BITS, WarpModelType,
+            GM_ABS_ALPHA_BITS, GM_ABS_TRANS_BITS, GM_ABS_TRANS_ONLY_BITS, GM_ALPHA_PREC_BITS, GM_TRANS_ONLY_PREC_BITS,
+            GM_TRANS_PREC_BITS, GlobalMotionParams, TOTAL_REFS_PER_FRAME, WARPEDMODEL_PREC_BITS, WarpModelType,
         };
 
         include!(concat!(env!("OUT_DIR"), "/frame_obu.rs"));
@@ -52,7 +51,7 @@ pub mod encoder {
         }
     }
 
-    #[allow(dead_code)]
+    #[allow(dead_code, clippy::all)]
     pub mod global_motion {
         include!(concat!(env!("OUT_DIR"), "/global_motion.rs"));
 
@@ -92,12 +91,7 @@ pub mod encoder {
             include!(concat!(env!("OUT_DIR"), "/grid_number.rs"))
         }
 
-        pub fn quantize(
-            m: &[f64; 6],
-            gm_type: WarpModelType,
-            high: bool,
-            samples: &[MotionSample],
-        ) -> [i32; 6] {
+        pub fn quantize(m: &[f64; 6], gm_type: WarpModelType, high: bool, samples: &[MotionSample]) -> [i32; 6] {
             quantize_model(&ContinuousModel { m: *m }, gm_type, high, samples)
         }
     }
