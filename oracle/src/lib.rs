@@ -20,7 +20,8 @@ pub type Models = [[i32; 6]; 7];
 
 /// Stored motions are eighths of a pel plus this (document 01, 'Sample word').
 const MOTION_BIAS: i32 = 223;
-const BLOCK: f64 = 16.0;
+/// A block's side, and its centre from its first pel.
+const BLOCK: usize = 16;
 const BLOCK_CENTRE: f64 = 7.5;
 
 pub const IDENTITY: [i32; 6] = [0, 0, 65536, 0, 0, 65536];
@@ -40,6 +41,11 @@ pub fn half_plane(plane: &[u16], width: usize, height: usize) -> Vec<u16> {
     global_motion::half_plane(plane, width, height)
 }
 
+/// The number of blocks wholly inside a plane.
+pub fn sample_count(width: usize, height: usize) -> usize {
+    (width / BLOCK) * (height / BLOCK)
+}
+
 /// The sample words of a search, one class for each sample.
 pub fn sample_words(input: &[u16], reference: &[u16], width: usize, height: usize, classes: &[u8]) -> Vec<u32> {
     let samples = search(input, reference, width, height);
@@ -49,14 +55,14 @@ pub fn sample_words(input: &[u16], reference: &[u16], width: usize, height: usiz
 
 /// The sample word of a sample of a search.
 pub fn word_of(&[x, y, u, v]: &[f64; 4], class: u8) -> u32 {
-    let block = |position: f64| ((position - BLOCK_CENTRE) / BLOCK) as u32;
+    let block = |position: f64| (position - BLOCK_CENTRE) as u32 / BLOCK as u32;
     let stored = |motion: f64| ((motion * 8.0) as i32 + MOTION_BIAS) as u32;
     block(y) << 26 | block(x) << 20 | stored(v) << 11 | stored(u) << 2 | u32::from(class)
 }
 
 /// The sample of a sample word of any field values.
 pub fn sample_of(word: u32) -> [f64; 4] {
-    let centre = |block: u32| BLOCK * f64::from(block) + BLOCK_CENTRE;
+    let centre = |block: u32| f64::from(BLOCK as u32 * block) + BLOCK_CENTRE;
     let motion = |stored: u32| f64::from(stored as i32 - MOTION_BIAS) / 8.0;
     [centre(word >> 20 & 63), centre(word >> 26), motion(word >> 2 & 511), motion(word >> 11 & 511)]
 }

@@ -58,10 +58,8 @@ impl Fields<'_> {
 
     fn words(&mut self) -> Answer {
         let (width, height, input, reference) = self.pair()?;
-        let samples = oracle::search(&input, &reference, width, height);
-        let classes = self.list(samples.len(), |fields| fields.up_to(3))?;
-        let words: Vec<u32> =
-            samples.iter().zip(classes).map(|(sample, class)| oracle::word_of(sample, class as u8)).collect();
+        let classes = self.list(oracle::sample_count(width, height), Self::code)?;
+        let words = oracle::sample_words(&input, &reference, width, height, &classes);
         Ok(counted(words.len(), spaced(&words)))
     }
 
@@ -73,7 +71,7 @@ impl Fields<'_> {
     }
 
     fn fit(&mut self) -> Answer {
-        let kind = self.up_to(3)? as u8;
+        let kind = self.code()?;
         if kind == 0 {
             return Err("type 0 has no fit".into());
         }
@@ -89,19 +87,19 @@ impl Fields<'_> {
     }
 
     fn quantize_model(&mut self) -> Answer {
-        let (kind, high) = (self.up_to(3)? as u8, self.flag()?);
+        let (kind, high) = (self.code()?, self.flag()?);
         let model = self.array(Self::float)?;
         Ok(spaced(&oracle::quantize_model(&model, kind, high, &self.samples()?)))
     }
 
     fn quantize(&mut self) -> Answer {
-        let (kind, high, slot) = (self.up_to(3)? as u8, self.flag()?, self.up_to(5)?);
+        let (kind, high, slot) = (self.code()?, self.flag()?, self.up_to(5)?);
         Ok(oracle::quantize_global_param(kind, high, slot, self.number()?).to_string())
     }
 
     fn write(&mut self) -> Answer {
         let high = self.flag()?;
-        let types = self.array(|fields| fields.up_to(3))?.map(|kind| kind as u8);
+        let types = self.array(Self::code)?;
         let (params, prior) = (self.models()?, self.models()?);
         let (bytes, bits) = oracle::write_header(&types, &params, high, &prior);
         let digits: String = bytes.iter().map(|byte| format!("{byte:02x}")).collect();
@@ -119,7 +117,7 @@ impl Fields<'_> {
     }
 
     fn coefficient(&mut self) -> Answer {
-        let (kind, high, slot) = (self.up_to(3)? as u8, self.flag()?, self.up_to(5)?);
+        let (kind, high, slot) = (self.code()?, self.flag()?, self.up_to(5)?);
         let (prior, value) = (self.number()?, self.number()?);
         Ok(oracle::coefficient(kind, high, slot, prior, value))
     }
@@ -141,6 +139,11 @@ impl<'a> Fields<'a> {
             number if number <= most => Ok(number),
             number => Err(format!("{number} is over {most}")),
         }
+    }
+
+    /// A type or a class, 0 to 3.
+    fn code(&mut self) -> Answer<u8> {
+        Ok(self.up_to(3)? as u8)
     }
 
     fn flag(&mut self) -> Answer<bool> {
@@ -166,7 +169,7 @@ impl<'a> Fields<'a> {
 
     fn array<T, const N: usize>(&mut self, take: impl Fn(&mut Self) -> Answer<T>) -> Answer<[T; N]> {
         let list = self.list(N, take)?;
-        list.try_into().map_err(|_| "unreachable: the list has its length".into())
+        Ok(list.try_into().unwrap_or_else(|_| unreachable!("the list has N elements")))
     }
 
     fn model(&mut self) -> Answer<[i32; 6]> {
