@@ -4,3 +4,5 @@ pub mod Buffer
 pub mod Cases
 pub mod Products
 pub mod Signed
+pub mod Placed
+pub mod Parts
