@@ -1,3 +1,4 @@
 pub mod Loops
 pub mod Refusal
 pub mod Buffer
+pub mod Fold
