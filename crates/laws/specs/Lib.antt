@@ -1,3 +1,5 @@
 pub mod Loops
 pub mod Refusal
 pub mod Buffer
+pub mod Placed
+pub mod Parts

@@ -1,0 +1,5 @@
+pub mod Signs
+pub mod Nearest
+pub mod Fixed
+pub mod Table
+pub mod Worked

@@ -1,0 +1,26 @@
+-- `sample::pels_of` meets its contract: a stored motion below 512 and its eighths are small enough to keep their value as i32.
+-- Assumes nothing.
+use borrow.Author.Needs.{needs}
+use mir.Syntax.{w32}
+use mir.ValLaws.{toZ-ofZ, toZ-pos}
+use native.Mathlib.Omega.{arith}
+use Rattle.sample.specs.Sample.{eighthsOf}
+use Rattle.sample.proofs.Motion.{eighths-fit}
+use Rattle.sample.proofs.pels_of.Statement.{statement}
+use Rattle.sample.proofs.pels_of.Tie as tie
+
+cast-result : tie.Need-cast-result
+cast-result c = search needs
+
+sub-result : tie.Need-sub-result
+sub-result c = rw (toZ-pos w32 (c .args .stored) (omega arith)) (eighths-fit (c .args .stored) (omega arith))
+
+int-to-float-result : tie.Need-int-to-float-result
+int-to-float-result c = search needs
+
+returns : tie.Need-returns
+returns c =
+    rw (toZ-pos w32 (c .before .args .stored) (omega arith), toZ-ofZ w32 (eighthsOf (c .before .args .stored)) (eighths-fit (c .before .args .stored) (omega arith)))
+
+pub pels-of-spec : {M : Type 1} → statement M
+pels-of-spec = tie.close (tie.spec cast-result sub-result int-to-float-result returns)

@@ -1,0 +1,119 @@
+// The sample word and the sample it stands for (document 01, 'Records': Sample, Sample word).
+// A word's five fields are taken apart and put together; a word becomes a `MotionSample`, the
+// four binary64 numbers that the fits take (`MotionSample` of the Rust's global_motion.rs).
+ghost use mathlib.Core.Path.{_≡_};
+ghost use Prim.Native.Nat.{_<_};
+ghost use Rattle.sample.specs.Word.{rowOf, colOf, vOf, uOf, classOf, wordOf, Held, inRange, placeOf, motions};
+ghost use Rattle.sample.specs.Sample.{sampleOf, centreOf, pelsOf};
+
+const ROW_UNIT: u32 = 67108864;
+
+const COL_UNIT: u32 = 1048576;
+
+const V_UNIT: u32 = 2048;
+
+const U_UNIT: u32 = 4;
+
+const SIDES: u32 = 64;
+
+const MOTIONS: u32 = 512;
+
+const CLASSES: u32 = 4;
+
+// The largest stored motion, and what a stored motion is above its eighths.
+const LAST_MOTION: u32 = 446;
+
+const MOTION_BIAS: i32 = 223;
+
+const BLOCK_SIDE: u32 = 16;
+
+pub struct MotionSample {
+    pub x: f64,
+    pub y: f64,
+    pub u: f64,
+    pub v: f64,
+}
+
+pub fn row_of(word: u32) -> u32
+    ensures { λ r. ⌜ r ≡ rowOf word ⌝ }
+{
+    word / ROW_UNIT
+}
+
+pub fn col_of(word: u32) -> u32
+    ensures { λ r. ⌜ r ≡ colOf word ⌝ }
+{
+    word / COL_UNIT % SIDES
+}
+
+// The stored motion down, eighths plus 223.
+pub fn v_of(word: u32) -> u32
+    ensures { λ r. ⌜ r ≡ vOf word ⌝ }
+{
+    word / V_UNIT % MOTIONS
+}
+
+// The stored motion across, eighths plus 223.
+pub fn u_of(word: u32) -> u32
+    ensures { λ r. ⌜ r ≡ uOf word ⌝ }
+{
+    word / U_UNIT % MOTIONS
+}
+
+pub fn class_of(word: u32) -> u8
+    ensures { λ r. ⌜ r ≡ classOf word ⌝ }
+{
+    (word % CLASSES) as u8
+}
+
+pub fn word_of(row: u32, col: u32, v: u32, u: u32, class: u8) -> u32
+    requires { ⌜ Held row col v u class ⌝ }
+    ensures { λ r. ⌜ r ≡ wordOf row col v u class ⌝ }
+{
+    row * ROW_UNIT + col * COL_UNIT + v * V_UNIT + u * U_UNIT + class as u32
+}
+
+// Both stored motions are within 223 eighths of zero.
+pub fn in_range(word: u32) -> bool
+    ensures { λ r. ⌜ r ≡ inRange word ⌝ }
+{
+    if v_of(word) <= LAST_MOTION {
+        u_of(word) <= LAST_MOTION
+    } else {
+        false
+    }
+}
+
+// (R, C) as one number, R first.
+pub fn place_of(word: u32) -> u32
+    ensures { λ r. ⌜ r ≡ placeOf word ⌝ }
+{
+    word / COL_UNIT
+}
+
+// The centre of the block at this row or column, in pels.
+fn centre_of(place: u32) -> f64
+    requires { ⌜ place < 64 ⌝ }
+    ensures { λ r. ⌜ r ≡ centreOf place ⌝ }
+{
+    (BLOCK_SIDE * place) as f64 + 7.5
+}
+
+// A stored motion in pels.
+fn pels_of(stored: u32) -> f64
+    requires { ⌜ stored < motions ⌝ }
+    ensures { λ r. ⌜ r ≡ pelsOf stored ⌝ }
+{
+    (stored as i32 - MOTION_BIAS) as f64 / 8.0
+}
+
+pub fn sample_of(word: u32) -> MotionSample
+    ensures { λ r. ⌜ r ≡ sampleOf word ⌝ }
+{
+    MotionSample {
+        x: centre_of(col_of(word)),
+        y: centre_of(row_of(word)),
+        u: pels_of(u_of(word)),
+        v: pels_of(v_of(word)),
+    }
+}
