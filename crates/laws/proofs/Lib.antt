@@ -6,3 +6,4 @@ pub mod Products
 pub mod Signed
 pub mod Placed
 pub mod Parts
+pub mod Floor
