@@ -7,7 +7,7 @@ use native.Mathlib.Nat.{add-comm}
 use native.Mathlib.Numerals.{add-one}
 use native.Mathlib.Omega.{arith}
 use lib.ListN.{length, take, drop, set, getD, length-append, length-take, length-drop, take-append-drop}
-use lib.Seq.{take-append-seam, drop-append-seam, drop-drop, sets, sets-eq, drop-cons, set-append-seam, take-at, drop-at, take-suc, drop-length, take-length, length-take-le}
+use lib.Seq.{take-append-seam, drop-append-seam, drop-drop, sets, sets-eq, drop-cons, set-append-seam, take-at, drop-at, take-suc, drop-length, take-length, take-all, length-take-le}
 use Rattle.laws.specs.Buffer.{onto}
 use Rattle.laws.specs.Placed.{placed}
 
@@ -52,3 +52,14 @@ module _ {A : Type 0} where
   sets-placed at new old h =
       sets-eq new old at h ∙ append-assoc (take at old) new (drop (at + length new) old)
       ∙ ap (λ (r : List A). take at old ++ (new ++ r)) (sym (drop-drop (length new) at old))
+
+  -- a part from a position to the end, lent
+  pub tail-whole : (a : ℕ) (l : List A) → take (length l - a) (drop a l) ≡ drop a l
+  tail-whole a l = take-all (length l - a) (drop a l) (rw (length-drop a l) (omega arith))
+
+  -- and back, written from its front
+  pub tail-placed : (a : ℕ) (old new last : List A) → last ≡ onto new (take (length old - a) (drop a old))
+      → take a old ++ (last ++ drop (length old - a) (drop a old)) ≡ placed a new old
+  tail-placed a old new last e =
+      let rest : length (drop a old) ≤ length old - a = rw (length-drop a old) (omega arith) in
+      rw (lib.ListN.drop-of-length-le (drop a old) rest, append-nil last, e, tail-whole a old)
