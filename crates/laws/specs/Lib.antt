@@ -3,3 +3,4 @@ pub mod Refusal
 pub mod Buffer
 pub mod Placed
 pub mod Parts
+pub mod Binary64
