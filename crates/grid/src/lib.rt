@@ -4,7 +4,7 @@
 ghost use mathlib.Core.Path.{_≡_};
 ghost use Prim.Native.Nat.{_*_, _^_, _<_, _≤_};
 ghost use lib.IntN.{pos, natAbs, _-ℤ_, _+ℤ_, _*ℤ_};
-ghost use Rattle.grid.specs.Grid.{paramBits, centre, negative, step, nearestOrdinal, signed, quantize, Row, rejected, answer};
+ghost use Rattle.grid.specs.Grid.{paramBits, centre, negative, step, nearestOrdinal, signed, quantize, quantized, Row, rejected, answer};
 ghost use Rattle.grid.specs.Symbols.{symbols, symbolOf, numberOf, placeCode, Symbol, Prior};
 
 // Fraction bits of a model's numbers.
@@ -211,6 +211,14 @@ pub fn number_of(abs_bits: u32, prec_bits: u32, round: u32, symbol: u32) -> i32
     to_centre(from_middle(abs_bits, prec_bits, symbol), round)
 }
 
+// The nearest codable number of a slot.
+pub fn nearest_number(gm_type: u8, flag: u8, slot: u8, value: i32) -> i32
+    ensures { λ r. ⌜ r ≡ quantized «gm_type» flag slot value ⌝ }
+{
+    let bits = global_param_bits(gm_type, flag, slot);
+    snap(bits.abs_bits, bits.prec_bits, centre_of(slot), value)
+}
+
 fn refused(number: u32) -> Quantized
     ensures { λ r. ⌜ r ≡ rejected number ⌝ }
 {
@@ -232,9 +240,8 @@ pub fn quantize_global_param(gm_type: u8, flag: u8, slot: u8, value: i32) -> Qua
     if 5 < slot {
         return refused(5);
     }
-    let bits = global_param_bits(gm_type, flag, slot);
     Quantized {
         refusal: 0,
-        value: snap(bits.abs_bits, bits.prec_bits, centre_of(slot), value),
+        value: nearest_number(gm_type, flag, slot, value),
     }
 }

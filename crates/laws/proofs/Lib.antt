@@ -8,3 +8,4 @@ pub mod Signed
 pub mod Placed
 pub mod Parts
 pub mod Floor
+pub mod Below

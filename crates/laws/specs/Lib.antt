@@ -4,3 +4,4 @@ pub mod Buffer
 pub mod Placed
 pub mod Parts
 pub mod Binary64
+pub mod Below
