@@ -1,3 +1,11 @@
 pub mod Loops
 pub mod Refusal
 pub mod Buffer
+pub mod Fold
+pub mod Cases
+pub mod Products
+pub mod Signed
+pub mod Placed
+pub mod Parts
+pub mod Floor
+pub mod Below

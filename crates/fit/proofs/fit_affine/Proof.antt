@@ -1,0 +1,18 @@
+-- `fit::fit_affine` meets its contract: each return rewrites with the test of the length.
+-- Assumes nothing.
+use borrow.Author.Tests.{lt-ltb, le-ltb}
+use borrow.Author.Needs.{needs}
+use Rattle.fit.proofs.fit_affine.Statement.{statement}
+use Rattle.fit.proofs.fit_affine.Tie as tie
+
+returns : tie.Need-returns
+returns c = rw (lt-ltb _ _ (c .if1 .taken))
+
+affine-fit-requires : tie.Need-affine-fit-requires
+affine-fit-requires c κs = search needs
+
+returns-2 : tie.Need-returns-2
+returns-2 c = rw (le-ltb _ _ (c .before .if1 .left)) (c .affine-fit .ensures)
+
+pub fit-affine-spec : {M : Type 1} → statement M
+fit-affine-spec = tie.close (tie.spec returns affine-fit-requires returns-2)

@@ -1,0 +1,384 @@
+// The three fits of motion models: a slice of sample words goes in, a fitted model or a refusal comes
+// out. Sums, elimination and back-substitution in binary64, one rounding an operation, samples first
+// to last: `fit_translation`, `fit_rotzoom`, `fit_affine` (encoder/global_motion.rs); document 01,
+// 'Records' (Model), 'Fits and score', rows 1, 4 and 6.
+
+use sample::MotionSample;
+use solve::Outcome;
+use solve::Solution;
+use solve::System;
+ghost use mathlib.Core.Path.{_≡_};
+ghost use Prim.Native.Nat.{_≤_};
+ghost use lib.IntN.{pos};
+ghost use lib.ListN.{length};
+ghost use lib.Ieee.{binary64, ofInt};
+ghost use Rattle.fit.specs.Sums.{countOf, translationStep, rotZoomStep, affineStep, translationSums, rotZoomSums, affineSums};
+ghost use Rattle.fit.specs.Fitted.{translationFit, rotZoomFit, affineFit, fitOf, answered, fitted, rotZoomOf, affineOf, typeOf, rotZoomSystem, affineSystem, mostSamples};
+
+// Document 01: a list holds at most so many samples.
+const MOST_SAMPLES: usize = 4096;
+
+// The type codes of the three kinds.
+const TRANSLATION: u8 = 1;
+
+const ROTZOOM: u8 = 2;
+
+const AFFINE: u8 = 3;
+
+// Rows of document 01's table.
+const TOO_MANY: u32 = 1;
+
+const NO_SUCH_TYPE: u32 = 4;
+
+const SINGULAR: u32 = 6;
+
+// A fitted model, its numbers by the slots of the standard. A rotation-zoom's m4 is −m3 and its m5 is
+// m2.
+pub enum Fitted {
+    Refused(u32),
+    Translation {
+        m0: f64,
+        m1: f64,
+    },
+    RotZoom {
+        m0: f64,
+        m1: f64,
+        m2: f64,
+        m3: f64,
+    },
+    Affine {
+        m0: f64,
+        m1: f64,
+        m2: f64,
+        m3: f64,
+        m4: f64,
+        m5: f64,
+    },
+}
+
+pub struct TranslationSums {
+    pub su: f64,
+    pub sv: f64,
+}
+
+pub struct RotZoomSums {
+    pub sx: f64,
+    pub sy: f64,
+    pub q: f64,
+    pub p1: f64,
+    pub p2: f64,
+    pub su: f64,
+    pub sv: f64,
+}
+
+pub struct AffineSums {
+    pub sx: f64,
+    pub sy: f64,
+    pub sxx: f64,
+    pub sxy: f64,
+    pub syy: f64,
+    pub sxu: f64,
+    pub syu: f64,
+    pub su: f64,
+    pub sxv: f64,
+    pub syv: f64,
+    pub sv: f64,
+}
+
+// The type code of a fitted model, 0 for a refusal.
+pub fn kind_of(model: Fitted) -> u8
+    ensures { λ r. ⌜ r ≡ typeOf model ⌝ }
+{
+    match model {
+        Fitted::Refused(_) => 0,
+        Fitted::Translation { m0: _, m1: _ } => TRANSLATION,
+        Fitted::RotZoom {
+            m0: _,
+            m1: _,
+            m2: _,
+            m3: _,
+        } => ROTZOOM,
+        Fitted::Affine {
+            m0: _,
+            m1: _,
+            m2: _,
+            m3: _,
+            m4: _,
+            m5: _,
+        } => AFFINE,
+    }
+}
+
+// A count of samples as a binary64, exact.
+pub fn count_of(samples: usize) -> f64
+    requires { ⌜ samples ≤ 4096 ⌝ }
+    ensures { λ r. ⌜ r ≡ ofInt binary64 (pos samples) ⌝ }
+{
+    samples as u32 as f64
+}
+
+fn translation_step(t: TranslationSums, s: MotionSample) -> TranslationSums
+    ensures { λ r. ⌜ r ≡ translationStep t s ⌝ }
+{
+    TranslationSums {
+        su: t.su + s.u,
+        sv: t.sv + s.v,
+    }
+}
+
+fn rotzoom_step(t: RotZoomSums, s: MotionSample) -> RotZoomSums
+    ensures { λ r. ⌜ r ≡ rotZoomStep t s ⌝ }
+{
+    RotZoomSums {
+        sx: t.sx + s.x,
+        sy: t.sy + s.y,
+        q: t.q + (s.x * s.x + s.y * s.y),
+        p1: t.p1 + (s.x * s.u + s.y * s.v),
+        p2: t.p2 + (s.y * s.u - s.x * s.v),
+        su: t.su + s.u,
+        sv: t.sv + s.v,
+    }
+}
+
+fn affine_step(t: AffineSums, s: MotionSample) -> AffineSums
+    ensures { λ r. ⌜ r ≡ affineStep t s ⌝ }
+{
+    AffineSums {
+        sx: t.sx + s.x,
+        sy: t.sy + s.y,
+        sxx: t.sxx + s.x * s.x,
+        sxy: t.sxy + s.x * s.y,
+        syy: t.syy + s.y * s.y,
+        sxu: t.sxu + s.x * s.u,
+        syu: t.syu + s.y * s.u,
+        su: t.su + s.u,
+        sxv: t.sxv + s.x * s.v,
+        syv: t.syv + s.y * s.v,
+        sv: t.sv + s.v,
+    }
+}
+
+fn translation_sums(words: &[u32]) -> TranslationSums
+    ensures { λ r. ⌜ r ≡ translationSums (now (words .entry)) ⌝ }
+{
+    let mut t = TranslationSums { su: 0.0, sv: 0.0 };
+    let mut i = 0usize;
+    while i < words.len() {
+        t = translation_step(t, sample::sample_of(words[i]));
+        i += 1;
+    }
+    t
+}
+
+fn rotzoom_sums(words: &[u32]) -> RotZoomSums
+    ensures { λ r. ⌜ r ≡ rotZoomSums (now (words .entry)) ⌝ }
+{
+    let mut t = RotZoomSums {
+        sx: 0.0,
+        sy: 0.0,
+        q: 0.0,
+        p1: 0.0,
+        p2: 0.0,
+        su: 0.0,
+        sv: 0.0,
+    };
+    let mut i = 0usize;
+    while i < words.len() {
+        t = rotzoom_step(t, sample::sample_of(words[i]));
+        i += 1;
+    }
+    t
+}
+
+fn affine_sums(words: &[u32]) -> AffineSums
+    ensures { λ r. ⌜ r ≡ affineSums (now (words .entry)) ⌝ }
+{
+    let mut t = AffineSums {
+        sx: 0.0,
+        sy: 0.0,
+        sxx: 0.0,
+        sxy: 0.0,
+        syy: 0.0,
+        sxu: 0.0,
+        syu: 0.0,
+        su: 0.0,
+        sxv: 0.0,
+        syv: 0.0,
+        sv: 0.0,
+    };
+    let mut i = 0usize;
+    while i < words.len() {
+        t = affine_step(t, sample::sample_of(words[i]));
+        i += 1;
+    }
+    t
+}
+
+fn rotzoom_system(t: RotZoomSums, n: f64) -> System
+    ensures { λ r. ⌜ r ≡ rotZoomSystem t n ⌝ }
+{
+    let a = [
+        t.q,
+        0.0,
+        t.sx,
+        t.sy,
+        0.0,
+        t.q,
+        t.sy,
+        -t.sx,
+        t.sx,
+        t.sy,
+        n,
+        0.0,
+        t.sy,
+        -t.sx,
+        0.0,
+        n,
+    ];
+    let b = [t.p1, t.p2, t.su, t.sv];
+    System { a, b }
+}
+
+fn affine_system(t: AffineSums, n: f64, b0: f64, b1: f64, b2: f64) -> System
+    ensures { λ r. ⌜ r ≡ affineSystem t n b0 b1 b2 ⌝ }
+{
+    let a = [
+        t.sxx,
+        t.sxy,
+        t.sx,
+        0.0,
+        t.sxy,
+        t.syy,
+        t.sy,
+        0.0,
+        t.sx,
+        t.sy,
+        n,
+        0.0,
+        0.0,
+        0.0,
+        0.0,
+        0.0,
+    ];
+    let b = [b0, b1, b2, 0.0];
+    System { a, b }
+}
+
+// The mean motion; of no samples not-a-number twice.
+fn translation_fit(words: &[u32]) -> Fitted
+    requires { ⌜ length (now words) ≤ mostSamples ⌝ }
+    ensures { λ r. ⌜ r ≡ translationFit (now (words .entry)) ⌝ }
+{
+    let n = count_of(words.len());
+    let t = translation_sums(words);
+    Fitted::Translation {
+        m0: t.su / n,
+        m1: t.sv / n,
+    }
+}
+
+// Unknowns in the order alpha, b, tx, ty.
+fn rotzoom_of(solution: Solution) -> Fitted
+    ensures { λ r. ⌜ r ≡ rotZoomOf solution ⌝ }
+{
+    let x = solution.x;
+    let outcome = solution.outcome;
+    match outcome {
+        Outcome::Singular => Fitted::Refused(SINGULAR),
+        Outcome::Solved => Fitted::RotZoom {
+            m0: x[2],
+            m1: x[3],
+            m2: 1.0 + x[0],
+            m3: x[1],
+        },
+    }
+}
+
+fn rotzoom_fit(words: &[u32]) -> Fitted
+    requires { ⌜ length (now words) ≤ mostSamples ⌝ }
+    ensures { λ r. ⌜ r ≡ rotZoomFit (now (words .entry)) ⌝ }
+{
+    let n = count_of(words.len());
+    rotzoom_of(solve::solve_linear(4, rotzoom_system(rotzoom_sums(words), n)))
+}
+
+fn affine_of(across: Solution, down: Solution) -> Fitted
+    ensures { λ r. ⌜ r ≡ affineOf across down ⌝ }
+{
+    let xu = across.x;
+    let xv = down.x;
+    let outcome_u = across.outcome;
+    let outcome_v = down.outcome;
+    match outcome_u {
+        Outcome::Singular => Fitted::Refused(SINGULAR),
+        Outcome::Solved => match outcome_v {
+            Outcome::Singular => Fitted::Refused(SINGULAR),
+            Outcome::Solved => Fitted::Affine {
+                m0: xu[2],
+                m1: xv[2],
+                m2: 1.0 + xu[0],
+                m3: xu[1],
+                m4: xv[0],
+                m5: 1.0 + xv[1],
+            },
+        },
+    }
+}
+
+// The rows of u and of v share their matrix.
+fn affine_fit(words: &[u32]) -> Fitted
+    requires { ⌜ length (now words) ≤ mostSamples ⌝ }
+    ensures { λ r. ⌜ r ≡ affineFit (now (words .entry)) ⌝ }
+{
+    let n = count_of(words.len());
+    let t = affine_sums(words);
+    let across = solve::solve_linear(3, affine_system(t, n, t.sxu, t.syu, t.su));
+    let down = solve::solve_linear(3, affine_system(t, n, t.sxv, t.syv, t.sv));
+    affine_of(across, down)
+}
+
+pub fn fit_translation(words: &[u32]) -> Fitted
+    ensures { λ r. ⌜ r ≡ answered (now (words .entry)) (translationFit (now (words .entry))) ⌝ }
+{
+    if words.len() > MOST_SAMPLES {
+        return Fitted::Refused(TOO_MANY);
+    }
+    translation_fit(words)
+}
+
+pub fn fit_rotzoom(words: &[u32]) -> Fitted
+    ensures { λ r. ⌜ r ≡ answered (now (words .entry)) (rotZoomFit (now (words .entry))) ⌝ }
+{
+    if words.len() > MOST_SAMPLES {
+        return Fitted::Refused(TOO_MANY);
+    }
+    rotzoom_fit(words)
+}
+
+pub fn fit_affine(words: &[u32]) -> Fitted
+    ensures { λ r. ⌜ r ≡ answered (now (words .entry)) (affineFit (now (words .entry))) ⌝ }
+{
+    if words.len() > MOST_SAMPLES {
+        return Fitted::Refused(TOO_MANY);
+    }
+    affine_fit(words)
+}
+
+// The fit of a type code: 1 TRANSLATION, 2 ROTZOOM, 3 AFFINE.
+pub fn fit_model(kind: u8, words: &[u32]) -> Fitted
+    ensures { λ r. ⌜ r ≡ fitted kind (now (words .entry)) ⌝ }
+{
+    if words.len() > MOST_SAMPLES {
+        return Fitted::Refused(TOO_MANY);
+    }
+    if kind == TRANSLATION {
+        return translation_fit(words);
+    }
+    if kind == ROTZOOM {
+        return rotzoom_fit(words);
+    }
+    if kind == AFFINE {
+        return affine_fit(words);
+    }
+    Fitted::Refused(NO_SUCH_TYPE)
+}

@@ -1,0 +1,7 @@
+pub mod Signs
+pub mod Nearest
+pub mod Fixed
+pub mod Table
+pub mod Worked
+pub mod Symbols
+pub mod Bounds

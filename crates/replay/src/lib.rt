@@ -1,0 +1,56 @@
+// What the programs that replay a stored list of questions and answers share: big-endian words from
+// a list, the generator that remakes the oracle's inputs, and the lines that they print.
+ghost use mathlib.Core.Path.{_≡_};
+ghost use Prim.Native.Nat.{_+_, _*_, _%_, _^_};
+ghost use mir.Syntax.{w32};
+ghost use mir.Val.{toZ};
+use libc::STDOUT_FILENO;
+
+// The next four bytes of a list, high byte first; 0 where the list has ended.
+pub fn next_word(list: i32) -> u32 {
+    let mut bytes = [0u8; 4];
+    io::read_full(list, &mut bytes);
+    joined(bytes[0], bytes[1], bytes[2], bytes[3])
+}
+
+fn joined(a: u8, b: u8, c: u8, d: u8) -> u32
+    ensures { λ r. ⌜ r ≡ a * 16777216 + b * 65536 + c * 256 + d ⌝ }
+{
+    a as u32 * 16777216 + b as u32 * 65536 + c as u32 * 256 + d as u32
+}
+
+// The signed number of 32 bits.
+pub fn signed(word: u32) -> i32
+    ensures { λ r. ⌜ r ≡ toZ w32 word ⌝ }
+{
+    if word < 0x8000_0000 {
+        word as i32
+    } else {
+        (word as i64 - 0x1_0000_0000) as i32
+    }
+}
+
+// One step of the generator that the oracle's lists are made with.
+pub fn next_state(state: u32) -> u32
+    ensures { λ r. ⌜ r ≡ (state * 1664525 + 1013904223) % 2 ^ 32 ⌝ }
+{
+    ((state as u64 * 1664525 + 1013904223) % 0x1_0000_0000) as u32
+}
+
+// A line for a case that failed: the list's name and the case's number.
+pub fn print_failure(name: &[u8], case: u64) {
+    io::write_all(STDOUT_FILENO, name);
+    io::write_all(STDOUT_FILENO, b": wrong at ");
+    io::print_decimal(STDOUT_FILENO, case);
+    io::write_all(STDOUT_FILENO, b"\n");
+}
+
+// The last line: how many cases were tried, and how many failed.
+pub fn print_count(name: &[u8], tried: u64, failed: u64) {
+    io::write_all(STDOUT_FILENO, name);
+    io::write_all(STDOUT_FILENO, b": ");
+    io::print_decimal(STDOUT_FILENO, tried);
+    io::write_all(STDOUT_FILENO, b" tried, ");
+    io::print_decimal(STDOUT_FILENO, failed);
+    io::write_all(STDOUT_FILENO, b" failed\n");
+}

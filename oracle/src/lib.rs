@@ -1,0 +1,171 @@
+//! Answers of the Rust that this repository ports, over plain types.
+//! A model is six numbers, x first as the fits have it; headers take and give models as stored.
+//! A type is 0 to 3; every not-a-number in an answer is the one that `canonical` gives.
+
+pub mod list;
+mod ported;
+mod stand_ins;
+
+use ported::{encoder, uncompressed_header_tail};
+use stand_ins::{Error, bitreader, frame_header, inter_pred};
+
+use bitreader::BitReader;
+use encoder::bitwriter::BitWriter;
+use encoder::global_motion::MotionSample;
+use encoder::{frame_obu, global_motion};
+use uncompressed_header_tail::{GlobalMotionParams, TOTAL_REFS_PER_FRAME, WarpModelType};
+
+/// Six numbers for each of the references 1 to 7.
+pub type Models = [[i32; 6]; 7];
+
+/// Stored motions are eighths of a pel plus this (document 01, 'Sample word').
+const MOTION_BIAS: i32 = 223;
+/// A block's side, and its centre from its first pel.
+const BLOCK: usize = 16;
+const BLOCK_CENTRE: f64 = 7.5;
+
+pub const IDENTITY: [i32; 6] = [0, 0, 65536, 0, 0, 65536];
+
+/// The value itself, or one bit pattern for every not-a-number.
+pub fn canonical(value: f64) -> f64 {
+    if value.is_nan() { f64::from_bits(0x7ff8_0000_0000_0000) } else { value }
+}
+
+/// `collect_motion_samples`: x, y, u, v of each sample.
+pub fn search(input: &[u16], reference: &[u16], width: usize, height: usize) -> Vec<[f64; 4]> {
+    global_motion::search(input, reference, width, height)
+}
+
+/// The lines of `collect_motion_samples` that halve a plane.
+pub fn half_plane(plane: &[u16], width: usize, height: usize) -> Vec<u16> {
+    global_motion::half_plane(plane, width, height)
+}
+
+/// The number of blocks wholly inside a plane.
+pub fn sample_count(width: usize, height: usize) -> usize {
+    (width / BLOCK) * (height / BLOCK)
+}
+
+/// The sample words of a search, one class for each sample.
+pub fn sample_words(input: &[u16], reference: &[u16], width: usize, height: usize, classes: &[u8]) -> Vec<u32> {
+    let samples = search(input, reference, width, height);
+    assert_eq!(samples.len(), classes.len(), "one class for each sample");
+    samples.iter().zip(classes).map(|(sample, &class)| word_of(sample, class)).collect()
+}
+
+/// The sample word of a sample of a search.
+pub fn word_of(&[x, y, u, v]: &[f64; 4], class: u8) -> u32 {
+    let block = |position: f64| (position - BLOCK_CENTRE) as u32 / BLOCK as u32;
+    let stored = |motion: f64| ((motion * 8.0) as i32 + MOTION_BIAS) as u32;
+    block(y) << 26 | block(x) << 20 | stored(v) << 11 | stored(u) << 2 | u32::from(class)
+}
+
+/// The sample of a sample word of any field values.
+pub fn sample_of(word: u32) -> [f64; 4] {
+    let centre = |block: u32| f64::from(BLOCK as u32 * block) + BLOCK_CENTRE;
+    let motion = |stored: u32| f64::from(stored as i32 - MOTION_BIAS) / 8.0;
+    [centre(word >> 20 & 63), centre(word >> 26), motion(word >> 2 & 511), motion(word >> 11 & 511)]
+}
+
+/// Samples in the Rust's own form, so that a measurement needn't count the copying.
+pub struct Samples(Vec<MotionSample>);
+
+impl Samples {
+    pub fn new(samples: &[[f64; 4]]) -> Self {
+        Self(global_motion::samples(samples))
+    }
+
+    pub fn fit(&self, kind: u8) -> Option<[f64; 6]> {
+        assert_ne!(kind, 0, "IDENTITY has no fit");
+        global_motion::fit(type_of(kind), &self.0).map(|m| m.map(canonical))
+    }
+
+    pub fn score(&self, params: &[i32; 6]) -> f64 {
+        canonical(global_motion::score(params, &self.0))
+    }
+
+    pub fn quantize_model(&self, model: &[f64; 6], kind: u8, high: bool) -> [i32; 6] {
+        global_motion::quantize(model, type_of(kind), high, &self.0)
+    }
+}
+
+/// `fit_translation`, `fit_rotzoom` or `fit_affine` for type 1, 2 or 3; none where elimination refuses.
+pub fn fit(kind: u8, samples: &[[f64; 4]]) -> Option<[f64; 6]> {
+    Samples::new(samples).fit(kind)
+}
+
+/// `solve_linear` of three unknowns.
+pub fn solve3(a: [[f64; 3]; 3], b: [f64; 3]) -> Option<[f64; 3]> {
+    global_motion::solve(a, b).map(|x| x.map(canonical))
+}
+
+/// `solve_linear` of four unknowns.
+pub fn solve4(a: [[f64; 4]; 4], b: [f64; 4]) -> Option<[f64; 4]> {
+    global_motion::solve(a, b).map(|x| x.map(canonical))
+}
+
+/// `mean_sq_residual` of `continuous_of_params`.
+pub fn score(params: &[i32; 6], samples: &[[f64; 4]]) -> f64 {
+    Samples::new(samples).score(params)
+}
+
+/// The lines of `quantize_model` that make a grid number of a binary64.
+pub fn grid_number(value: f64) -> i32 {
+    global_motion::grid_number(value)
+}
+
+pub fn quantize_model(model: &[f64; 6], kind: u8, high: bool, samples: &[[f64; 4]]) -> [i32; 6] {
+    Samples::new(samples).quantize_model(model, kind, high)
+}
+
+pub fn quantize_global_param(kind: u8, high: bool, slot: usize, value: i32) -> i32 {
+    frame_obu::quantize_global_param(type_of(kind), high, slot, value)
+}
+
+/// `encode_inter_global_motion`: the bytes, padded with zeros, and the number of bits.
+pub fn write_header(types: &[u8; 7], params: &Models, high: bool, prior: &Models) -> (Vec<u8>, usize) {
+    let mut gm = GlobalMotionParams::identity();
+    gm.short_circuited = false;
+    gm.gm_type[1..].copy_from_slice(&types.map(type_of));
+    gm.gm_params[1..].copy_from_slice(params);
+    let mut writer = BitWriter::new();
+    frame_obu::write(&mut writer, &gm, high, &from_reference_0(prior));
+    let bits = writer.bit_position();
+    (writer.finish(), bits)
+}
+
+/// `read_global_motion_params` from bit `at`: types, models and bits consumed; none if the bytes end first.
+pub fn read_header(bytes: &[u8], at: usize, high: bool, prior: &Models) -> Option<([u8; 7], Models, usize)> {
+    let mut reader = BitReader::at(bytes, at);
+    let gm = uncompressed_header_tail::read(&mut reader, high, &from_reference_0(prior)).ok()?;
+    let types = std::array::from_fn(|i| gm.gm_type[i + 1].as_u8());
+    let params = std::array::from_fn(|i| gm.gm_params[i + 1]);
+    Some((types, params, reader.position() - at))
+}
+
+/// `write_global_param`: the bits of one coefficient, as digits.
+pub fn coefficient(kind: u8, high: bool, slot: usize, prior: i32, value: i32) -> String {
+    let mut writer = BitWriter::new();
+    frame_obu::write_coefficient(&mut writer, type_of(kind), high, slot, prior, value);
+    let bits = writer.bit_position();
+    let bytes = writer.finish();
+    let bit = |i: usize| if bytes[i / 8] >> (7 - i % 8) & 1 == 1 { '1' } else { '0' };
+    (0..bits).map(bit).collect()
+}
+
+fn type_of(kind: u8) -> WarpModelType {
+    match kind {
+        0 => WarpModelType::Identity,
+        1 => WarpModelType::Translation,
+        2 => WarpModelType::RotZoom,
+        3 => WarpModelType::Affine,
+        _ => panic!("a type is 0 to 3, not {kind}"),
+    }
+}
+
+/// The Rust's arrays begin with reference 0, which no header carries.
+fn from_reference_0(models: &Models) -> [[i32; 6]; TOTAL_REFS_PER_FRAME] {
+    let mut all = [IDENTITY; TOTAL_REFS_PER_FRAME];
+    all[1..].copy_from_slice(models);
+    all
+}

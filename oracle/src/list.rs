@@ -1,0 +1,61 @@
+//! What the list makers share: the generator of inputs and the binary form of a list.
+
+use std::{fs, io, path::Path};
+
+/// The generator of inputs, which a replay program can run too.
+pub struct Lcg(pub u32);
+
+impl Lcg {
+    /// Steps the state and gives its upper 16 bits.
+    pub fn step(&mut self) -> u16 {
+        self.0 = self.0.wrapping_mul(1_664_525).wrapping_add(1_013_904_223);
+        (self.0 >> 16) as u16
+    }
+
+    /// Two steps, the first above the second.
+    pub fn word(&mut self) -> u32 {
+        let high = u32::from(self.step());
+        high << 16 | u32::from(self.step())
+    }
+
+    /// One step, its remainder by `count`.
+    pub fn below(&mut self, count: u16) -> u16 {
+        self.step() % count
+    }
+
+    pub fn words(&mut self, count: usize) -> Vec<u32> {
+        (0..count).map(|_| self.word()).collect()
+    }
+
+    /// One step for each pel, its bits outside `mask` cleared.
+    pub fn plane(&mut self, width: usize, height: usize, mask: u16) -> Vec<u16> {
+        (0..width * height).map(|_| self.step() & mask).collect()
+    }
+}
+
+/// A list being made: big-endian 32-bit words.
+#[derive(Default)]
+pub struct List(Vec<u8>);
+
+impl List {
+    pub fn push(&mut self, word: u32) {
+        self.0.extend(word.to_be_bytes());
+    }
+
+    pub fn push_signed(&mut self, value: i32) {
+        self.push(value as u32);
+    }
+
+    /// Two words, the high one first; a not-a-number as `canonical` gives it.
+    pub fn push_float(&mut self, value: f64) {
+        self.0.extend(crate::canonical(value).to_bits().to_be_bytes());
+    }
+
+    /// Writes the list to a file, in a folder that is made if need be.
+    pub fn write(&self, path: impl AsRef<Path>) -> io::Result<()> {
+        if let Some(folder) = path.as_ref().parent() {
+            fs::create_dir_all(folder)?;
+        }
+        fs::write(path, &self.0)
+    }
+}

@@ -1,0 +1,47 @@
+//! The worked values of document 01 that the Rust can answer.
+
+use oracle::{IDENTITY, coefficient, quantize_global_param, read_header, search, write_header};
+
+const TRANSLATION: u8 = 1;
+const AFFINE: u8 = 3;
+
+#[test]
+fn quantized_numbers() {
+    let alpha = |value| quantize_global_param(AFFINE, true, 2, value);
+    assert_eq!([65536, 65537, 65535, 73729, i32::MIN].map(alpha), [65536, 65538, 65534, 73728, 57344]);
+    let high = |value| quantize_global_param(TRANSLATION, true, 0, value);
+    assert_eq!([4095, 4096, -4096, 4198400].map(high), [0, 8192, -8192, 4194304]);
+    let low = |value| quantize_global_param(TRANSLATION, false, 0, value);
+    assert_eq!([8191, 8192].map(low), [0, 16384]);
+}
+
+#[test]
+fn coefficient_bits() {
+    let high = |prior, ordinal: i32| coefficient(TRANSLATION, true, 0, prior, ordinal * 8192);
+    assert_eq!([0, 1, -1, 4, 512].map(|ordinal| high(0, ordinal)), ["0000", "0010", "0001", "10000", &"1".repeat(17)]);
+    assert_eq!(high(4194304, 511), "0001");
+    assert_eq!(coefficient(AFFINE, true, 3, 0, 4096 * 2), "1".repeat(23));
+}
+
+#[test]
+fn header_of_one_translation() {
+    let prior = [IDENTITY; 7];
+    let mut models = prior;
+    models[0] = [8192, -8192, 65536, 0, 0, 65536];
+    let types = [TRANSLATION, 0, 0, 0, 0, 0, 0];
+    assert_eq!(write_header(&types, &models, true, &prior), (vec![0xa4, 0x20, 0x00], 17));
+    assert_eq!(read_header(&[0xa4, 0x20, 0x00], 0, true, &prior), Some((types, models, 17)));
+    assert_eq!(read_header(&[0xa4, 0x20], 0, true, &prior), None);
+    assert_eq!(read_header(&[], usize::MAX, true, &prior), None);
+}
+
+#[test]
+fn flat_pairs() {
+    let flat = |width: usize, height: usize| {
+        let plane = vec![100; width * height];
+        search(&plane, &plane, width, height)
+    };
+    assert_eq!(flat(16, 16), [[7.5, 7.5, 0.0, 0.0]]);
+    assert!(flat(15, 16).is_empty());
+    assert_eq!(flat(33, 16), [[7.5, 7.5, 0.0, 0.0], [23.5, 7.5, 0.0, 0.0]]);
+}
