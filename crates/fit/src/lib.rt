@@ -13,7 +13,7 @@ ghost use lib.IntN.{pos};
 ghost use lib.ListN.{length};
 ghost use lib.Ieee.{binary64, ofInt};
 ghost use Rattle.fit.specs.Sums.{countOf, translationStep, rotZoomStep, affineStep, translationSums, rotZoomSums, affineSums};
-ghost use Rattle.fit.specs.Fitted.{translationFit, rotZoomFit, affineFit, fitOf, answered, fitted, rotZoomOf, affineOf, rotZoomSystem, affineSystem, mostSamples};
+ghost use Rattle.fit.specs.Fitted.{translationFit, rotZoomFit, affineFit, fitOf, answered, fitted, rotZoomOf, affineOf, typeOf, rotZoomSystem, affineSystem, mostSamples};
 
 // Document 01: a list holds at most so many samples.
 const MOST_SAMPLES: usize = 4096;
@@ -83,6 +83,30 @@ pub struct AffineSums {
     pub sxv: f64,
     pub syv: f64,
     pub sv: f64,
+}
+
+// The type code of a fitted model, 0 for a refusal.
+pub fn kind_of(model: Fitted) -> u8
+    ensures { λ r. ⌜ r ≡ typeOf model ⌝ }
+{
+    match model {
+        Fitted::Refused(_) => 0,
+        Fitted::Translation { m0: _, m1: _ } => TRANSLATION,
+        Fitted::RotZoom {
+            m0: _,
+            m1: _,
+            m2: _,
+            m3: _,
+        } => ROTZOOM,
+        Fitted::Affine {
+            m0: _,
+            m1: _,
+            m2: _,
+            m3: _,
+            m4: _,
+            m5: _,
+        } => AFFINE,
+    }
 }
 
 // A count of samples as a binary64, exact.

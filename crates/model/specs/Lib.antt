@@ -1,0 +1,3 @@
+pub mod GridNumber
+pub mod Score
+pub mod Quantize
