@@ -1,17 +1,21 @@
-// The reader that holds its bytes: a byte slice and a bit position in one struct (document 01, 'Each
-// place and its form': "Reading goes on from a bit position in the lent header bytes"). Each method
-// takes the struct apart and calls a function on the slice and the position, which the crates `bits`
-// and `header` prove; out come what was read and the position behind it.
+// The two forms whose proofs are walks by hand, thin over the proved core (document 01, 'Each place and
+// its form'). `BitReader` holds lent bytes and a bit position ("Reading goes on from a bit position in
+// the lent header bytes"; standard 4.10.2, 4.10.7, 8.1): each method takes it apart and calls a function
+// on the slice and the position; out come what was read and the position behind it.
+// `mean_sq_residual` walks a lent slice of samples ("The score of a lent list of samples is 0.0 for
+// none"; encoder/global_motion.rs) and gives the score that `model` gives for sample words.
 
 use bits::BitCursor;
 use bits::Read;
-
+use model::Score;
+use sample::MotionSample;
 ghost use Prim.Native.Nat.{_+_, _^_, _≤_, _<_};
 ghost use mathlib.Core.Path.{_≡_};
 ghost use Rattle.bits.specs.Bits.{bitAt};
 ghost use Rattle.bits.specs.Fields.{field};
 ghost use Rattle.bits.specs.Ns.{ns};
 ghost use Rattle.bits.specs.Cursor.{ReadIs};
+ghost use Rattle.lent.specs.Score.{scoreOfSamples};
 
 pub struct BitReader<'a> {
     pub bytes: &'a [u8],
@@ -82,4 +86,18 @@ impl<'a> BitReader<'a> {
     {
         ns_at(self.bytes, self.at, n)
     }
+}
+
+// The mean squared residual of a model over lent samples, 0.0 for none.
+pub fn mean_sq_residual(params: [i32; 6], samples: &[MotionSample]) -> Score
+    ensures { λ r. ⌜ r ≡ scoreOfSamples params (now (samples .entry)) ⌝ }
+{
+    let m = model::continuous_of_params(params);
+    let mut acc = 0.0;
+    let mut i = 0usize;
+    while i < samples.len() {
+        acc = model::score_step(m, acc, samples[i]);
+        i += 1;
+    }
+    model::score_of(acc, samples.len())
 }
