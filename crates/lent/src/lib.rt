@@ -15,6 +15,7 @@ ghost use Rattle.bits.specs.Bits.{bitAt};
 ghost use Rattle.bits.specs.Fields.{field};
 ghost use Rattle.bits.specs.Ns.{ns};
 ghost use Rattle.bits.specs.Cursor.{ReadIs};
+ghost use Rattle.lent.specs.InTurn.{InTurnFits, inTurn, together};
 ghost use Rattle.lent.specs.Score.{scoreOfSamples};
 
 pub struct BitReader<'a> {
@@ -53,13 +54,13 @@ impl<'a> BitReader<'a> {
         BitReader { bytes, at }
     }
 
-    // The reader at another position of its bytes.
-    pub fn moved(self, at: usize) -> BitReader<'a>
-        ensures { λ r. ⌜ (r .bytes ≡ self .entry .bytes) × (r .at ≡ at) ⌝ }
+    // The reader behind what was read.
+    pub fn after(self, read: Read) -> BitReader<'a>
+        ensures { λ r. ⌜ (r .bytes ≡ self .entry .bytes) × (r .at ≡ read .next .at) ⌝ }
     {
         BitReader {
             bytes: self.bytes,
-            at,
+            at: read.next.at,
         }
     }
 
@@ -86,6 +87,40 @@ impl<'a> BitReader<'a> {
     {
         ns_at(self.bytes, self.at, n)
     }
+}
+
+// What a bit, a field and an ns code hold, one after the other, and the position behind them.
+pub struct InTurn {
+    pub bit: u32,
+    pub field: u32,
+    pub symbol: u32,
+    pub at: usize,
+}
+
+fn in_turn(bit: Read, field: Read, symbol: Read) -> InTurn
+    ensures { λ r. ⌜ r ≡ together bit field symbol ⌝ }
+{
+    let end = symbol.next;
+    InTurn {
+        bit: bit.value,
+        field: field.value,
+        symbol: symbol.value,
+        at: end.at,
+    }
+}
+
+// A bit, a field and an ns code from a position of plain bytes: a reader is made and handed on.
+pub fn read_in_turn(bytes: &[u8], at: usize, width: u32, symbols: u32) -> InTurn
+    requires { ⌜ InTurnFits at width symbols ⌝ }
+    ensures { λ r. ⌜ r ≡ inTurn (bitAt (now (bytes .entry))) at width symbols ⌝ }
+{
+    let first = BitReader::new(bytes, at);
+    let bit = first.read_bit();
+    let second = first.after(bit);
+    let field = second.f(width);
+    let third = second.after(field);
+    let symbol = third.ns(symbols);
+    in_turn(bit, field, symbol)
 }
 
 // The mean squared residual of a model over lent samples, 0.0 for none.
