@@ -2,6 +2,7 @@
 //! A model is six numbers, x first as the fits have it; headers take and give models as stored.
 //! A type is 0 to 3; every not-a-number in an answer is the one that `canonical` gives.
 
+pub mod blocks;
 pub mod list;
 mod ported;
 mod stand_ins;

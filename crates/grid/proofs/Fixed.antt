@@ -8,7 +8,7 @@ use native.Mathlib.Omega.{arith}
 use lib.Arith.{digits-div}
 use lib.Pow.{pow-pos}
 use lib.IntN.{ℤ, pos, negℤ, natAbs, _+ℤ_, _-ℤ_, _*ℤ_, +ℤ-negℤ-cancel, +ℤ-idr}
-use Rattle.grid.specs.Grid.{step, number, Codable, negative, signed, nearestOrdinal, ordinalOf, quantize}
+use Rattle.grid.specs.Grid.{step, number, Ordinal, Codable, negative, signed, nearestOrdinal, ordinalOf, quantize}
 use Rattle.grid.proofs.Signs.{signed-parts, signed-times, negative-signed, keep-sign}
 
 own-ordinal : (abs prec k : ℕ) → k ≤ 2 ^ abs → nearestOrdinal abs prec (k * step prec) ≡ k
@@ -27,11 +27,14 @@ from-ordinal abs prec c s k h =
     rw (+ℤ-negℤ-cancel (signed s k *ℤ pos (step prec)) (pos c), signed-times s k (step prec), keep-sign (nearestOrdinal abs prec) (zero-ordinal abs prec) s (k * step prec))
     (ap (signed s) (own-ordinal abs prec k h))
 
+pub ordinal-of-number : (abs prec c : ℕ) (k : ℤ) → Ordinal abs k → ordinalOf abs prec c (number prec c k) ≡ k
+ordinal-of-number abs prec c k h =
+    rw (← signed-parts k) (from-ordinal abs prec c (negative k) (natAbs k) (h .within))
+
 pub own-quantization : (abs prec c : ℕ) (z : ℤ) → Codable abs prec c z → quantize abs prec c z ≡ z
 unfolding quantize
 own-quantization abs prec c z g =
-    rw (g .is, ← signed-parts (g .ordinal))
-    (ap (number prec c) (from-ordinal abs prec c (negative (g .ordinal)) (natAbs (g .ordinal)) (g .in-range .within)))
+    rw (g .is) (ap (number prec c) (ordinal-of-number abs prec c (g .ordinal) (g .in-range)))
 
 -- ---- the other side of a centre of 0
 

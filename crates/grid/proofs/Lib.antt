@@ -3,3 +3,5 @@ pub mod Nearest
 pub mod Fixed
 pub mod Table
 pub mod Worked
+pub mod Symbols
+pub mod Bounds

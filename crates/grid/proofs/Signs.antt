@@ -29,7 +29,7 @@ signed-times true (suc j) d = refl
 signed-times false j d = refl
 
 -- two magnitudes of one sign, and of two
-apart-of : (m n : ℕ) → natAbs (pos m -ℤ pos n) ≡ apart m n
+pub apart-of : (m n : ℕ) → natAbs (pos m -ℤ pos n) ≡ apart m n
 apart-of m zero = omega arith
 apart-of m (suc n) = natAbs-subℕ m (suc n)
 

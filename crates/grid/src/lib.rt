@@ -3,8 +3,9 @@
 // `global_param_bits` and `quantize_global_param` of frame_obu.rs.
 ghost use mathlib.Core.Path.{_≡_};
 ghost use Prim.Native.Nat.{_*_, _^_, _<_, _≤_};
-ghost use lib.IntN.{pos, natAbs, _-ℤ_, _+ℤ_};
-ghost use Rattle.grid.specs.Grid.{paramBits, centre, negative, step, nearestOrdinal, signed, quantize, Row, rejected, answer};
+ghost use lib.IntN.{pos, natAbs, _-ℤ_, _+ℤ_, _*ℤ_};
+ghost use Rattle.grid.specs.Grid.{paramBits, centre, negative, step, nearestOrdinal, signed, quantize, quantized, Row, rejected, answer};
+ghost use Rattle.grid.specs.Symbols.{symbols, symbolOf, numberOf, placeCode, Symbol, Prior};
 
 // Fraction bits of a model's numbers.
 const WARPEDMODEL_PREC_BITS: u32 = 16;
@@ -145,6 +146,79 @@ fn snap(abs_bits: u32, prec_bits: u32, round: u32, value: i32) -> i32
     to_centre(with_sign(is_negative(num), distance), round)
 }
 
+// A signed number of at most `middle` either way, counted from -middle up.
+fn lift(negative: bool, size: u64, middle: u64) -> u64
+    requires { ⌜ (size ≤ middle) × (middle ≤ 4194304) ⌝ }
+    ensures is { λ r. ⌜ r ≡ natAbs (signed negative size +ℤ pos middle) ⌝ }
+    ensures small { λ r. ⌜ r ≤ 8388608 ⌝ }
+{
+    if negative {
+        middle - size
+    } else {
+        middle + size
+    }
+}
+
+// 2 ^ absBits steps: how far the codable numbers of a slot reach.
+fn reach_of(abs_bits: u32, prec_bits: u32) -> u64
+    requires { ⌜ Row «abs_bits» «prec_bits» ⌝ }
+    ensures is { λ r. ⌜ r ≡ 2 ^ «abs_bits» * step «prec_bits» ⌝ }
+    ensures small { λ r. ⌜ r ≤ 4194304 ⌝ }
+{
+    power_of_two(abs_bits) * power_of_two(WARPEDMODEL_PREC_BITS - prec_bits)
+}
+
+// The symbol of a number: its nearest ordinal plus 2 ^ absBits.
+pub fn symbol_of(abs_bits: u32, prec_bits: u32, round: u32, value: i32) -> u32
+    requires { ⌜ Row «abs_bits» «prec_bits» ⌝ }
+    ensures { λ r. ⌜ r ≡ symbolOf «abs_bits» «prec_bits» round value ⌝ }
+{
+    let num = from_centre(value, round);
+    let ordinal = nearest_ordinal(abs_bits, prec_bits, magnitude(num));
+    lift(is_negative(num), ordinal, power_of_two(abs_bits)) as u32
+}
+
+// The place of a prior in range among a slot's symbols.
+pub fn place_of(abs_bits: u32, prec_bits: u32, round: u32, prior: i32) -> u32
+    requires { ⌜ Prior «abs_bits» «prec_bits» round prior ⌝ }
+    ensures { λ r. ⌜ r ≡ placeCode «abs_bits» «prec_bits» round prior ⌝ }
+{
+    let num = from_centre(prior, round);
+    let lifted = lift(
+        is_negative(num),
+        magnitude(num),
+        reach_of(abs_bits, prec_bits),
+    );
+    (lifted / power_of_two(WARPEDMODEL_PREC_BITS - prec_bits)) as u32
+}
+
+// How far a symbol's number is from the centre.
+fn from_middle(abs_bits: u32, prec_bits: u32, symbol: u32) -> i64
+    requires { ⌜ Row «abs_bits» «prec_bits» × (symbol < symbols «abs_bits») ⌝ }
+    ensures is { λ r. ⌜ r ≡ (pos symbol -ℤ pos (2 ^ «abs_bits»)) *ℤ pos (step «prec_bits») ⌝ }
+    ensures small { λ r. ⌜ natAbs r ≤ 4194304 ⌝ }
+{
+    let middle = power_of_two(abs_bits) as i64;
+    let step = power_of_two(WARPEDMODEL_PREC_BITS - prec_bits) as i64;
+    (symbol as i64 - middle) * step
+}
+
+// The number that a symbol stands for.
+pub fn number_of(abs_bits: u32, prec_bits: u32, round: u32, symbol: u32) -> i32
+    requires { ⌜ Symbol «abs_bits» «prec_bits» round symbol ⌝ }
+    ensures { λ r. ⌜ r ≡ numberOf «abs_bits» «prec_bits» round symbol ⌝ }
+{
+    to_centre(from_middle(abs_bits, prec_bits, symbol), round)
+}
+
+// The nearest codable number of a slot.
+pub fn nearest_number(gm_type: u8, flag: u8, slot: u8, value: i32) -> i32
+    ensures { λ r. ⌜ r ≡ quantized «gm_type» flag slot value ⌝ }
+{
+    let bits = global_param_bits(gm_type, flag, slot);
+    snap(bits.abs_bits, bits.prec_bits, centre_of(slot), value)
+}
+
 fn refused(number: u32) -> Quantized
     ensures { λ r. ⌜ r ≡ rejected number ⌝ }
 {
@@ -166,9 +240,8 @@ pub fn quantize_global_param(gm_type: u8, flag: u8, slot: u8, value: i32) -> Qua
     if 5 < slot {
         return refused(5);
     }
-    let bits = global_param_bits(gm_type, flag, slot);
     Quantized {
         refusal: 0,
-        value: snap(bits.abs_bits, bits.prec_bits, centre_of(slot), value),
+        value: nearest_number(gm_type, flag, slot, value),
     }
 }

@@ -5,3 +5,7 @@ pub mod Fold
 pub mod Cases
 pub mod Products
 pub mod Signed
+pub mod Placed
+pub mod Parts
+pub mod Floor
+pub mod Below

@@ -1,4 +1,7 @@
 pub mod Loops
 pub mod Refusal
 pub mod Buffer
+pub mod Placed
+pub mod Parts
 pub mod Binary64
+pub mod Below

@@ -1,20 +1,11 @@
 -- `nearest_distance` meets its contract: the product is at most 2 ^ absBits steps.
 -- Assumes nothing.
-use Prim.Native.Nat.{ℕ, _*_, _-_, _≤_}
 use mathlib.Core.Path.{refl}
-use native.Mathlib.Nat.{le-trans, mul-le-mul-right}
 use native.Mathlib.Omega.{arith}
 use borrow.Author.Needs.{needs}
-use lib.Pow.{pow-add, pow-mono}
-use Rattle.grid.specs.Grid.{step, nearestOrdinal, Row}
-use Rattle.grid.proofs.Nearest.{nearestOrdinal-le}
+use Rattle.grid.proofs.Bounds.{distance-small}
 use Rattle.grid.proofs.nearest_distance.Statement.{statement}
 use Rattle.grid.proofs.nearest_distance.Tie as tie
-
-small : (abs prec m : ℕ) → Row abs prec → nearestOrdinal abs prec m * step prec ≤ 4194304
-small abs prec m h =
-    le-trans (mul-le-mul-right (step prec) (nearestOrdinal-le abs prec m))
-    (rw (← pow-add 2 abs (16 - prec)) (pow-mono {j = 22} (h .reach)))
 
 nearest-ordinal-requires : tie.Need-nearest-ordinal-requires
 nearest-ordinal-requires c κs = search needs
@@ -29,13 +20,13 @@ mul-result : tie.Need-mul-result
 mul-result c =
     let e = c .before .before .args in
     rw (c .before .nearest-ordinal .ensures, c .power-of-two .ensures)
-    (record { fits = omega (arith, small (e .abs-bits) (e .prec-bits) (e .size) (c .before .before .pre .0)) })
+    (record { fits = omega (arith, distance-small (e .abs-bits) (e .prec-bits) (c .before .before .pre .0) (e .size)) })
 
 returns : tie.Need-returns
 returns c =
     let e = c .before .before .args in
     rw (c .before .nearest-ordinal .ensures, c .power-of-two .ensures)
-    (refl, small (e .abs-bits) (e .prec-bits) (e .size) (c .before .before .pre .0))
+    (refl, distance-small (e .abs-bits) (e .prec-bits) (c .before .before .pre .0) (e .size))
 
 pub nearest-distance-spec : {M : Type 1} → statement M
 nearest-distance-spec = tie.close (tie.spec nearest-ordinal-requires sub-power-of-two power-of-two-requires mul-result returns)

@@ -1,13 +1,11 @@
 -- `quantize_global_param` meets its contract: each refusal by the tests on its way, and the quantized number.
 -- Assumes nothing.
-use mathlib.Core.Path.{ap}
 use borrow.Author.Needs.{needs}
 use borrow.Author.Tests.{lt-ltb, le-ltb}
 use mir.Syntax.{w32}
 use mir.Facts.{toZ-ofZ}
 use Rattle.laws.proofs.Signed.{result-reads}
 use Rattle.grid.specs.Grid.{answer}
-use Rattle.grid.proofs.Table.{table-row, centre-le}
 use Rattle.grid.proofs.quantize_global_param.Statement.{statement}
 use Rattle.grid.proofs.quantize_global_param.Tie as tie
 
@@ -34,32 +32,20 @@ returns-3 c =
     rw (c .refused3 .ensures)
     (simp (le-ltb _ _ (c .before .before .before .if1 .left), le-ltb _ _ (c .before .before .if2 .left), lt-ltb _ _ (c .before .if3 .taken)))
 
-global-param-bits-requires : tie.Need-global-param-bits-requires
-global-param-bits-requires c κs = search needs
-
-centre-of-requires : tie.Need-centre-of-requires
-centre-of-requires c κs = search needs
-
-snap-requires : tie.Need-snap-requires
-snap-requires c κs =
-    let e = c .before .before .before .before .before .args in
-    rw (c .before .global-param-bits .ensures, c .centre-of .ensures)
-    (table-row (e .gm-type) (e .flag) (e .slot), centre-le (e .slot))
+nearest-number-requires : tie.Need-nearest-number-requires
+nearest-number-requires c κs = search needs
 
 returns-4 : tie.Need-returns-4
 unfolding answer
 returns-4 c =
-    let e = c .before .before .before .before .before .before in
     rw (
-      le-ltb _ _ (c .before .before .before .before .before .if1 .left),
-      le-ltb _ _ (c .before .before .before .before .if2 .left),
-      le-ltb _ _ (c .before .before .before .if3 .left),
-      result-reads w32 (c .snap .result) (c .snap .ok),
-      c .snap .ensures,
-      c .before .before .global-param-bits .ensures,
-      c .before .centre-of .ensures,
-      toZ-ofZ (e .fits .value),
+      le-ltb _ _ (c .before .before .before .if1 .left),
+      le-ltb _ _ (c .before .before .if2 .left),
+      le-ltb _ _ (c .before .if3 .left),
+      result-reads w32 (c .nearest-number .result) (c .nearest-number .ok),
+      c .nearest-number .ensures,
+      toZ-ofZ (c .before .before .before .before .fits .value),
     )
 
 pub quantize-global-param-spec : {M : Type 1} → statement M
-quantize-global-param-spec = tie.close (tie.spec refused-requires returns refused-requires-2 returns-2 refused-requires-3 returns-3 global-param-bits-requires centre-of-requires snap-requires returns-4)
+quantize-global-param-spec = tie.close (tie.spec refused-requires returns refused-requires-2 returns-2 refused-requires-3 returns-3 nearest-number-requires returns-4)

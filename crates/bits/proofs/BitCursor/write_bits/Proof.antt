@@ -1,0 +1,71 @@
+-- `bits::BitCursor::write_bits` meets its contract. The invariant: what is left to put here gives what was to be put at the start. Assumes nothing.
+use borrow.Author.Needs.{needs}
+use Rattle.bits.proofs.BitCursor.write_bits.Statement.{statement}
+use Rattle.bits.proofs.BitCursor.write_bits.Tie as tie
+use Prim.Native.Nat.{ℕ, _+_, _≤_}
+use mathlib.Core.Path.{_≡_, _∙_, ap}
+use native.Mathlib.Omega.{arith}
+use lib.ListN.{length}
+use Rattle.bits.specs.Bits.{putBits}
+use Rattle.bits.specs.Fields.{fieldBits}
+use Rattle.bits.proofs.Byte.{bitOf-lt}
+use Rattle.bits.proofs.Buffer.{length-putBit}
+use Rattle.bits.proofs.Fields.{length-fieldBits, written-step}
+
+abbrev Inv-loop : tie.InvT-loop
+Inv-loop buffer₀ n value cursor₀ left₀ buffer cursor left =
+    (left ≤ n)
+    × (cursor .at + left ≡ cursor₀ .at + n)
+    × (length buffer ≡ length buffer₀)
+    × (putBits buffer (cursor .at) (fieldBits left value) ≡ putBits buffer₀ (cursor₀ .at) (fieldBits n value))
+
+abbrev μ-loop : tie.MeasureT-loop
+μ-loop buffer₀ n value cursor₀ left₀ buffer cursor left = left
+
+loop-holds : tie.Need-loop-holds Inv-loop μ-loop
+loop-holds c = search needs
+
+sub-left : tie.Need-sub-left Inv-loop μ-loop
+sub-left c = search needs
+
+bit-of-requires : tie.Need-bit-of-requires Inv-loop μ-loop
+bit-of-requires c κs = search needs
+
+write-bit-requires : tie.Need-write-bit-requires Inv-loop μ-loop
+write-bit-requires c κs = (rw (c .bit-of .ensures) (bitOf-lt _ _), record { within = omega arith; small = omega arith })
+
+loop-less : tie.Need-loop-less Inv-loop μ-loop
+loop-less c = search needs
+
+loop-again : tie.Need-loop-again Inv-loop μ-loop
+loop-again c =
+    let e = c .before .before .write-bit .ensures in
+    let inv = c .before .before .before .before .before .before .loop .inv in (
+      omega arith,
+      omega (arith, e .at),
+      ap length (e .buffer) ∙ simp length-putBit (inv .2),
+      written-step (c .before .before .before .before .before .before .loop .buffer) (c .before .before .before .before .before .before .loop .cursor .at) (c .before .before .before .before .before .before .loop .left) (c .before .before .before .before .before .before .before .before .args .value) (c .before .before .before .before .before .loop-test .taken) (c .before .before .before .bit-of .ensures) (e .at) (e .buffer) (inv .3),
+    )
+
+same-length : tie.Need-same-length Inv-loop μ-loop
+same-length c = search needs
+
+returns : tie.Need-returns Inv-loop μ-loop
+returns c =
+    let z : c .before .loop .left ≡ 0 = omega arith in
+    record { at = omega (arith, length-fieldBits (c .before .before .before .args .n) (c .before .before .before .args .value)); buffer = rw z at (c .before .loop .inv .3) }
+
+pub write-bits-spec : {M : Type 1} → statement M
+write-bits-spec =
+    tie.close
+    (tie.spec
+    Inv-loop
+    μ-loop
+    loop-holds
+    sub-left
+    bit-of-requires
+    write-bit-requires
+    loop-less
+    loop-again
+    same-length
+    returns)

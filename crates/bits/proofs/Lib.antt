@@ -1,0 +1,4 @@
+pub mod Byte
+pub mod Buffer
+pub mod Fields
+pub mod Ns

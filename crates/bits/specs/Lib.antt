@@ -1,0 +1,4 @@
+pub mod Bits
+pub mod Fields
+pub mod Ns
+pub mod Cursor

@@ -1,0 +1,60 @@
+-- Weighted means stay within their terms; a bilinear row inside the plane costs what its parts make; eighths as whole pels and a fraction.
+-- Assumes nothing.
+use Prim.Native.Nat.{ℕ, _+_, _*_, _-_, _/_, _%_, _≤_, _<_, min}
+use mathlib.Core.List.{List}
+use mathlib.Core.Path.{_≡_, refl, sym, ap, _∙_}
+use native.Mathlib.Nat.{mul-add, mul-le-mul-right}
+use native.Mathlib.Omega.{arith}
+use lib.ListN.{take, drop}
+use Rattle.cost.specs.Clamp.{offset}
+use Rattle.cost.specs.Cost.{weighted, bilinear, predicted, bilinearRowCost, bilinearCost, eighthsCost}
+use Rattle.cost.specs.Ready.{bilinearDifference}
+use Rattle.cost.proofs.Offset.{whole-of-stored, fraction-of-stored}
+use Rattle.cost.proofs.Rows.{pel-of-part, displaced-of-part}
+use Rattle.cost.proofs.Sum.{sum-same}
+
+pub weighted-le : (m a b f : ℕ) → f < 8 → a ≤ m → b ≤ m → weighted f a b ≤ 8 * m
+weighted-le m a b f l p q =
+    let j : a * (8 - f) ≤ m * (8 - f) = mul-le-mul-right (8 - f) p in
+    let k : b * f ≤ m * f = mul-le-mul-right f q in
+    let e : m * (8 - f) + m * f ≡ m * 8 = sym (mul-add m (8 - f) f) ∙ ap (λ (k : ℕ). m * k) (let g : 8 - f + f ≡ 8 = omega arith in g) in
+    omega arith
+
+-- a mean of four pels is a pel
+pub bilinear-le : (fy fx p00 p01 p10 p11 : ℕ) → fy < 8 → fx < 8 → p00 ≤ 65535 → p01 ≤ 65535 → p10 ≤ 65535 → p11 ≤ 65535 →
+    weighted fy (weighted fx p00 p01) (weighted fx p10 p11) ≤ 4194240
+bilinear-le fy fx p00 p01 p10 p11 l m h i j k =
+    weighted-le 524280 (weighted fx p00 p01) (weighted fx p10 p11) fy l (weighted-le 65535 p00 p01 fx m h i) (weighted-le 65535 p10 p11 fx m j k)
+
+-- q and s are the rows that the displaced pels lie in
+pub bilinear-row-inside : (input ref : List ℕ) (w h r c y x fy fx n : ℕ) {q s : ℕ} →
+    q ≡ min (r + y - 28) (h - 1) → s ≡ min (r + 1 + y - 28) (h - 1) → 28 ≤ c + x → c + x + (n + 1) ≤ w + 28 →
+    bilinearDifference n
+    (take (r * w + c + n - (r * w + c)) (drop (r * w + c) input))
+    (take (q * w + (c + x - 28) + (n + 1) - (q * w + (c + x - 28))) (drop (q * w + (c + x - 28)) ref))
+    (take (s * w + (c + x - 28) + (n + 1) - (s * w + (c + x - 28))) (drop (s * w + (c + x - 28)) ref))
+    fy fx
+    ≡ bilinearRowCost n input ref w h r c (offset 28 y) (offset 28 x) fy fx
+unfolding bilinearRowCost bilinearDifference predicted
+bilinear-row-inside input ref w h r c y x fy fx n e d l m =
+    rw (e, d)
+    (sum-same _ _ n
+    (λ i g.
+    let i0 : i < n + 1 = omega arith in
+    let i1 : i + 1 < n + 1 = omega arith in
+    let a : c + (i + 1) ≡ c + i + 1 = omega arith in
+    rw (
+      pel-of-part input w r c n i g,
+      displaced-of-part ref w h r c 28 y x (n + 1) i l m i0,
+      displaced-of-part ref w h r c 28 y x (n + 1) (i + 1) l m i1,
+      displaced-of-part ref w h (r + 1) c 28 y x (n + 1) i l m i0,
+      displaced-of-part ref w h (r + 1) c 28 y x (n + 1) (i + 1) l m i1,
+      a,
+    )))
+
+-- a motion in eighths plus 223
+pub eighths-of-stored : (input ref : List ℕ) (w h r c v u : ℕ) →
+    bilinearCost 16 input ref w h r c (offset 28 ((v + 1) / 8)) (offset 28 ((u + 1) / 8)) ((v + 1) % 8) ((u + 1) % 8) ≡ eighthsCost input ref w h r c (offset 223 v) (offset 223 u)
+unfolding eighthsCost
+eighths-of-stored input ref w h r c v u =
+    rw (whole-of-stored v, whole-of-stored u, fraction-of-stored v, fraction-of-stored u)

@@ -1,0 +1,57 @@
+-- A codable number as a header carries it: its symbol, which is the ordinal plus 2 ^ absBits; and the place of a prior among the symbols.
+-- Document 01, 'Reading by the standard'; clauses 5.9.25 and 5.9.26.
+-- Assumes nothing.
+use Prim.Native.Nat.{ℕ, _+_, _*_, _/_, _^_, _≤_, _<_}
+use mathlib.Core.Bool.{Bool}
+use lib.Dec.{ltb, eqb}
+use lib.IntN.{ℤ, pos, natAbs, _+ℤ_, _-ℤ_}
+use lib.Signed.{shrZ}
+use Rattle.laws.specs.Refusal.{choose, either}
+use Rattle.grid.specs.Grid.{step, number, ordinalOf, centre, Row}
+
+-- how many symbols a slot has: the S of document 01
+abbrev pub symbols : ℕ → ℕ
+symbols abs = 2 * 2 ^ abs + 1
+
+-- the number that a symbol stands for
+abbrev pub numberOf : ℕ → ℕ → ℕ → ℕ → ℤ
+numberOf abs prec c t = number prec c (pos t -ℤ pos (2 ^ abs))
+
+-- the symbol of a number: its ordinal plus 2 ^ absBits, which is never negative
+unfoldable pub symbolOf : ℕ → ℕ → ℕ → ℤ → ℕ
+symbolOf abs prec c z = natAbs (ordinalOf abs prec c z +ℤ pos (2 ^ abs))
+
+-- what a prior of slots 2 and 5 is less
+abbrev pub lessOf : ℕ → ℕ → ℕ
+lessOf prec slot = choose (either (eqb slot 2) (eqb slot 5)) (2 ^ prec) 0
+
+-- the prior's number divided by the step, rounded down, less 2 ^ precBits in slots 2 and 5, plus 2 ^ absBits: the p of document 01
+abbrev pub placeNumber : ℕ → ℕ → ℕ → ℤ → ℤ
+placeNumber abs prec slot z = shrZ z (step prec) -ℤ pos (lessOf prec slot) +ℤ pos (2 ^ abs)
+
+-- p, which a prior in range makes no negative number
+unfoldable pub placeOf : ℕ → ℕ → ℕ → ℤ → ℕ
+placeOf abs prec slot z = natAbs (placeNumber abs prec slot z)
+
+-- how far a prior may be from the centre of its slot
+abbrev pub priorReach : ℕ → ℕ
+priorReach slot = choose (ltb slot 2) 4194304 8192
+
+-- row 8: a prior out of range
+abbrev pub priorOut : ℕ → ℤ → Bool
+priorOut slot z = ltb (priorReach slot) (natAbs (z -ℤ pos (centre slot)))
+
+-- ---- what the code asks and answers
+
+pub record Symbol (abs prec c t : ℕ) : Type 0 where
+  pub row : Row abs prec
+  pub centred : c ≤ 65536
+  pub below : t < symbols abs
+
+pub record Prior (abs prec c : ℕ) (z : ℤ) : Type 0 where
+  pub row : Row abs prec
+  pub reach : natAbs (z -ℤ pos c) ≤ 2 ^ abs * step prec
+
+-- the place, counted in steps from the least codable number: for a prior in range it is `placeOf`
+abbrev pub placeCode : ℕ → ℕ → ℕ → ℤ → ℕ
+placeCode abs prec c z = natAbs ((z -ℤ pos c) +ℤ pos (2 ^ abs * step prec)) / step prec

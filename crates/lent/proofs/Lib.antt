@@ -1,0 +1,2 @@
+pub mod HandedOn
+pub mod Words

@@ -1,0 +1,63 @@
+-- A list made front to back: its length, and what a buffer holds when its front is written one place or one row at a time.
+-- Assumes nothing.
+use Prim.Native.Nat.{ℕ, zero, suc, _+_, _*_, _≤_, _<_, _-_}
+use mathlib.Core.List.{List, [], _∷_, _++_, append-assoc, append-nil}
+use mathlib.Core.Path.{_≡_, refl, sym, ap, _∙_}
+use native.Mathlib.Numerals.{add-one}
+use native.Mathlib.Omega.{arith}
+use lib.ListN.{length, take, drop, set, getD, length-append, length-take, length-drop, drop-of-length-le}
+use lib.Seq.{append-snoc, drop-cons, set-at, take-at, drop-append-add, drop-drop}
+use Rattle.laws.specs.Buffer.{onto}
+use borrow.Rule.Slice.PartMut.{putMid, post-is}
+use Rattle.plane.specs.Plane.{listing, rowByRow, over}
+
+module _ {A : Type 0} where
+  pub length-listing : (f : ℕ → A) (n : ℕ) → length (listing f n) ≡ n
+  length-listing f zero = refl
+  length-listing f (suc n) = rw (length-append, length-listing f n) (add-one n)
+
+  pub length-rowByRow : (f : ℕ → ℕ → A) (w h : ℕ) → length (rowByRow f w h) ≡ h * w
+  length-rowByRow f w zero = omega arith
+  length-rowByRow f w (suc h) = rw (length-append, length-rowByRow f w h, length-listing (f h) w) (omega arith)
+
+  pub listing-same : (f g : ℕ → A) (n : ℕ) → ((i : ℕ) → i < n → f i ≡ g i) → listing f n ≡ listing g n
+  listing-same f g zero h = refl
+  listing-same f g (suc n) h =
+      rw (listing-same f g n (λ i l. h i (omega arith)), h n (omega arith))
+
+  -- the write at i, after the first i places
+  pub listing-more : (f : ℕ → A) (old : List A) (i : ℕ) {s : List A} {v : A} → i < length old → s ≡ onto (listing f i) old → v ≡ f i → set s i v ≡ onto (listing f (i + 1)) old
+  listing-more f old i {s} {v} h e q =
+      rw (e, q, add-one i, length-append, length-listing f i, drop-cons old i v)
+      (set-at (listing f i) (getD old i v) (drop (suc i) old) (f i) i (length-listing f i)
+      ∙ sym (rw add-one (append-snoc (listing f i) (f i) (drop (suc i) old))))
+
+  -- every place is written
+  pub listing-all : (f : ℕ → A) (old : List A) {s : List A} {i n : ℕ} → i ≡ n → length old ≡ n → s ≡ onto (listing f i) old → s ≡ listing f n
+  listing-all f old {s} {i} {n} p q e =
+      e
+      ∙ (ap (λ (k : ℕ). onto (listing f k) old) p
+      ∙ rw (length-listing f n, drop-of-length-le old {i = n} (omega arith)) (append-nil (listing f n)))
+
+  drop-past : (xs ys : List A) (n m : ℕ) → length xs ≡ n → drop (n + m) (xs ++ ys) ≡ drop m ys
+  drop-past xs ys n m e = rw (← e) (drop-append-add xs ys m)
+
+  -- a row of w written at row r, after the first r rows
+  pub rowByRow-more : (f : ℕ → ℕ → A) (w r : ℕ) (old : List A) {s : List A} → r * w + w ≤ length old → s ≡ onto (rowByRow f w r) old →
+      over (r * w) (listing (f r) w) s ≡ onto (rowByRow f w (r + 1)) old
+  rowByRow-more f w r old {s} h e =
+      rw (e, add-one r, length-append, length-listing (f r) w, length-rowByRow f w r)
+      (rw (
+        take-at (rowByRow f w r) (drop (r * w) old) (r * w) (length-rowByRow f w r),
+        drop-past (rowByRow f w r) (drop (r * w) old) (r * w) w (length-rowByRow f w r),
+        drop-drop w (r * w) old,
+      )
+      (sym (append-assoc (rowByRow f w r) (listing (f r) w) (drop (r * w + w) old))))
+
+  -- a part of k elements from the a-th on that comes back as ys
+  pub part-back : (a k : ℕ) (xs : List A) {zs ys : List A} → length ys ≡ k → zs ≡ ys → putMid a (a + k - a) xs zs ≡ over a ys xs
+  part-back a k xs {zs} {ys} l e =
+      rw (e, l, post-is a (a + k) xs (omega arith))
+
+  pub part-length : (a k : ℕ) (xs : List A) → a + k ≤ length xs → length (take (a + k - a) (drop a xs)) ≡ k
+  part-length a k xs h = rw (length-take, length-drop) (omega arith)
