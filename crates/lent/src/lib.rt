@@ -11,6 +11,7 @@ use model::Score;
 use sample::MotionSample;
 ghost use Prim.Native.Nat.{_+_, _^_, _≤_, _<_};
 ghost use mathlib.Core.Path.{_≡_};
+ghost use lib.ListN.{take};
 ghost use Rattle.bits.specs.Bits.{bitAt};
 ghost use Rattle.bits.specs.Fields.{field};
 ghost use Rattle.bits.specs.Ns.{ns};
@@ -135,4 +136,12 @@ pub fn mean_sq_residual(params: [i32; 6], samples: &[MotionSample]) -> Score
         i += 1;
     }
     model::score_of(acc, samples.len())
+}
+
+// The score of the first n of samples in an array, for callers that have no lent slice of samples.
+pub fn mean_sq_residual_of_first(params: [i32; 6], samples: [MotionSample; 64], n: usize) -> Score
+    requires { ⌜ n ≤ 64 ⌝ }
+    ensures { λ r. ⌜ r ≡ scoreOfSamples params (take n samples) ⌝ }
+{
+    mean_sq_residual(params, &samples[..n])
 }
