@@ -9,3 +9,4 @@ pub mod Placed
 pub mod Parts
 pub mod Floor
 pub mod Below
+pub mod Filled

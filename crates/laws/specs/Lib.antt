@@ -5,3 +5,4 @@ pub mod Placed
 pub mod Parts
 pub mod Binary64
 pub mod Below
+pub mod Filled

@@ -6,7 +6,9 @@ ghost use mathlib.Core.Path.{_≡_};
 ghost use lib.ListN.{length};
 
 const UNTOUCHED_BYTE: u8 = 165;
+
 const UNTOUCHED_WORD: u32 = 2779096485;
+
 const PLACES: u32 = 4096;
 
 // What a case asks.
