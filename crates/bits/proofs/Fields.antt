@@ -41,7 +41,7 @@ bitOf-low c r n i h =
     bit-from-low (c * 2 ^ n + r) (n - (1 + i)) i
     ∙ rw (e, mul-add-mod-self-right c (2 ^ n) r, ← e, ← bit-from-low r (n - (1 + i)) i)
 
-fieldBits-low : (c r n m : ℕ) → m ≤ n → fieldBits m (c * 2 ^ n + r) ≡ fieldBits m r
+pub fieldBits-low : (c r n m : ℕ) → m ≤ n → fieldBits m (c * 2 ^ n + r) ≡ fieldBits m r
 fieldBits-low c r n zero h = refl
 fieldBits-low c r n (suc m) h = rw (bitOf-low c r n m h, fieldBits-low c r n m (omega arith))
 

@@ -212,6 +212,12 @@ module _ (n v w m : ℕ) (ew : w ≡ bitLength n) (em : m ≡ shortCodes n) wher
   unfolding nsBits
   long-code h = rw (← em, le-ltb v m h, ew)
 
+  pub short-length : v < m → length (nsBits n v) ≡ w - 1
+  short-length h = ap length (short-code h) ∙ length-fieldBits (w - 1) v
+
+  pub long-length : m ≤ v → length (nsBits n v) ≡ w
+  long-length h = ap length (long-code h) ∙ length-fieldBits w (v + m)
+
   module _ (g : ℕ → ℕ) (j : ℕ) (ev : v ≡ field g j (w - 1)) where
     pub short-read : v < m → ns g j n ≡ record { value = v; bits = w - 1 }
     unfolding ns

@@ -38,3 +38,8 @@ AreBits (b ∷ bs) = (b < 2) × AreBits bs
 pub record Room (l : List ℕ) (j n : ℕ) : Type 0 where
   pub within : j + n ≤ 8 * length l
   pub small : j + n < 2 ^ 64
+
+-- the bits bs were put at position j of l, which became l', and position j' is behind them
+pub record Wrote (l : List ℕ) (j : ℕ) (bs l' : List ℕ) (j' : ℕ) : Type 0 where
+  pub at : j' ≡ j + length bs
+  pub buffer : l' ≡ putBits l j bs

@@ -5,9 +5,10 @@
 
 ghost use Prim.Native.Nat.{_+_, _*_, _/_, _%_, _^_, _≤_, _<_};
 ghost use lib.ListN.{length};
+ghost use mathlib.Core.List.{[], _∷_};
 ghost use mathlib.Core.Path.{_≡_};
-ghost use Rattle.bits.specs.Bits.{bitAt, bitOf, withBit, putBit, putBits, Room};
-ghost use Rattle.bits.specs.Fields.{field, fieldBits, padBits, padding};
+ghost use Rattle.bits.specs.Bits.{bitAt, bitOf, withBit, Room, Wrote};
+ghost use Rattle.bits.specs.Fields.{field, fieldBits, padBits};
 ghost use Rattle.bits.specs.Ns.{ns, nsBits, bitLength};
 ghost use Rattle.bits.specs.Cursor.{ReadIs, NsWidthIs};
 
@@ -23,7 +24,8 @@ pub struct Read {
     pub next: BitCursor,
 }
 
-fn power(k: u32) -> u32
+// 2 to the power of k.
+pub fn power(k: u32) -> u32
     requires { ⌜ k < 32 ⌝ }
     ensures { λ r. ⌜ r ≡ 2 ^ k ⌝ }
 {
@@ -95,6 +97,18 @@ fn ns_width(n: u32) -> NsWidth
     NsWidth { w, m: power(w) - n }
 }
 
+// How many bits the ns code of v takes.
+pub fn ns_length(n: u32, v: u32) -> u32
+    requires { ⌜ (0 < n) × (n ≤ 65536) ⌝ }
+    ensures { λ r. ⌜ (r ≡ length (nsBits n v)) × (r ≤ 17) ⌝ }
+{
+    let width = ns_width(n);
+    if v < width.m {
+        return width.w - 1;
+    }
+    width.w
+}
+
 impl BitCursor {
     pub fn new(at: usize) -> Self
         ensures { λ r. ⌜ r .at ≡ at ⌝ }
@@ -104,7 +118,7 @@ impl BitCursor {
 
     pub fn write_bit(self, buffer: &mut [u8], bit: u32) -> BitCursor
         requires { ⌜ (bit < 2) × Room (now buffer) (self .at) 1 ⌝ }
-        ensures { λ r. ⌜ (r .at ≡ self .at + 1) × (now (buffer .exit) ≡ putBit (now (buffer .entry)) (self .at) bit) ⌝ }
+        ensures { λ r. ⌜ Wrote (now (buffer .entry)) (self .at) (bit ∷ []) (now (buffer .exit)) (r .at) ⌝ }
     {
         let at = self.at;
         let byte = at / BITS_OF_A_BYTE;
@@ -116,7 +130,7 @@ impl BitCursor {
     // The low n bits of value.
     pub fn write_bits(self, buffer: &mut [u8], n: u32, value: u32) -> BitCursor
         requires { ⌜ (n ≤ 32) × Room (now buffer) (self .at) n ⌝ }
-        ensures { λ r. ⌜ (r .at ≡ self .at + n) × (now (buffer .exit) ≡ putBits (now (buffer .entry)) (self .at) (fieldBits n value)) ⌝ }
+        ensures { λ r. ⌜ Wrote (now (buffer .entry)) (self .at) (fieldBits n value) (now (buffer .exit)) (r .at) ⌝ }
     {
         let mut cursor = self;
         let mut left = n;
@@ -130,7 +144,7 @@ impl BitCursor {
     // The number v of n symbols, by clause 4.10.7.
     pub fn write_ns(self, buffer: &mut [u8], n: u32, v: u32) -> BitCursor
         requires { ⌜ (v < n) × (n ≤ 65536) × Room (now buffer) (self .at) (length (nsBits n v)) ⌝ }
-        ensures { λ r. ⌜ (r .at ≡ self .at + length (nsBits n v)) × (now (buffer .exit) ≡ putBits (now (buffer .entry)) (self .at) (nsBits n v)) ⌝ }
+        ensures { λ r. ⌜ Wrote (now (buffer .entry)) (self .at) (nsBits n v) (now (buffer .exit)) (r .at) ⌝ }
     {
         let width = ns_width(n);
         let w = width.w;
@@ -144,8 +158,8 @@ impl BitCursor {
 
     // Zero bits up to the end of the byte.
     pub fn byte_align(self, buffer: &mut [u8]) -> BitCursor
-        requires { ⌜ Room (now buffer) (self .at) (padding (self .at)) ⌝ }
-        ensures { λ r. ⌜ (r .at ≡ self .at + padding (self .at)) × (now (buffer .exit) ≡ putBits (now (buffer .entry)) (self .at) (padBits (self .at))) ⌝ }
+        requires { ⌜ Room (now buffer) (self .at) (length (padBits (self .at))) ⌝ }
+        ensures { λ r. ⌜ Wrote (now (buffer .entry)) (self .at) (padBits (self .at)) (now (buffer .exit)) (r .at) ⌝ }
     {
         let n = (BITS_OF_A_BYTE - self.at % BITS_OF_A_BYTE) % BITS_OF_A_BYTE;
         self.write_bits(buffer, n as u32, 0)

@@ -1,2 +1,3 @@
 pub mod Sums
 pub mod Types
+pub mod Refusals

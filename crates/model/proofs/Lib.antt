@@ -1,6 +1,6 @@
-pub mod Doubling
-pub mod Rounding
-pub mod Held
 pub mod Slots
 pub mod Leftover
-pub mod TooMany
+pub mod OppositeSlots
+pub mod OnGrid
+pub mod NearestSlots
+pub mod Accepted

@@ -5,7 +5,7 @@ use mathlib.Core.Path.{_≡_}
 use native.Mathlib.Omega.{arith}
 use borrow.Author.Tests.{le-ltb}
 use lib.IntN.{ℤ, pos, natAbs, _-ℤ_, +ℤ-idr}
-use Rattle.grid.specs.Grid.{answer, quantized, quantize, negative, nearestOrdinal}
+use Rattle.grid.specs.Grid.{answer, quantized, quantize, negative, signed, nearestOrdinal}
 use Rattle.grid.proofs.Signs.{signed-times, natAbs-signed}
 use Rattle.grid.proofs.Nearest.{nearestOrdinal-le}
 
@@ -18,5 +18,5 @@ pub slot-three-reach : (flag : ℕ) (z : ℤ) → natAbs (quantized 2 flag 3 z) 
 unfolding quantize
 slot-three-reach flag z =
     let n = nearestOrdinal 12 15 (natAbs (z -ℤ pos 0)) in
-    rw (signed-times (negative (z -ℤ pos 0)) n 2, +ℤ-idr, natAbs-signed (negative (z -ℤ pos 0)) (n * 2))
+    rw (signed-times (negative (z -ℤ pos 0)) n 2, +ℤ-idr (signed (negative (z -ℤ pos 0)) (n * 2)), natAbs-signed (negative (z -ℤ pos 0)) (n * 2))
     (omega (arith, nearestOrdinal-le 12 15 (natAbs (z -ℤ pos 0))))

@@ -1,3 +1,2 @@
-pub mod GridNumber
-pub mod Score
 pub mod Quantize
+pub mod OnGrid

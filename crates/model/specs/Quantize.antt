@@ -16,12 +16,12 @@ use Rattle.fit.specs.declared.Fitted.the-variants.{Refused, Translation, RotZoo
 use Rattle.fit.specs.declared.TranslationSums.{TranslationSums}
 use Rattle.fit.specs.Sums.{plus, sumOf, countOf}
 use Rattle.fit.specs.Fitted.{typeOf, tooMany}
-use Rattle.model.specs.declared.ContinuousModel.{ContinuousModel}
+use Rattle.score.specs.declared.ContinuousModel.{ContinuousModel}
 use Rattle.model.specs.declared.Linear.{Linear}
 use Rattle.model.specs.declared.Motion.{Motion}
 use Rattle.model.specs.declared.Quantized.{Quantized}
-use Rattle.model.specs.GridNumber.{gridNumber}
-use Rattle.model.specs.Score.{continuousOf, slot}
+use Rattle.grid_number.specs.GridNumber.{gridNumber}
+use Rattle.score.specs.Score.{continuousOf, slot}
 
 -- the nearest codable number of a slot to a number's grid number
 abbrev pub slotOf : ℕ → ℕ → ℕ → Float → ℤ

@@ -1,30 +1,16 @@
-// A fitted model on the grid of codable numbers, and the score of a model: a fitted model, a flag and
-// sample words go in, six numbers at 16 fraction bits come out; six numbers and words give a mean
-// squared residual. Answers to document 01, 'Fits and score', rows 1 and 4, and to `quantize_model`,
-// `continuous_of_params` and `mean_sq_residual` (encoder/global_motion.rs).
-
+// A fitted model on the grid of codable numbers: a fitted model, a flag and sample words go in, six
+// numbers at 16 fraction bits come out, x first. Answers to document 01, 'Fits and score' and
+// 'Header' (the row-first exchange), rows 1 and 4, and to `quantize_model` (encoder/global_motion.rs).
 use fit::Fitted;
 use fit::TranslationSums;
 use sample::MotionSample;
+use score::ContinuousModel;
 ghost use mathlib.Core.Path.{_≡_};
-ghost use mathlib.Core.Bool.{true, false};
 ghost use Prim.Native.Nat.{_≤_};
-ghost use lib.Dec.{T};
-ghost use lib.Ieee.{binary64, fits, lt};
-ghost use Rattle.laws.specs.Binary64.{nought};
 ghost use lib.IntN.{natAbs};
 ghost use lib.ListN.{length};
 ghost use Rattle.fit.specs.Fitted.{mostSamples, typeOf};
-ghost use Rattle.model.specs.GridNumber.{limit, magnitude, held, gridNumber};
-ghost use Rattle.model.specs.Score.{continuousOf, continuousModel, residualOf, scoreStep, residualSum, scoreOf, meanSqResidual};
 ghost use Rattle.model.specs.Quantize.{slotOf, rotZoomLinear, identityLinear, linearOf, continuousLinear, refitStep, refitSums, refitted, paramsOf, rejectedModel, acceptedModel, quantizedModel, rowFirst};
-
-// Document 01, 'Grid number': one at 16 fraction bits, and 2^31, from which on a magnitude is held.
-const SCALE: f64 = 65536.0;
-
-const LIMIT: f64 = 2147483648.0;
-
-const LIMIT_MAGNITUDE: u64 = 2147483648;
 
 // Document 01: a list holds at most so many samples.
 const MOST_SAMPLES: usize = 4096;
@@ -40,66 +26,6 @@ const AFFINE: u8 = 3;
 const TOO_MANY: u32 = 1;
 
 const NO_SUCH_CODE: u32 = 4;
-
-// A magnitude above zero, rounded half away from zero, at most 2^31. Twice a number below 2^31 is
-// exact, so half of one more than its whole part is the number rounded.
-fn rounded_magnitude(y: f64) -> u64
-    requires { ⌜ T (fits binary64 y) ⌝ }
-    requires { ⌜ lt nought y ≡ true ⌝ }
-    ensures { λ r. ⌜ (r ≡ magnitude y) × (r ≤ limit) ⌝ }
-{
-    if y < LIMIT {
-        return (std::num::truncating_f64_to_u64(y + y) + 1) / 2;
-    }
-    LIMIT_MAGNITUDE
-}
-
-fn held_above(size: u64) -> i32
-    ensures { λ r. ⌜ r ≡ held false size ⌝ }
-{
-    if size < LIMIT_MAGNITUDE {
-        return size as i32;
-    }
-    2147483647
-}
-
-fn held_below(size: u64) -> i32
-    requires { ⌜ size ≤ limit ⌝ }
-    ensures { λ r. ⌜ r ≡ held true size ⌝ }
-{
-    grid::with_sign(true, size) as i32
-}
-
-// The nearest number at 16 fraction bits, half away from zero, in the i32 range; 0 for a
-// not-a-number.
-pub fn grid_number(value: f64) -> i32
-    ensures { λ r. ⌜ r ≡ gridNumber value ⌝ }
-{
-    let y = value * SCALE;
-    if y > 0.0 {
-        return held_above(rounded_magnitude(y));
-    }
-    if y < 0.0 {
-        return held_below(rounded_magnitude(-y));
-    }
-    0
-}
-
-// A model of six numbers at 16 fraction bits, as binary64 numbers.
-pub struct ContinuousModel {
-    pub m0: f64,
-    pub m1: f64,
-    pub m2: f64,
-    pub m3: f64,
-    pub m4: f64,
-    pub m5: f64,
-}
-
-// A row of the table of refusals (0: none), and the mean squared residual.
-pub struct Score {
-    pub refusal: u32,
-    pub score: f64,
-}
 
 // Slots 2 to 5 of a model.
 pub struct Linear {
@@ -121,92 +47,12 @@ pub struct Quantized {
     pub params: [i32; 6],
 }
 
-fn continuous_of(param: i32) -> f64
-    ensures { λ r. ⌜ r ≡ continuousOf param ⌝ }
-{
-    param as f64 / SCALE
-}
-
-pub fn continuous_of_params(params: [i32; 6]) -> ContinuousModel
-    ensures { λ r. ⌜ r ≡ continuousModel params ⌝ }
-{
-    ContinuousModel {
-        m0: continuous_of(params[0]),
-        m1: continuous_of(params[1]),
-        m2: continuous_of(params[2]),
-        m3: continuous_of(params[3]),
-        m4: continuous_of(params[4]),
-        m5: continuous_of(params[5]),
-    }
-}
-
-// The squared residual of a sample.
-pub fn residual(m: ContinuousModel, s: MotionSample) -> f64
-    ensures { λ r. ⌜ r ≡ residualOf m s ⌝ }
-{
-    let du = s.u - ((m.m2 - 1.0) * s.x + m.m3 * s.y + m.m0);
-    let dv = s.v - (m.m4 * s.x + (m.m5 - 1.0) * s.y + m.m1);
-    du * du + dv * dv
-}
-
-pub fn score_step(m: ContinuousModel, acc: f64, s: MotionSample) -> f64
-    ensures { λ r. ⌜ r ≡ scoreStep m acc s ⌝ }
-{
-    acc + residual(m, s)
-}
-
-// The score of a sum of residuals over so many samples.
-pub fn score_of(acc: f64, samples: usize) -> Score
-    ensures { λ r. ⌜ r ≡ scoreOf acc samples ⌝ }
-{
-    if samples > MOST_SAMPLES {
-        return Score {
-            refusal: TOO_MANY,
-            score: 0.0,
-        };
-    }
-    if samples == 0 {
-        return Score {
-            refusal: 0,
-            score: 0.0,
-        };
-    }
-    Score {
-        refusal: 0,
-        score: acc / fit::count_of(samples),
-    }
-}
-
-fn residual_sum(m: ContinuousModel, words: &[u32]) -> f64
-    ensures { λ r. ⌜ r ≡ residualSum m (now (words .entry)) ⌝ }
-{
-    let mut acc = 0.0;
-    let mut i = 0usize;
-    while i < words.len() {
-        acc = score_step(m, acc, sample::sample_of(words[i]));
-        i += 1;
-    }
-    acc
-}
-
-pub fn mean_sq_residual(params: [i32; 6], words: &[u32]) -> Score
-    ensures { λ r. ⌜ r ≡ meanSqResidual params (now (words .entry)) ⌝ }
-{
-    if words.len() > MOST_SAMPLES {
-        return score_of(0.0, words.len());
-    }
-    score_of(
-        residual_sum(continuous_of_params(params), words),
-        words.len(),
-    )
-}
-
 // The nearest codable number of a slot.
 fn quantized_slot(kind: u8, flag: u8, slot: u8, value: f64) -> i32
     requires { ⌜ (kind ≤ 3) × (flag ≤ 1) × (slot ≤ 5) ⌝ }
     ensures { λ r. ⌜ r ≡ slotOf kind flag slot value ⌝ }
 {
-    let q = grid::quantize_global_param(kind, flag, slot, grid_number(value));
+    let q = grid::quantize_global_param(kind, flag, slot, grid_number::grid_number(value));
     q.value
 }
 
@@ -271,10 +117,10 @@ fn continuous_linear(l: Linear) -> ContinuousModel
     ContinuousModel {
         m0: 0.0,
         m1: 0.0,
-        m2: continuous_of(l.p2),
-        m3: continuous_of(l.p3),
-        m4: continuous_of(l.p4),
-        m5: continuous_of(l.p5),
+        m2: score::continuous_of(l.p2),
+        m3: score::continuous_of(l.p3),
+        m4: score::continuous_of(l.p4),
+        m5: score::continuous_of(l.p5),
     }
 }
 

@@ -1,6 +1,6 @@
 -- `model::linear_of` meets its contract: by cases on the fitted model.
 -- Assumes nothing.
-use Rattle.model.specs.GridNumber.{gridNumber}
+use Rattle.grid_number.specs.GridNumber.{gridNumber}
 use Rattle.model.proofs.Slots.{slot-three-reach}
 use mir.Syntax.{w32}
 use Rattle.laws.proofs.Signed.{result-reads}

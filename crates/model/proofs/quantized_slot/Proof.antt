@@ -1,7 +1,7 @@
 -- `model::quantized_slot` meets its contract: the grid accepts the slot, and its answer is read back from its bits.
 -- Assumes nothing.
 use Rattle.grid.specs.declared.Quantized.{Quantized}
-use Rattle.model.specs.GridNumber.{gridNumber}
+use Rattle.grid_number.specs.GridNumber.{gridNumber}
 use Rattle.model.proofs.Slots.{accepted-answer}
 use mathlib.Core.Path.{ap, _∙_}
 use mir.Syntax.{w32}

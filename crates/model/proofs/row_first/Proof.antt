@@ -3,7 +3,7 @@
 use borrow.Author.Tests.{eq-eqb, ne-eqb}
 use mir.Syntax.{w32}
 use Rattle.laws.proofs.Signed.{result-reads}
-use Rattle.model.specs.Score.{slot}
+use Rattle.score.specs.Score.{slot}
 use borrow.Author.Needs.{needs}
 use Rattle.model.proofs.row_first.Statement.{statement}
 use Rattle.model.proofs.row_first.Tie as tie

@@ -28,7 +28,7 @@ same-length c = search needs
 
 returns : tie.Need-returns
 unfolding putBit
-returns c = (refl, rw (c .with-bit .ensures))
+returns c = record { at = refl; buffer = rw (c .with-bit .ensures) }
 
 pub write-bit-spec : {M : Type 1} → statement M
 write-bit-spec =

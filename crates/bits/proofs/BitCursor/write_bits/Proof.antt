@@ -10,7 +10,7 @@ use Rattle.bits.specs.Bits.{putBits}
 use Rattle.bits.specs.Fields.{fieldBits}
 use Rattle.bits.proofs.Byte.{bitOf-lt}
 use Rattle.bits.proofs.Buffer.{length-putBit}
-use Rattle.bits.proofs.Fields.{written-step}
+use Rattle.bits.proofs.Fields.{length-fieldBits, written-step}
 
 abbrev Inv-loop : tie.InvT-loop
 Inv-loop buffer₀ n value cursor₀ left₀ buffer cursor left =
@@ -42,9 +42,9 @@ loop-again c =
     let e = c .before .before .write-bit .ensures in
     let inv = c .before .before .before .before .before .before .loop .inv in (
       omega arith,
-      omega (arith, e .0),
-      ap length (e .1) ∙ simp length-putBit (inv .2),
-      written-step (c .before .before .before .before .before .before .loop .buffer) (c .before .before .before .before .before .before .loop .cursor .at) (c .before .before .before .before .before .before .loop .left) (c .before .before .before .before .before .before .before .before .args .value) (c .before .before .before .before .before .loop-test .taken) (c .before .before .before .bit-of .ensures) (e .0) (e .1) (inv .3),
+      omega (arith, e .at),
+      ap length (e .buffer) ∙ simp length-putBit (inv .2),
+      written-step (c .before .before .before .before .before .before .loop .buffer) (c .before .before .before .before .before .before .loop .cursor .at) (c .before .before .before .before .before .before .loop .left) (c .before .before .before .before .before .before .before .before .args .value) (c .before .before .before .before .before .loop-test .taken) (c .before .before .before .bit-of .ensures) (e .at) (e .buffer) (inv .3),
     )
 
 same-length : tie.Need-same-length Inv-loop μ-loop
@@ -53,7 +53,7 @@ same-length c = search needs
 returns : tie.Need-returns Inv-loop μ-loop
 returns c =
     let z : c .before .loop .left ≡ 0 = omega arith in
-    (omega arith, rw z at (c .before .loop .inv .3))
+    record { at = omega (arith, length-fieldBits (c .before .before .before .args .n) (c .before .before .before .args .value)); buffer = rw z at (c .before .loop .inv .3) }
 
 pub write-bits-spec : {M : Type 1} → statement M
 write-bits-spec =

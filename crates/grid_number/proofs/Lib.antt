@@ -1,0 +1,4 @@
+pub mod Doubling
+pub mod Rounding
+pub mod Held
+pub mod Negation

@@ -1,0 +1,84 @@
+-- The worked values of document 01 that are marked *: the quantizations, the coefficients' codes and the header of 17 bits.
+-- Assumes nothing.
+use Prim.Native.Nat.{ℕ}
+use mathlib.Core.List.{List, [], _∷_, _++_}
+use mathlib.Core.Path.{_≡_, refl}
+use lib.IntN.{ℤ, pos, negsuc}
+use lib.ListN.{length, replicate}
+use Rattle.grid.specs.Grid.{quantized, quantize, nearestOrdinal}
+use Rattle.grid.specs.Symbols.{symbolOf, placeOf}
+use Rattle.bits.specs.Bits.{putBit}
+use Rattle.bits.specs.Ns.{bitLength, nsBits}
+use Rattle.subexp.specs.Ladder.{subexpBits}
+use Rattle.subexp.specs.Recenter.{codeOf}
+use Rattle.legal.specs.Models.{typesOver, modelsWrong, modelWrong, slotWrong, filler, priorsOut}
+use Rattle.header.specs.Coefficient.{coefficientBits}
+use Rattle.header.specs.Writing.{headerBits, referenceBits, pairBits, writeRefusal, written, headerAfter}
+
+-- six identities
+abbrev identities : List ℤ
+identities =
+    pos 0 ∷ pos 0 ∷ pos 65536 ∷ pos 0 ∷ pos 0 ∷ pos 65536
+    ∷ pos 0 ∷ pos 0 ∷ pos 65536 ∷ pos 0 ∷ pos 0 ∷ pos 65536
+    ∷ pos 0 ∷ pos 0 ∷ pos 65536 ∷ pos 0 ∷ pos 0 ∷ pos 65536
+    ∷ pos 0 ∷ pos 0 ∷ pos 65536 ∷ pos 0 ∷ pos 0 ∷ pos 65536
+    ∷ pos 0 ∷ pos 0 ∷ pos 65536 ∷ pos 0 ∷ pos 0 ∷ pos 65536
+    ∷ pos 0 ∷ pos 0 ∷ pos 65536 ∷ pos 0 ∷ pos 0 ∷ pos 65536 ∷ []
+
+abbrev prior : List ℤ
+prior = pos 0 ∷ pos 0 ∷ pos 65536 ∷ pos 0 ∷ pos 0 ∷ pos 65536 ∷ identities
+
+-- reference 1 TRANSLATION (8192, −8192), the rest identity
+abbrev types : List ℕ
+types = 1 ∷ 0 ∷ 0 ∷ 0 ∷ 0 ∷ 0 ∷ 0 ∷ []
+
+abbrev params : List ℤ
+params = pos 8192 ∷ negsuc 8191 ∷ pos 65536 ∷ pos 0 ∷ pos 0 ∷ pos 65536 ∷ identities
+
+pub record Worked : Type 0 where
+  -- slot 2
+  pub centre : quantized 3 1 2 (pos 65536) ≡ pos 65536
+  pub tie-above : quantized 3 1 2 (pos 65537) ≡ pos 65538
+  pub tie-below : quantized 3 1 2 (pos 65535) ≡ pos 65534
+  pub beyond-the-last : quantized 3 1 2 (pos 73729) ≡ pos 73728
+  pub least : quantized 3 1 2 (negsuc 2147483647) ≡ pos 57344
+  -- TRANSLATION slot 0, high
+  pub below-half : quantized 1 1 0 (pos 4095) ≡ pos 0
+  pub half : quantized 1 1 0 (pos 4096) ≡ pos 8192
+  pub negative-half : quantized 1 1 0 (negsuc 4095) ≡ negsuc 8191
+  -- high TRANSLATION, prior 0: ordinals 0, 1, −1, 4, 512
+  pub ordinal-0 : coefficientBits 1 1 0 (pos 0) (pos 0) ≡ 0 ∷ 0 ∷ 0 ∷ 0 ∷ []
+  pub ordinal-1 : coefficientBits 1 1 0 (pos 8192) (pos 0) ≡ 0 ∷ 0 ∷ 1 ∷ 0 ∷ []
+  pub ordinal-less-1 : coefficientBits 1 1 0 (negsuc 8191) (pos 0) ≡ 0 ∷ 0 ∷ 0 ∷ 1 ∷ []
+  pub ordinal-4 : coefficientBits 1 1 0 (pos 32768) (pos 0) ≡ 1 ∷ 0 ∷ 0 ∷ 0 ∷ 0 ∷ []
+  pub ordinal-512 : coefficientBits 1 1 0 (pos 4194304) (pos 0) ≡ replicate 17 1
+  -- prior 4194304, ordinal 511
+  pub far-prior : coefficientBits 1 1 0 (pos 4186112) (pos 4194304) ≡ 0 ∷ 0 ∷ 0 ∷ 1 ∷ []
+  -- slot 3, prior 0, ordinal 4096
+  pub last-of-slot-3 : coefficientBits 3 1 3 (pos 8192) (pos 0) ≡ replicate 23 1
+  -- high, prior identity: 17 bits, A4 20 00
+  pub header-bits : written types params 1 prior 3 ≡ record { refusal = 0; bits = 17 }
+  pub header-bytes : headerAfter types params 1 prior (255 ∷ 255 ∷ 255 ∷ []) ≡ 0xA4 ∷ 0x20 ∷ 0x00 ∷ []
+
+pub worked : Worked
+unfolding quantize nearestOrdinal symbolOf placeOf putBit bitLength nsBits subexpBits codeOf typesOver modelsWrong modelWrong slotWrong filler priorsOut coefficientBits headerBits referenceBits pairBits writeRefusal written headerAfter
+worked =
+    record
+      { centre = refl
+      ; tie-above = refl
+      ; tie-below = refl
+      ; beyond-the-last = refl
+      ; least = refl
+      ; below-half = refl
+      ; half = refl
+      ; negative-half = refl
+      ; ordinal-0 = refl
+      ; ordinal-1 = refl
+      ; ordinal-less-1 = refl
+      ; ordinal-4 = refl
+      ; ordinal-512 = refl
+      ; far-prior = refl
+      ; last-of-slot-3 = refl
+      ; header-bits = refl
+      ; header-bytes = refl
+      }

@@ -1,0 +1,39 @@
+-- `header::symbol_of` meets its contract. Assumes nothing.
+use borrow.Author.Needs.{needs}
+use Rattle.header.proofs.symbol_of.Statement.{statement}
+use Rattle.header.proofs.symbol_of.Tie as tie
+use mir.Facts.{toZ-ofZ}
+use Prim.Native.Nat.{ℕ, _<_}
+use mathlib.Core.Path.{_≡_, ap, sym, subst, _∙_}
+use lib.IntN.{ℤ}
+use Rattle.grid.specs.declared.ParamBits.{ParamBits}
+use Rattle.grid.specs.Grid.{Row, absBits, precBits, centre, paramBits}
+use Rattle.grid.specs.Symbols.{symbols, symbolOf}
+use Rattle.grid.proofs.Symbols.{symbol-below}
+use Rattle.grid.proofs.Table.{table-row}
+use Rattle.header.specs.Contracts.{SymbolIs}
+
+answered : (gmType flag slot : ℕ) (z : ℤ) (b : ParamBits) (c r : ℕ) → b ≡ paramBits gmType flag slot → c ≡ centre slot
+    → r ≡ symbolOf (b .«abs_bits») (b .«prec_bits») c z → SymbolIs gmType flag slot z r
+answered gmType flag slot z b c r eb ec er =
+    let e : r ≡ symbolOf (absBits gmType flag slot) (precBits gmType flag slot) (centre slot) z =
+    er ∙ ap (λ (x : ParamBits). symbolOf (x .«abs_bits») (x .«prec_bits») c z) eb ∙ ap (λ (x : ℕ). symbolOf (absBits gmType flag slot) (precBits gmType flag slot) x z) ec in
+    record { is = e; below = subst (λ (x : ℕ). x < symbols (absBits gmType flag slot)) (sym e) (symbol-below (absBits gmType flag slot) (precBits gmType flag slot) (centre slot) z) }
+
+global-param-bits-requires : tie.Need-global-param-bits-requires
+global-param-bits-requires c κs = search needs
+
+centre-of-requires : tie.Need-centre-of-requires
+centre-of-requires c κs = search needs
+
+symbol-of-requires : tie.Need-symbol-of-requires
+symbol-of-requires c κs = subst (λ (b : ParamBits). Row (b .«abs_bits») (b .«prec_bits»)) (sym (c .before .global-param-bits .ensures)) (table-row (c .before .before .args .gm-type) (c .before .before .args .flag) (c .before .before .args .slot))
+
+returns : tie.Need-returns
+returns c =
+    answered (c .before .before .before .args .gm-type) (c .before .before .before .args .flag) (c .before .before .before .args .slot) (c .before .before .before .args .value) _ _ _ (c .before .before .global-param-bits .ensures) (c .before .centre-of .ensures)
+    (c .symbol-of .ensures ∙ ap (λ (z : ℤ). symbolOf (c .before .before .global-param-bits .result .«abs_bits») (c .before .before .global-param-bits .result .«prec_bits») (c .before .centre-of .result) z) (toZ-ofZ (c .before .before .before .fits .value)))
+
+pub symbol-of-spec : {M : Type 1} → statement M
+symbol-of-spec =
+    tie.close (tie.spec global-param-bits-requires centre-of-requires symbol-of-requires returns)

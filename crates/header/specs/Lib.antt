@@ -1,0 +1,4 @@
+pub mod Coefficient
+pub mod Writing
+pub mod Reading
+pub mod Contracts

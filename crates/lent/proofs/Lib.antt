@@ -1,0 +1,3 @@
+pub mod HandedOn
+pub mod Lending
+pub mod Words

@@ -1,0 +1,32 @@
+-- How a search ends: refused, with no samples, or with its buffers written.
+-- Assumes nothing.
+use Prim.Native.Nat.{ℕ, _<_}
+use mathlib.Core.List.{List}
+use mathlib.Core.Path.{_≡_, refl, sym, _∙_}
+use native.Mathlib.Omega.{arith}
+use borrow.Author.Tests.{lt-ltb, le-ltb, eq-eqb, ne-eqb}
+use Rattle.laws.specs.Buffer.{onto}
+use Rattle.plane.specs.Plane.{halfPlane}
+use Rattle.search.specs.Search.{sampleCount, sampleWords}
+use Rattle.search.specs.Refusal.{Task, Lent, Done, refusal, answer, leaves, lent}
+
+module _ (t : Task) (l : Lent) where
+  pub done-refused : {r : ℕ} → r ≡ refusal t l → (r ≡ 0 → ⊥) → Done t l (record { refusal = r; samples = 0 }) l
+  unfolding answer leaves
+  done-refused e n =
+      let f = ne-eqb (refusal t l) 0 (λ q. n (e ∙ q)) in
+      record { answers = rw (f, e); buffers = rw f }
+
+  pub done-none : refusal t l ≡ 0 → sampleCount (t .width) (t .height) ≡ 0 → Done t l (record { refusal = 0; samples = 0 }) l
+  unfolding answer leaves
+  done-none e z =
+      record { answers = rw (e, z); buffers = rw (e, le-ltb 0 (sampleCount (t .width) (t .height)) (omega arith)) }
+
+  pub done-some : refusal t l ≡ 0 → (sampleCount (t .width) (t .height) ≡ 0 → ⊥) → {a b c : List ℕ} →
+      a ≡ onto (halfPlane (t .input) (t .width) (t .height)) (l .input-half) →
+      b ≡ onto (halfPlane (t .ref) (t .width) (t .height)) (l .ref-half) →
+      c ≡ onto (sampleWords (t .input) (t .ref) (t .width) (t .height) (t .classes)) (l .words) →
+      Done t l (record { refusal = 0; samples = sampleCount (t .width) (t .height) }) (lent a b c)
+  unfolding answer leaves
+  done-some e n p q r =
+      record { answers = rw e; buffers = rw (e, lt-ltb 0 (sampleCount (t .width) (t .height)) (omega arith), p, q, r) }

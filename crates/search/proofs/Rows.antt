@@ -1,0 +1,109 @@
+-- The tests of the refusal table: over a list element by element, over sides that are small, and what a quiet table says.
+-- Assumes nothing.
+use Prim.Native.Nat.{ℕ, zero, suc, _+_, _*_, _/_, _≤_, _<_, _-_}
+use mathlib.Core.Bool.{Bool, true, false, not}
+use mathlib.Core.List.{List, [], _∷_}
+use mathlib.Core.Path.{_≡_, refl, sym, ap, _∙_}
+use native.Mathlib.Nat.{mul-le-mul}
+use native.Mathlib.Numerals.{add-one}
+use native.Mathlib.Omega.{arith}
+use lib.Dec.{ltb, eqb}
+use lib.ListN.{length, take, drop, getD, drop-of-length-le}
+use lib.Seq.{drop-cons}
+use borrow.Author.Tests.{ltb-true, ltb-false, eqb-true, not-false, lt-ltb}
+use Rattle.laws.specs.Refusal.{any, either, both}
+use Rattle.laws.specs.Buffer.{onto}
+use Rattle.laws.proofs.Buffer.{onto-front}
+use Rattle.laws.proofs.Refusal.{quiet}
+use Rattle.plane.specs.Plane.{halfPlane}
+use Rattle.plane.proofs.Halves.{length-halfPlane}
+use Rattle.search.specs.Search.{sampleCount}
+use Rattle.search.specs.Refusal.{badClass, verdict, table, tooLarge, Small}
+use Rattle.search.specs.Ready.{Ready, Room}
+
+pub area-small : (w h : ℕ) → w ≤ 1024 → h ≤ 1024 → h * w ≤ 1048576
+area-small w h p q = mul-le-mul q p
+
+pub count-small : (w h : ℕ) → w ≤ 1024 → h ≤ 1024 → h / 16 * (w / 16) ≤ 4096
+count-small w h p q = mul-le-mul (let a : h / 16 ≤ 64 = omega arith in a) (let b : w / 16 ≤ 64 = omega arith in b)
+
+pub half-small : (w h : ℕ) → w ≤ 1024 → h ≤ 1024 → h / 2 * (w / 2) ≤ 262144
+half-small w h p q = mul-le-mul (let a : h / 2 ≤ 512 = omega arith in a) (let b : w / 2 ≤ 512 = omega arith in b)
+
+module _ (p : ℕ → Bool) (l : List ℕ) (k : ℕ) where
+  any-step : k < length l → any p (drop k l) ≡ either (p (getD l k 0)) (any p (drop (suc k) l))
+  any-step h = rw (drop-cons l k 0 h)
+
+  pub any-here : k < length l → any p (drop k l) ≡ any p l → p (getD l k 0) ≡ true → any p l ≡ true
+  any-here h e q = sym e ∙ (any-step h ∙ rw q)
+
+  pub any-later : k < length l → any p (drop k l) ≡ any p l → p (getD l k 0) ≡ false → any p (drop (k + 1) l) ≡ any p l
+  any-later h e q = rw (add-one k) (sym (any-step h ∙ rw q) ∙ e)
+
+  pub any-never : length l ≤ k → any p (drop k l) ≡ any p l → false ≡ any p l
+  any-never h e = rw (drop-of-length-le l {i = k} h) at e
+
+either-false : (a b : Bool) → either a b ≡ false → (a ≡ false) × (b ≡ false)
+either-false true b e = absurd (let z : _≡_ {A = ℕ} 0 1 = cc in omega arith)
+either-false false b e = (refl, e)
+
+both-false : (a b : Bool) → both a b ≡ false → a ≡ true → b ≡ false
+both-false a b e t = rw t at e
+
+-- sides that row 1 lets pass
+pub small : (w h : ℕ) → tooLarge w h ≡ false → Small w h
+small w h e = record { narrow = ltb-false 1024 w (either-false (ltb 1024 w) (ltb 1024 h) e .0); low = ltb-false 1024 h (either-false (ltb 1024 w) (ltb 1024 h) e .1) }
+
+-- a number below a product
+pub factor-pos : (a b k : ℕ) → k < a * b → 0 < b
+factor-pos a zero k h = absurd (omega arith)
+factor-pos a (suc b) k h = omega arith
+
+-- no element passes
+any-none : (p : ℕ → Bool) (l : List ℕ) → any p l ≡ false → p 0 ≡ false → (k : ℕ) → p (getD l k 0) ≡ false
+any-none p [] e z k = z
+any-none p (x ∷ l) e z zero = either-false (p x) (any p l) e .0
+any-none p (x ∷ l) e z (suc k) = any-none p l (either-false (p x) (any p l) e .1) z k
+
+-- an accepted call has small sides
+pub small-sides : (w h input ref : ℕ) (classes : List ℕ) (input-half ref-half words : ℕ) →
+    verdict w h input ref classes input-half ref-half words ≡ 0 → Small w h
+unfolding verdict
+small-sides w h input ref classes input-half ref-half words e =
+    small w h (quiet (table w h input ref classes input-half ref-half words) tt e .0)
+
+-- an accepted call with samples has all that it rests on
+pub ready : (input ref : List ℕ) (w h : ℕ) (classes input-half ref-half words : List ℕ) →
+    verdict w h (length input) (length ref) classes (length input-half) (length ref-half) (length words) ≡ 0 → 0 < sampleCount w h →
+    Ready input ref w h classes input-half ref-half words
+unfolding verdict badClass
+ready input ref w h classes input-half ref-half words e s =
+    let q = quiet (table w h (length input) (length ref) classes (length input-half) (length ref-half) (length words)) tt e in
+    let large = either-false _ _ (q .0) in
+    let two = either-false _ _ (q .1 .0) in
+    let three = either-false _ _ (two .1) in
+    let short = either-false _ _ (both-false _ _ (q .1 .1 .1 .0) (lt-is (sampleCount w h) s)) in
+    let words-short = either-false _ _ (short .1) in
+    record {
+      narrow = ltb-false 1024 w (large .0);
+      low = ltb-false 1024 h (large .1);
+      input-pels = sym (eqb-true _ _ (not-false _ (two .0)));
+      ref-pels = sym (eqb-true _ _ (not-false _ (three .0)));
+      classed = record {
+        enough = eqb-true _ _ (not-false _ (three .1));
+        in-range = λ k. ltb-false 3 (getD classes k 0) (any-none (ltb 3) classes (q .1 .1 .0) refl k);
+        room = ltb-false _ _ (words-short .1);
+      };
+      input-room = ltb-false _ _ (short .0);
+      ref-room = ltb-false _ _ (words-short .0);
+    }
+  where
+    lt-is : (n : ℕ) → 0 < n → ltb 0 n ≡ true
+    lt-is n h = lt-ltb 0 n h
+
+-- the front of a buffer that holds a half plane
+pub half-front : (p : List ℕ) (w h : ℕ) (old : List ℕ) {l : List ℕ} → l ≡ onto (halfPlane p w h) old → take (h / 2 * (w / 2)) l ≡ halfPlane p w h
+half-front p w h old e = rw (e, ← length-halfPlane p w h) (onto-front (halfPlane p w h) old)
+
+pub half-front-length : (p : List ℕ) (w h : ℕ) (old : List ℕ) {l : List ℕ} → l ≡ onto (halfPlane p w h) old → h / 2 * (w / 2) ≡ length (take (h / 2 * (w / 2)) l)
+half-front-length p w h old e = sym (ap length (half-front p w h old e) ∙ length-halfPlane p w h)

@@ -1,0 +1,46 @@
+-- The search of document 01: the motion of a block, the sample words of a frame pair, and how many there are.
+-- Assumes nothing.
+use Prim.Native.Nat.{ℕ, _*_, _/_, _%_}
+use mathlib.Core.List.{List}
+use lib.IntN.{ℤ, pos, negsuc, _+ℤ_, _*ℤ_}
+use lib.ListN.{getD}
+use Rattle.sample.specs.Sample.{motionBias}
+use Rattle.sample.specs.Word.{wordOf}
+use Rattle.plane.specs.Plane.{listing, halfPlane}
+use Rattle.stage.specs.Stage.{Found, coarse, fullPel, refined}
+
+-- whole 16 × 16 blocks: in a row of blocks, in a column, and in all; none where a side is under 16
+abbrev pub blockColumns : ℕ → ℕ
+blockColumns w = w / 16
+
+abbrev pub blockRows : ℕ → ℕ
+blockRows h = h / 16
+
+abbrev pub sampleCount : ℕ → ℕ → ℕ
+sampleCount w h = blockRows h * blockColumns w
+
+-- the motion in eighths of the block at block row R, column C: coarse on the half planes, full pel from twice its winner, eighths from eight times that
+unfoldable pub motion : List ℕ → List ℕ → ℕ → ℕ → ℕ → ℕ → Found
+motion input ref w h R C =
+    let far = coarse (halfPlane input w h) (halfPlane ref w h) (w / 2) (h / 2) (R * 8) (C * 8) in
+    let full = fullPel input ref w h (R * 16) (C * 16) (pos 2 *ℤ far .dy) (pos 2 *ℤ far .dx) in
+    refined input ref w h (R * 16) (C * 16) (pos 8 *ℤ full .dy) (pos 8 *ℤ full .dx)
+
+-- a motion as it is stored: its eighths plus 223
+abbrev pub natural : ℤ → ℕ
+natural (pos n) = n
+natural (negsuc n) = 0
+
+abbrev pub stored : ℤ → ℕ
+stored m = natural (m +ℤ pos motionBias)
+
+-- the word of a block and its class
+abbrev pub wordAt : List ℕ → List ℕ → ℕ → ℕ → ℕ → ℕ → ℕ → ℕ
+wordAt input ref w h R C class = wordOf R C (stored (motion input ref w h R C .dy)) (stored (motion input ref w h R C .dx)) class
+
+-- the k-th sample's word: blocks row by row, with the k-th class
+unfoldable pub sampleWord : List ℕ → List ℕ → ℕ → ℕ → List ℕ → ℕ → ℕ
+sampleWord input ref w h classes k = wordAt input ref w h (k / blockColumns w) (k % blockColumns w) (getD classes k 0)
+
+unfoldable pub sampleWords : List ℕ → List ℕ → ℕ → ℕ → List ℕ → List ℕ
+sampleWords input ref w h classes = listing (sampleWord input ref w h classes) (sampleCount w h)

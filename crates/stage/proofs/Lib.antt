@@ -1,0 +1,3 @@
+pub mod Motion
+pub mod Scan
+pub mod Stages

@@ -1,0 +1,102 @@
+-- A candidate under a bias, and how far the best of a square lies from its centre.
+-- Assumes nothing.
+use Prim.Native.Nat.{ℕ, zero, suc, _+_, _*_, _-_, _/_, _%_, _≤_, _<_}
+use mathlib.Core.Bool.{Bool, true, false}
+use mathlib.Core.Path.{_≡_, refl, sym, ap, _∙_}
+use native.Mathlib.Nat.{mul-le-mul-right, div-lt-iff-lt-mul, mod-lt}
+use native.Mathlib.Omega.{arith}
+use lib.Dec.{ltb, eqb}
+use lib.IntN.{ℤ, pos, _+ℤ_, +ℤ-idr}
+use borrow.Author.Tests.{eq-eqb, ne-eqb}
+use Rattle.laws.specs.Loops.{run, turns}
+use Rattle.laws.specs.Refusal.{choose}
+use Rattle.cost.specs.Clamp.{offset}
+use Rattle.cost.proofs.Offset.{offset-add, offset-pos, offset-magnitude}
+use Rattle.cost.specs.Cost.{difference}
+use Rattle.stage.specs.declared.Best.{Best}
+use Rattle.stage.specs.Stage.{Found, priced, better, side, square, rowOffset, columnOffset, consider, scan, withOffset}
+use Rattle.stage.specs.Ready.{seen, replaced}
+use Rattle.stage.proofs.Motion.{offset-same, offset-inject}
+
+seen-choose : (b : ℕ) (t : Bool) (new old : Best) → seen b (choose t new old) ≡ choose t (seen b new) (seen b old)
+seen-choose b true new old = refl
+seen-choose b false new old = refl
+
+-- the centre is left out
+pub consider-centre : (price : ℤ → ℤ → ℕ) (reach step : ℕ) (cy cx : ℤ) (k : ℕ) (best : Found) → k ≡ square reach / 2 → best ≡ consider price reach step cy cx k best
+unfolding consider
+consider-centre price reach step cy cx k best e = rw (eq-eqb k (square reach / 2) e)
+
+-- another candidate, held under the bias b
+pub consider-other : (price : ℤ → ℤ → ℕ) (reach step b cy cx k : ℕ) (best : Best) (y x cost : ℕ) → (k ≡ square reach / 2 → ⊥) →
+    y + reach * step ≡ cy + k / side reach * step → x + reach * step ≡ cx + k % side reach * step → cost ≡ price (offset b y) (offset b x) →
+    seen b (replaced best cost y x) ≡ consider price reach step (offset b cy) (offset b cx) k (seen b best)
+unfolding consider
+consider-other price reach step b cy cx k best y x cost n p q e =
+    let ty : rowOffset reach step (offset b cy) k ≡ offset b y =
+    offset-add b cy (reach * step) (k / side reach * step) ∙ offset-same (b + reach * step) (cy + k / side reach * step) b y (omega arith) in
+    let tx : columnOffset reach step (offset b cx) k ≡ offset b x =
+    offset-add b cx (reach * step) (k % side reach * step) ∙ offset-same (b + reach * step) (cx + k % side reach * step) b x (omega arith) in
+    seen-choose b (ltb cost (best .cost)) (record { cost = cost; y = y; x = x }) best
+    ∙ rw (ne-eqb k (square reach / 2) n, ty, tx, e)
+
+-- what each turn keeps, the run keeps
+run-keeps : {S : Type 0} (f : ℕ → S → S) (P : S → Type 0) (n i k : ℕ) (s : S) → i + k ≡ n → ((j : ℕ) (t : S) → j < n → P t → P (f j t)) → P s → P (turns f k i s)
+run-keeps f P n i zero s e h p = p
+run-keeps f P n i (suc k) s e h p = run-keeps f P n (suc i) k (f i s) (omega arith) h (h i s (omega arith) p)
+
+-- z lies within n of c
+pub record Within (n : ℕ) (c z : ℤ) : Type 0 where
+  pub steps : ℕ
+  pub same : z ≡ c +ℤ offset n steps
+  pub few : steps ≤ 2 * n
+
+abbrev pub Inside : ℕ → ℤ → ℤ → Found → Type 0
+Inside n cy cx f = Within n cy (f .dy) × Within n cx (f .dx)
+
+choose-keeps : (P : Found → Type 0) (t : Bool) (a b : Found) → P a → P b → P (choose t a b)
+choose-keeps P true a b p q = p
+choose-keeps P false a b p q = q
+
+within-step : (reach step j : ℕ) (c : ℤ) → j < side reach → Within (reach * step) c (c +ℤ offset (reach * step) (j * step))
+within-step reach step j c l =
+    let m : j * step ≤ 2 * reach * step = mul-le-mul-right step (let q : j ≤ 2 * reach = omega arith in q) in
+    record { steps = j * step; same = refl; few = omega arith }
+
+consider-inside : (price : ℤ → ℤ → ℕ) (reach step : ℕ) (cy cx : ℤ) (k : ℕ) (best : Found) → k < square reach → Inside (reach * step) cy cx best →
+    Inside (reach * step) cy cx (consider price reach step cy cx k best)
+unfolding consider
+consider-inside price reach step cy cx k best l h =
+    let new = priced price (rowOffset reach step cy k) (columnOffset reach step cx k) in
+    let n : Inside (reach * step) cy cx new = (
+      within-step reach step (k / side reach) cy (div-lt-iff-lt-mul (omega arith) .1 l),
+      within-step reach step (k % side reach) cx (mod-lt k (omega arith)),
+    ) in
+    choose-keeps (Inside (reach * step) cy cx) (eqb k (square reach / 2)) best (better best new) h
+    (choose-keeps (Inside (reach * step) cy cx) (ltb (new .cost) (best .cost)) new best n h)
+
+within-centre : (n : ℕ) (c : ℤ) → Within n c c
+within-centre n c = record { steps = n; same = sym (ap (λ (z : ℤ). c +ℤ z) (offset-pos n n 0 (omega arith)) ∙ +ℤ-idr c); few = omega arith }
+
+-- the best of a square lies in it
+pub scan-inside : (price : ℤ → ℤ → ℕ) (reach step : ℕ) (cy cx : ℤ) (cost : ℕ) →
+    Inside (reach * step) cy cx (scan price reach step cy cx (record { cost = cost; dy = cy; dx = cx }))
+unfolding scan run
+scan-inside price reach step cy cx cost =
+    run-keeps (consider price reach step cy cx) (Inside (reach * step) cy cx) (square reach) 0 (square reach - 0) (record { cost = cost; dy = cy; dx = cx }) (omega arith)
+    (λ j t l h. consider-inside price reach step cy cx j t l h)
+    (within-centre (reach * step) cy, within-centre (reach * step) cx)
+
+-- a biased number that lies within n of another
+pub within-biased : (b c n y : ℕ) (z : ℤ) → offset b y ≡ z → Within n (offset b c) z → (c ≤ y + n) × (y ≤ c + n)
+within-biased b c n y z e w =
+    let s = w .steps in
+    let q : y + n ≡ c + s =
+    offset-inject (b + n) (y + n) (c + s) (offset-same (b + n) (y + n) b y (omega arith) ∙ (e ∙ (w .same ∙ offset-add b c n s))) in
+    let f : s ≤ 2 * n = w .few in
+    (omega arith, omega arith)
+
+-- a cost by whole pels and two magnitudes
+pub with-offset : (price : ℤ → ℤ → ℕ) (b y x : ℕ) {s p q : ℕ} → s ≡ price (offset b y) (offset b x) → p ≡ difference y b → q ≡ difference x b →
+    s + p + q ≡ withOffset price (offset b y) (offset b x)
+with-offset price b y x e f g = rw (e, f, g, offset-magnitude b y, offset-magnitude b x)

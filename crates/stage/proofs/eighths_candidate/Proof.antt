@@ -1,0 +1,77 @@
+use Prim.Native.Nat.{ℕ, _+_, _*_, _-_, _/_, _%_, _≤_, _<_}
+use mathlib.Core.Path.{_≡_, refl, sym, ap, _∙_}
+use native.Mathlib.Nat.{mul-le-mul-right}
+use native.Mathlib.Omega.{arith}
+use borrow.Author.Tests.{lt-ltb, le-ltb}
+use Rattle.laws.specs.Loops.{run}
+use Rattle.laws.proofs.Loops.{again, done}
+use Rattle.cost.specs.Clamp.{offset}
+use Rattle.cost.specs.Cost.{blockCost, eighthsCost}
+use Rattle.stage.specs.Stage.{Found, consider, withOffset}
+use Rattle.stage.specs.Ready.{seen}
+use Rattle.stage.proofs.Scan.{consider-centre, consider-other, with-offset, within-biased}
+use Rattle.stage.proofs.Stages.{taken-back, coarse-is, coarse-inside, fullPel-is, fullPel-inside, eighthsStep-is, eighthsStep-inside}
+use borrow.Author.Needs.{needs}
+use Rattle.stage.proofs.eighths_candidate.Statement.{statement}
+use Rattle.stage.proofs.eighths_candidate.Tie as tie
+use Rattle.stage.proofs.eighths_candidate.Reads as reads
+use Rattle.stage.proofs.eighths_candidate.Lts as lts
+use Rattle.cost.proofs.eighths.sad_subpel.Reads as sad-subpel-reads
+use Rattle.stage.proofs.better.Reads as better-reads
+
+-- src/lib.rt:134:9
+returns : tie.Need-returns
+returns c = consider-centre (eighthsCost (c .before .before .before .args .input .now) (c .before .before .before .args .reference .now) (c .before .before .before .args .width) (c .before .before .before .args .height) (c .before .before .before .args .r) (c .before .before .before .args .c)) 1 (c .before .before .before .args .step) (offset 223 (c .before .before .before .args .cy)) (offset 223 (c .before .before .before .args .cx)) (c .before .before .before .args .k) (seen 223 (c .before .before .before .args .best)) (c .if1 .taken)
+
+-- src/lib.rt:136:18
+mul-v : tie.Need-mul-v
+mul-v c = omega (arith, mul-le-mul-right (c .before .before .before .args .step) (let q : c .before .before .before .args .k / 3 ≤ 2 = omega arith in q), mul-le-mul-right (c .before .before .before .args .step) (let q : c .before .before .before .args .k % 3 ≤ 2 = omega arith in q))
+
+-- src/lib.rt:136:13
+add-v : tie.Need-add-v
+add-v c = omega (arith, mul-le-mul-right (c .before .before .before .args .step) (let q : c .before .before .before .args .k / 3 ≤ 2 = omega arith in q), mul-le-mul-right (c .before .before .before .args .step) (let q : c .before .before .before .args .k % 3 ≤ 2 = omega arith in q))
+
+-- src/lib.rt:136:13
+sub-v : tie.Need-sub-v
+sub-v c = omega arith
+
+-- src/lib.rt:137:18
+mul-u : tie.Need-mul-u
+mul-u c = omega (arith, mul-le-mul-right (c .before .before .before .args .step) (let q : c .before .before .before .args .k / 3 ≤ 2 = omega arith in q), mul-le-mul-right (c .before .before .before .args .step) (let q : c .before .before .before .args .k % 3 ≤ 2 = omega arith in q))
+
+-- src/lib.rt:137:13
+add-u : tie.Need-add-u
+add-u c = omega (arith, mul-le-mul-right (c .before .before .before .args .step) (let q : c .before .before .before .args .k / 3 ≤ 2 = omega arith in q), mul-le-mul-right (c .before .before .before .args .step) (let q : c .before .before .before .args .k % 3 ≤ 2 = omega arith in q))
+
+-- src/lib.rt:137:13
+sub-u : tie.Need-sub-u
+sub-u c = omega arith
+
+-- src/lib.rt:138:18
+sad-subpel-requires : tie.Need-sad-subpel-requires
+sad-subpel-requires c κs = (search needs, omega (arith, mul-le-mul-right (c .before .before .before .args .step) (let q : c .before .before .before .args .k / 3 ≤ 2 = omega arith in q), mul-le-mul-right (c .before .before .before .args .step) (let q : c .before .before .before .args .k % 3 ≤ 2 = omega arith in q)))
+
+-- src/lib.rt:138:5
+better-requires : tie.Need-better-requires
+better-requires c κs = search needs
+
+-- src/lib.rt:126:1
+returns-2 : tie.Need-returns-2
+returns-2 c =
+    ap (seen 223) (c .better .ensures)
+    ∙ consider-other (eighthsCost (c .before .before .before .before .before .args .input .now) (c .before .before .before .before .before .args .reference .now) (c .before .before .before .before .before .args .width) (c .before .before .before .before .before .args .height) (c .before .before .before .before .before .args .r) (c .before .before .before .before .before .args .c)) 1 (c .before .before .before .before .before .args .step) 223 (c .before .before .before .before .before .args .cy) (c .before .before .before .before .before .args .cx) (c .before .before .before .before .before .args .k) (c .before .before .before .before .before .args .best) (c .before .before .before .before .before .args .cy + c .before .before .before .before .before .args .k / 3 * c .before .before .before .before .before .args .step - c .before .before .before .before .before .args .step) (c .before .before .before .before .before .args .cx + c .before .before .before .before .before .args .k % 3 * c .before .before .before .before .before .args .step - c .before .before .before .before .before .args .step) (c .before .sad-subpel .result) (c .before .before .if1 .left) (omega arith) (omega arith) (c .before .sad-subpel .ensures .same)
+
+pub eighths-candidate-spec : {M : Type 1} → statement M
+eighths-candidate-spec =
+    tie.close
+    (tie.spec
+    returns
+    mul-v
+    add-v
+    sub-v
+    mul-u
+    add-u
+    sub-u
+    sad-subpel-requires
+    better-requires
+    returns-2)

@@ -1,0 +1,45 @@
+use native.Mathlib.Omega.{arith}
+use borrow.Author.Needs.{needs}
+use Rattle.cost.specs.Clamp.{offset}
+use Rattle.stage.proofs.Stages.{refined-is}
+use Rattle.stage.proofs.refine.Statement.{statement}
+use Rattle.stage.proofs.refine.Tie as tie
+use Rattle.stage.proofs.refine.Reads as reads
+use Rattle.stage.proofs.refine.Lts as lts
+use Rattle.cost.proofs.eighths.sad_subpel.Reads as sad-subpel-reads
+use Rattle.stage.proofs.eighths_step.Reads as eighths-step-reads
+
+-- src/lib.rt:165:30
+sad-subpel-requires : tie.Need-sad-subpel-requires
+sad-subpel-requires c κs = search needs
+
+-- src/lib.rt:166:9
+eighths-step-requires : tie.Need-eighths-step-requires
+eighths-step-requires c κs = search needs
+
+-- src/lib.rt:167:9
+eighths-step-requires-2 : tie.Need-eighths-step-requires-2
+eighths-step-requires-2 c κs = search needs
+
+-- src/lib.rt:168:5
+eighths-step-requires-3 : tie.Need-eighths-step-requires-3
+eighths-step-requires-3 c κs = search needs
+
+-- src/lib.rt:159:1
+returns : tie.Need-returns
+returns c =
+    record {
+      same = refined-is (c .before .before .before .before .before .before .args .input .now) (c .before .before .before .before .before .before .args .reference .now) (c .before .before .before .before .before .before .args .width) (c .before .before .before .before .before .before .args .height) (c .before .before .before .before .before .before .args .r) (c .before .before .before .before .before .before .args .c) (offset 223 (c .before .before .before .before .before .before .args .v)) (offset 223 (c .before .before .before .before .before .before .args .u)) (c .before .before .before .sad-subpel .ensures .same) (c .before .before .eighths-step .ensures .same) (c .before .eighths-step2 .ensures .same) (c .eighths-step3 .ensures .same);
+      y-last = omega arith;
+      x-last = omega arith;
+    }
+
+pub refine-spec : {M : Type 1} → statement M
+refine-spec =
+    tie.close
+    (tie.spec
+    sad-subpel-requires
+    eighths-step-requires
+    eighths-step-requires-2
+    eighths-step-requires-3
+    returns)

@@ -1,0 +1,6 @@
+pub mod Centring
+pub mod Rungs
+pub mod Ladder
+pub mod Climbing
+pub mod Lengths
+pub mod Coefficient

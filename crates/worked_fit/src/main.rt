@@ -1,0 +1,334 @@
+// Replays the oracle's lists of fits, systems and grid numbers, then tries the refusals.
+ghost use Prim.Native.Nat.{_≤_};
+use fit::Fitted;
+use libc::STDOUT_FILENO;
+use solve::Outcome;
+use solve::System;
+
+// The bits that the lists have for every not-a-number.
+const NOT_A_NUMBER: u64 = 0x7ff8_0000_0000_0000;
+
+const INFINITY: u64 = 0x7ff0_0000_0000_0000;
+
+const SIGN: u64 = 0x8000_0000_0000_0000;
+
+// The lists.
+const FITS: u8 = 0;
+
+const SYSTEMS: u8 = 1;
+
+// The bits of the values that a fitted model carries, 0 for those that its kind doesn't.
+struct Values {
+    m0: u64,
+    m1: u64,
+    m2: u64,
+    m3: u64,
+    m4: u64,
+    m5: u64,
+}
+
+fn next_bits(list: i32) -> u64 {
+    let high = replay::next_word(list) as u64;
+    let low = replay::next_word(list) as u64;
+    high * 0x1_0000_0000 + low
+}
+
+fn next_float(list: i32) -> f64 {
+    let bits = next_bits(list);
+    if bits % SIGN > INFINITY {
+        return 0.0 / 0.0;
+    }
+    f64::from_bits(bits)
+}
+
+fn same_float(x: f64, wanted: u64) -> bool {
+    if x != x {
+        return wanted == NOT_A_NUMBER;
+    }
+    f64::to_bits(x) == wanted
+}
+
+fn next_if(list: i32, carried: bool) -> u64 {
+    if carried { next_bits(list) } else { 0 }
+}
+
+fn next_values(list: i32, kind: u8) -> Values {
+    let m0 = next_bits(list);
+    let m1 = next_bits(list);
+    let m2 = next_if(list, 1 < kind);
+    let m3 = next_if(list, 1 < kind);
+    let m4 = next_if(list, 2 < kind);
+    let m5 = next_if(list, 2 < kind);
+    Values {
+        m0,
+        m1,
+        m2,
+        m3,
+        m4,
+        m5,
+    }
+}
+
+fn next_param(list: i32) -> i32 {
+    replay::signed(replay::next_word(list))
+}
+
+fn next_params(list: i32) -> [i32; 6] {
+    let p0 = next_param(list);
+    let p1 = next_param(list);
+    let p2 = next_param(list);
+    let p3 = next_param(list);
+    let p4 = next_param(list);
+    let p5 = next_param(list);
+    [p0, p1, p2, p3, p4, p5]
+}
+
+fn same_params(p: [i32; 6], w: [i32; 6]) -> bool {
+    p[0] == w[0] && p[1] == w[1] && p[2] == w[2] && p[3] == w[3] && p[4] == w[4] && p[5] == w[5]
+}
+
+fn same_model(fitted: Fitted, w: Values) -> bool {
+    match fitted {
+        Fitted::Refused(_) => false,
+        Fitted::Translation { m0, m1 } => same_float(m0, w.m0) && same_float(m1, w.m1),
+        Fitted::RotZoom { m0, m1, m2, m3 } => {
+            same_float(m0, w.m0)
+                && same_float(m1, w.m1)
+                && same_float(m2, w.m2)
+                && same_float(m3, w.m3)
+        }
+        Fitted::Affine {
+            m0,
+            m1,
+            m2,
+            m3,
+            m4,
+            m5,
+        } => {
+            same_float(m0, w.m0)
+                && same_float(m1, w.m1)
+                && same_float(m2, w.m2)
+                && same_float(m3, w.m3)
+                && same_float(m4, w.m4)
+                && same_float(m5, w.m5)
+        }
+    }
+}
+
+fn refusal_of(fitted: Fitted) -> u32 {
+    match fitted {
+        Fitted::Refused(number) => number,
+        _ => 0,
+    }
+}
+
+// The fit by its name or by its type code.
+fn fit_of(kind: u8, named: bool, words: &[u32]) -> Fitted {
+    if named {
+        if kind == 1 {
+            return fit::fit_translation(words);
+        }
+        if kind == 2 {
+            return fit::fit_rotzoom(words);
+        }
+        return fit::fit_affine(words);
+    }
+    fit::fit_model(kind, words)
+}
+
+// The quantized model of a fit, and the score of that.
+fn same_quantized(fitted: Fitted, flag: u8, words: &[u32], params: [i32; 6], score: u64) -> bool {
+    let q = model::quantize_model(fitted, flag, words);
+    let s = score::mean_sq_residual(params, words);
+    let quantized = q.params;
+    q.refusal == 0 && s.refusal == 0 && same_params(quantized, params) && same_float(s.score, score)
+}
+
+// One type of a case: a refusal or 0, the values, the quantized model, its score.
+fn replay_kind(list: i32, kind: u8, flag: u8, words: &[u32]) -> bool {
+    let refusal = replay::next_word(list);
+    let values = next_values(list, kind);
+    let params = next_params(list);
+    let score = next_bits(list);
+    let fitted = fit_of(kind, flag == 0, words);
+    if refusal != 0 {
+        return refusal_of(fitted) == refusal;
+    }
+    same_model(fitted, values) && same_quantized(fitted, flag, words, params, score)
+}
+
+// The words of a case, remade.
+fn fill(words: &mut [u32], seed: u32, mask: u32, fixed: u32) {
+    let mut state = seed;
+    let mut i = 0usize;
+    while i < words.len() {
+        let high = replay::next_state(state);
+        state = replay::next_state(high);
+        words[i] = (((high & 0xffff_0000) | (state >> 16)) & mask) | fixed;
+        i += 1;
+    }
+}
+
+fn replay_words(list: i32, flag: u8, words: &[u32]) -> bool {
+    let translation = replay_kind(list, 1, flag, words);
+    let rotzoom = replay_kind(list, 2, flag, words);
+    let affine = replay_kind(list, 3, flag, words);
+    translation && rotzoom && affine
+}
+
+// One case of the fits, its words in a lent buffer.
+fn replay_case(list: i32, flag: u8, words: &mut [u32]) -> bool {
+    let seed = replay::next_word(list);
+    let count = replay::next_word(list) as usize;
+    let mask = replay::next_word(list);
+    let fixed = replay::next_word(list);
+    if count > words.len() {
+        return false;
+    }
+    fill(&mut words[..count], seed, mask, fixed);
+    replay_words(list, flag, &words[..count])
+}
+
+fn replay_fits(list: i32, flag: u8) -> bool {
+    let mut words = [0u32; 4096];
+    replay_case(list, flag, &mut words)
+}
+
+fn next_entries(list: i32) -> System {
+    let mut a = [0.0f64; 16];
+    let mut i = 0usize;
+    while i < 16 {
+        a[i] = next_float(list);
+        i += 1;
+    }
+    let b0 = next_float(list);
+    let b1 = next_float(list);
+    let b2 = next_float(list);
+    let b3 = next_float(list);
+    let b = [b0, b1, b2, b3];
+    System { a, b }
+}
+
+fn refusal_of_outcome(outcome: Outcome) -> u32 {
+    match outcome {
+        Outcome::Solved => 0,
+        Outcome::Singular => 6,
+    }
+}
+
+fn replay_system(list: i32) -> bool {
+    let size = (replay::next_word(list) % 5) as usize;
+    let solution = solve::solve_linear(size, next_entries(list));
+    let refusal = replay::next_word(list);
+    let x0 = next_bits(list);
+    let x1 = next_bits(list);
+    let x2 = next_bits(list);
+    let x3 = next_bits(list);
+    let x = solution.x;
+    let outcome = solution.outcome;
+    refusal_of_outcome(outcome) == refusal
+        && same_float(x[0], x0)
+        && same_float(x[1], x1)
+        && same_float(x[2], x2)
+        && same_float(x[3], x3)
+}
+
+fn replay_grid_number(list: i32) -> bool {
+    let value = next_float(list);
+    let wanted = next_param(list);
+    grid_number::grid_number(value) == wanted
+}
+
+fn replay_one(list: i32, which: u8, flag: u8) -> bool {
+    if which == FITS {
+        return replay_fits(list, flag);
+    }
+    if which == SYSTEMS {
+        return replay_system(list);
+    }
+    replay_grid_number(list)
+}
+
+// 1 for a case that failed, which gets a line.
+fn failures_at(list: i32, which: u8, name: &[u8], case: u64) -> u64
+    ensures { λ r. ⌜ r ≤ 1 ⌝ }
+{
+    if replay_one(list, which, (case % 2) as u8) {
+        return 0;
+    }
+    replay::print_failure(name, case);
+    1
+}
+
+fn failures(list: i32, which: u8, name: &[u8], count: u64) -> u64 {
+    let mut failed = 0u64;
+    let mut case = 0u64;
+    while case < count {
+        failed += failures_at(list, which, name, case);
+        case += 1;
+    }
+    failed
+}
+
+fn replay_list(which: u8, name: &[u8], file: &[u8]) {
+    let list = os::open_read(file);
+    if list < 0 {
+        os::fail(file);
+        return;
+    }
+    let count = replay::next_word(list) as u64;
+    replay::print_count(name, count, failures(list, which, name, count));
+    libc::close(list);
+}
+
+fn refused(ok: bool, what: &[u8]) {
+    if !ok {
+        io::write_all(STDOUT_FILENO, b"refusals: wrong at ");
+        io::write_all(STDOUT_FILENO, what);
+        io::write_all(STDOUT_FILENO, b"\n");
+    }
+}
+
+fn quantize_refusal(fitted: Fitted, flag: u8, words: &[u32]) -> u32 {
+    let q = model::quantize_model(fitted, flag, words);
+    q.refusal
+}
+
+fn try_refusals(words: &[u32], few: &[u32]) {
+    refused(
+        refusal_of(fit::fit_model(1, words)) == 1,
+        b"4097 words, type 1",
+    );
+    refused(
+        refusal_of(fit::fit_model(0, words)) == 1,
+        b"4097 words, type 0",
+    );
+    refused(
+        refusal_of(fit::fit_affine(words)) == 1,
+        b"4097 words, affine",
+    );
+    refused(refusal_of(fit::fit_model(0, few)) == 4, b"type 0");
+    refused(refusal_of(fit::fit_model(4, few)) == 4, b"type 4");
+    let still = Fitted::Translation { m0: 0.0, m1: 0.0 };
+    refused(
+        quantize_refusal(still, 2, words) == 1,
+        b"4097 words, flag 2",
+    );
+    refused(quantize_refusal(still, 2, few) == 4, b"flag 2");
+    refused(
+        quantize_refusal(Fitted::Refused(6), 0, few) == 4,
+        b"a refused fit",
+    );
+    let scored = score::mean_sq_residual([0, 0, 65536, 0, 0, 65536], words);
+    refused(scored.refusal == 1, b"4097 words, score");
+    io::write_all(STDOUT_FILENO, b"refusals: 9 tried\n");
+}
+
+fn main() {
+    replay_list(FITS, b"fits", b"fits.bin");
+    replay_list(SYSTEMS, b"systems", b"systems.bin");
+    replay_list(2, b"grid numbers", b"grid_numbers.bin");
+    let words = [0u32; 4097];
+    let few = [0u32; 8];
+    try_refusals(&words, &few);
+}

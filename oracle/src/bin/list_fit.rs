@@ -1,0 +1,174 @@
+//! The lists for `worked_fit`: fits, quantized models and scores of lists of words; systems for `solve_linear`;
+//! grid numbers. The arguments are the three files to write.
+//! A list of words is remade from a seed: each word of the generator, its bits outside a mask cleared, with fixed bits set.
+
+use oracle::list::{Lcg, List};
+use std::{env, io};
+
+const SEED: u32 = 6;
+const SINGULAR: u32 = 6;
+const MOST_SAMPLES: usize = 4096;
+
+/// Counts that every shape of list is tried with, and how many random ones besides.
+const COUNTS: [usize; 16] = [0, 1, 2, 3, 4, 5, 6, 7, 8, 9, 16, 33, 125, 500, 1000, MOST_SAMPLES];
+const RANDOM_COUNTS: usize = 180;
+
+/// Masks of a word's fields: row, column, stored v and u, class.
+const ROW: u32 = 0xfc00_0000;
+const COL: u32 = 0x03f0_0000;
+const PLACE: u32 = ROW | COL;
+const V: u32 = 0x000f_f800;
+const U: u32 = 0x0000_07fc;
+const STILL: u32 = 223 << 11 | 223 << 2;
+
+/// Mask and fixed bits: what a list's words have in common.
+const SHAPES: [(u32, u32); 18] = [
+    (!0, 0),
+    // small motions about zero
+    (PLACE | 63 << 11 | 63 << 2, 192 << 11 | 192 << 2),
+    (PLACE | 3 << 11 | 3 << 2, 221 << 11 | 221 << 2),
+    // one row, one column, one block
+    (!ROW, 17 << 26),
+    (!COL, 40 << 20),
+    (!PLACE, 63 << 26 | 1 << 20),
+    // two rows, two columns, two blocks apart
+    (!ROW | 1 << 26, 0),
+    (!COL | 1 << 20, 63 << 20),
+    (!PLACE | 1 << 26, 0),
+    // equal motions: none, the ends of the range, beyond it
+    (PLACE | 3, STILL),
+    (PLACE, 446 << 11),
+    (PLACE, 446 << 2 | 1),
+    (PLACE, V | U),
+    // stored motions over 446 in every word
+    (PLACE | 31 << 11 | 31 << 2, 480 << 11 | 480 << 2),
+    // one word repeated: all fields at either end, and one in between
+    (0, 0),
+    (0, !0),
+    (0, 0x0006_fb7c),
+    // corners of the plane only
+    (1 << 26 | 1 << 31 | 1 << 20 | 1 << 25 | V | U, 0),
+];
+
+fn main() -> io::Result<()> {
+    let mut paths = env::args().skip(1);
+    let mut path = || paths.next().expect("the arguments are the files of fits, systems and grid numbers");
+    fits().write(path())?;
+    systems().write(path())?;
+    grid_numbers().write(path())
+}
+
+fn fits() -> List {
+    let mut lcg = Lcg(SEED);
+    let mut cases = Vec::new();
+    for (mask, fixed) in SHAPES {
+        let random = (0..RANDOM_COUNTS).map(|_| usize::from(lcg.below(64))).collect::<Vec<_>>();
+        for count in COUNTS.into_iter().chain(random) {
+            cases.push((lcg.word(), count, mask, fixed));
+        }
+    }
+    let mut list = List::default();
+    list.push(cases.len() as u32);
+    for (case, &(seed, count, mask, fixed)) in cases.iter().enumerate() {
+        list.push(seed);
+        list.push(count as u32);
+        list.push(mask);
+        list.push(fixed);
+        let words = Lcg(seed).words(count).into_iter().map(|word| word & mask | fixed);
+        let samples = words.map(oracle::sample_of).collect::<Vec<_>>();
+        for kind in 1..=3 {
+            push_fit(&mut list, kind, case % 2 == 1, &samples);
+        }
+    }
+    list
+}
+
+/// A refusal or 0, the values that the kind carries, the quantized model and its score.
+fn push_fit(list: &mut List, kind: u8, high: bool, samples: &[[f64; 4]]) {
+    let carried = [2, 4, 6][usize::from(kind) - 1];
+    let Some(model) = oracle::fit(kind, samples) else {
+        list.push(SINGULAR);
+        (0..carried).for_each(|_| list.push_float(0.0));
+        (0..6).for_each(|_| list.push(0));
+        list.push_float(0.0);
+        return;
+    };
+    list.push(0);
+    model[..carried].iter().for_each(|&value| list.push_float(value));
+    let params = oracle::quantize_model(&model, kind, high, samples);
+    params.iter().for_each(|&param| list.push_signed(param));
+    list.push_float(oracle::score(&params, samples));
+}
+
+/// Entries that make pivots tie, vanish or lie about 1e-9, and entries that aren't finite.
+fn entries(lcg: &mut Lcg, flavour: u16) -> f64 {
+    let small = f64::from(lcg.below(7)) - 3.0;
+    let near = f64::from_bits((1e-9f64).to_bits() - 3 + u64::from(lcg.below(7)));
+    let signed = |value: f64, turn: u16| if turn == 0 { -value } else { value };
+    match flavour {
+        0 => small,
+        1 => signed(near, lcg.below(2)),
+        2 => small * signed(near, lcg.below(2)),
+        3 => (f64::from(lcg.step()) - 32768.0) / 8.0,
+        4 => [f64::NAN, f64::INFINITY, f64::NEG_INFINITY, 0.0, -0.0, 1.0, -1.0, 1e300][usize::from(lcg.below(8))],
+        5 => f64::from_bits(u64::from(lcg.word()) << 32 | u64::from(lcg.word())),
+        _ => if lcg.below(4) == 0 { small } else { 0.0 },
+    }
+}
+
+fn systems() -> List {
+    const FLAVOURS: u16 = 7;
+    const EACH: u32 = 90;
+    let mut lcg = Lcg(SEED);
+    let mut list = List::default();
+    list.push(2 * u32::from(FLAVOURS) * EACH);
+    for size in [3, 4] {
+        for flavour in 0..FLAVOURS {
+            for _ in 0..EACH {
+                push_system(&mut list, &mut lcg, size, flavour);
+            }
+        }
+    }
+    list
+}
+
+/// The size, sixteen entries row by row, four right sides, a refusal or 0, four unknowns.
+/// What a system of three doesn't use is there too, and is 1e9.
+fn push_system(list: &mut List, lcg: &mut Lcg, size: usize, flavour: u16) {
+    let used = |lcg: &mut Lcg, is: bool| if is { entries(lcg, flavour) } else { 1e9 };
+    let a: [[f64; 4]; 4] = std::array::from_fn(|row| std::array::from_fn(|col| used(lcg, row < size && col < size)));
+    let b: [f64; 4] = std::array::from_fn(|row| used(lcg, row < size));
+    let x = if size == 4 {
+        oracle::solve4(a, b)
+    } else {
+        let a3 = std::array::from_fn(|row| std::array::from_fn(|col| a[row][col]));
+        oracle::solve3(a3, std::array::from_fn(|row| b[row])).map(|x| [x[0], x[1], x[2], 0.0])
+    };
+    list.push(size as u32);
+    a.iter().flatten().chain(&b).for_each(|&value| list.push_float(value));
+    list.push(if x.is_none() { SINGULAR } else { 0 });
+    x.unwrap_or([0.0; 4]).iter().for_each(|&value| list.push_float(value));
+}
+
+/// Ties, limits and specials with both neighbours and both signs, and random bits.
+fn grid_numbers() -> List {
+    const SCALE: f64 = 65536.0;
+    const RANDOM: usize = 2000;
+    let mut lcg = Lcg(SEED);
+    let mut middles = vec![0.0, f64::MIN_POSITIVE, f64::from_bits(1), f64::MAX, f64::INFINITY, f64::NAN];
+    for whole in (0..100u32).chain([4095, 65535, 65536, 1 << 20, (1 << 31) - 2, (1 << 31) - 1, 1 << 31, u32::MAX]) {
+        middles.extend([f64::from(whole) / SCALE, (f64::from(whole) + 0.5) / SCALE]);
+    }
+    middles.extend((20..1024).step_by(7).map(|power| 2f64.powi(power)));
+    middles.extend((0..RANDOM).map(|_| f64::from_bits(u64::from(lcg.word()) << 32 | u64::from(lcg.word()))));
+    middles.extend((0..RANDOM).map(|_| f64::from(lcg.word()) / 8.0 / SCALE));
+    let mut list = List::default();
+    let neighbours = |x: f64| [x.next_down(), x, x.next_up()].into_iter().flat_map(|y| [y, -y]);
+    let values = middles.into_iter().flat_map(neighbours).collect::<Vec<_>>();
+    list.push(values.len() as u32);
+    for value in values {
+        list.push_float(value);
+        list.push_signed(oracle::grid_number(value));
+    }
+    list
+}
