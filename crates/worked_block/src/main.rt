@@ -1,7 +1,7 @@
 // Replays the list of stored frames: words made from a seed are stored, the blocks are changed and
 // read, and answers and lent buffers are compared with those of the list's maker, which knows
 // document 01 alone.
-ghost use Prim.Native.Nat.{_≤_, _<_, _+_};
+ghost use Prim.Native.Nat.{_≤_, _<_};
 ghost use mathlib.Core.Path.{_≡_};
 ghost use lib.ListN.{length};
 
@@ -12,7 +12,7 @@ const UNTOUCHED_WORD: u32 = 2779096485;
 const PLACES: u32 = 4096;
 
 // What a case asks.
-struct Asked {
+struct Case {
     frame: u16,
     samples: usize,
     seed: u32,
@@ -67,12 +67,16 @@ fn fill_words(words: &mut [u32]) {
     }
 }
 
+fn wide(byte: u8) -> u32 {
+    byte as u32
+}
+
 // A sum that depends on the order.
 fn sum_of_bytes(bytes: &[u8]) -> u32 {
     let mut sum = 1u32;
     let mut i = 0;
     while i < bytes.len() {
-        sum = replay::next_state(std::num::wrapping_add_u32(sum, bytes[i] as u32));
+        sum = replay::next_state(std::num::wrapping_add_u32(sum, wide(bytes[i])));
         i += 1;
     }
     sum
@@ -88,17 +92,18 @@ fn sum_of_words(words: &[u32]) -> u32 {
     sum
 }
 
+// The remainder of n, or 0 by 0.
 fn below(n: u32, step: u32) -> u32
-    requires { ⌜ 0 < step ⌝ }
-    ensures { λ r. ⌜ r < step ⌝ }
+    ensures { λ r. ⌜ r ≤ n ⌝ }
 {
+    if step == 0 {
+        return 0;
+    }
     n % step
 }
 
 // Fills words whose places rise by about `step`.
-fn make_words(seed: u32, step: u32, words: &mut [u32])
-    requires { ⌜ (0 < step) × (step ≤ 4096) ⌝ }
-{
+fn make_words(seed: u32, step: u32, words: &mut [u32]) {
     let mut state = seed;
     let mut base = 0u32;
     let mut i = 0;
@@ -115,22 +120,16 @@ fn make_words(seed: u32, step: u32, words: &mut [u32])
             number(u) % 447,
             (number(state) % 4) as u8,
         );
-        base = (base % PLACES + step) % PLACES;
+        base = (base % PLACES + step % PLACES) % PLACES;
         i += 1;
     }
 }
 
-fn step_of(samples: usize) -> u32
-    ensures { λ r. ⌜ (0 < r) × (r ≤ 4096) ⌝ }
-{
+fn step_of(samples: usize) -> u32 {
     if samples == 0 {
         return 1;
     }
-    let step = least(4096 / samples, 4096);
-    if step == 0 {
-        return 1;
-    }
-    step as u32
+    least(4096 / samples, 4096) as u32
 }
 
 fn change_word(words: &mut [u32], at: usize, bits: u32) {
@@ -155,8 +154,11 @@ fn wrapping_sum(words: &[u32]) -> u32 {
     sum
 }
 
-// Puts the right check into the block that holds byte `at`.
-fn mend(bytes: &mut [u8], at: usize) {
+// Puts the right check into the block that holds byte `at`, where that is asked for.
+fn mend(asked: u32, bytes: &mut [u8], at: usize) {
+    if asked == 0 {
+        return;
+    }
     let start = at / 512 * 512;
     if bytes.len() < 512 {
         return;
@@ -165,19 +167,17 @@ fn mend(bytes: &mut [u8], at: usize) {
         return;
     }
     let block = form1::block_in(&bytes[start..]);
-    let check = wrapping_sum(&block[..127]);
-    bytes[start + 508] = (check / 16777216) as u8;
-    bytes[start + 509] = (check / 65536 % 256) as u8;
-    bytes[start + 510] = (check / 256 % 256) as u8;
-    bytes[start + 511] = (check % 256) as u8;
+    let check = [wrapping_sum(&block[0..127])];
+    let place = start + 508;
+    form1::words::write_words(&check, &mut bytes[place..]);
 }
 
 fn size(list: i32) -> usize {
     replay::next_word(list) as usize
 }
 
-fn asked(list: i32) -> Asked {
-    Asked {
+fn next_case(list: i32) -> Case {
+    Case {
         frame: (replay::next_word(list) % 65536) as u16,
         samples: size(list),
         seed: replay::next_word(list),
@@ -198,7 +198,7 @@ fn stores(list: i32, frame: u16, room: usize, words: &[u32], blocks: &mut [u8]) 
     let count = size(list);
     let sum = replay::next_word(list);
     let end = least(room, blocks.len());
-    let stored = block::write_frame(frame, words, &mut blocks[..end]);
+    let stored = block::write_frame(frame, words, &mut blocks[0..end]);
     stored.refusal == refusal && stored.blocks == count && sum_of_bytes(blocks) == sum
 }
 
@@ -210,34 +210,45 @@ fn reads(list: i32, given: usize, room: usize, blocks: &[u8], words: &mut [u32])
     let sum = replay::next_word(list);
     let from = least(given, blocks.len());
     let end = least(room, words.len());
-    let read = block::read_frame(&blocks[..from], &mut words[..end]);
+    let read = block::read_frame(&blocks[0..from], &mut words[0..end]);
     read.refusal == refusal
         && read.frame as u32 == frame
         && read.samples == samples
         && sum_of_words(words) == sum
 }
 
-fn replay_one(list: i32, words: &mut [u32], blocks: &mut [u8]) -> bool {
-    let a = asked(list);
-    let samples = least(a.samples, words.len());
-    make_words(a.seed, step_of(samples), &mut words[..samples]);
-    change_word(&mut words[..samples], a.changed_word, a.word_bits);
+// Makes the words of a case, one of them changed.
+fn made(a: Case, words: &mut [u32]) {
+    make_words(a.seed, step_of(words.len()), words);
+    change_word(words, a.changed_word, a.word_bits);
+}
+
+// Stores the words, compares, and changes the blocks.
+fn stored(list: i32, a: Case, words: &[u32], blocks: &mut [u8]) -> bool {
     fill_bytes(blocks);
-    let stored = stores(list, a.frame, a.block_room, &words[..samples], blocks);
+    let right = stores(list, a.frame, a.block_room, words, blocks);
     change_byte(blocks, a.changed_byte, a.byte_bits);
-    if a.mended != 0 {
-        mend(blocks, a.changed_byte);
-    }
+    mend(a.mended, blocks, a.changed_byte);
+    right
+}
+
+fn replay_one(list: i32, words: &mut [u32], blocks: &mut [u8]) -> bool {
+    let a = next_case(list);
+    let samples = least(a.samples, words.len());
+    made(a, &mut words[0..samples]);
+    let stores_right = stored(list, a, &words[0..samples], blocks);
     fill_words(words);
-    let read = reads(list, a.given, a.word_room, blocks, words);
-    stored && read
+    let reads_right = reads(list, a.given, a.word_room, blocks, words);
+    stores_right && reads_right
 }
 
 // 1 for a case that failed, which gets a line.
-fn failures_at(list: i32, case: u64, words: &mut [u32], blocks: &mut [u8]) -> u64
+fn failures_at(list: i32, case: u64) -> u64
     ensures { λ r. ⌜ r ≤ 1 ⌝ }
 {
-    if replay_one(list, words, blocks) {
+    let mut words = no_words();
+    let mut blocks = no_bytes();
+    if replay_one(list, &mut words, &mut blocks) {
         return 0;
     }
     replay::print_failure(b"block", case);
@@ -245,12 +256,10 @@ fn failures_at(list: i32, case: u64, words: &mut [u32], blocks: &mut [u8]) -> u6
 }
 
 fn failures(list: i32, count: u64) -> u64 {
-    let mut words = no_words();
-    let mut blocks = no_bytes();
     let mut failed = 0u64;
     let mut case = 0u64;
     while case < count {
-        failed += failures_at(list, case, &mut words, &mut blocks);
+        failed += failures_at(list, case);
         case += 1;
     }
     failed

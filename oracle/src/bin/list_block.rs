@@ -67,7 +67,9 @@ fn cases() -> Vec<Case> {
             cases.push(Case { given: exact - 1, ..case });
             cases.push(Case { given: exact - 512, ..case });
             cases.push(Case { given: 1, ..case });
-            for (changed_word, word_bits) in [(0, 0x000f_f800), (n - 1, 0x0000_07fc), (n - 1, 0xfff0_0000), (n / 2, 0x0010_0000), (0, 3)] {
+            for (changed_word, word_bits) in
+                [(0, 0x000f_f800), (n - 1, 0x0000_07fc), (n - 1, 0xfff0_0000), (n / 2, 0x0010_0000), (0, 3)]
+            {
                 cases.push(Case { changed_word, word_bits, ..case });
             }
         }
