@@ -63,22 +63,22 @@ pub record Worked : Type 0 where
 pub worked : Worked
 unfolding quantize nearestOrdinal symbolOf placeOf putBit bitLength nsBits subexpBits codeOf typesOver modelsWrong modelWrong slotWrong filler priorsOut coefficientBits headerBits referenceBits pairBits writeRefusal written headerAfter
 worked =
-    record
-      { centre = refl
-      ; tie-above = refl
-      ; tie-below = refl
-      ; beyond-the-last = refl
-      ; least = refl
-      ; below-half = refl
-      ; half = refl
-      ; negative-half = refl
-      ; ordinal-0 = refl
-      ; ordinal-1 = refl
-      ; ordinal-less-1 = refl
-      ; ordinal-4 = refl
-      ; ordinal-512 = refl
-      ; far-prior = refl
-      ; last-of-slot-3 = refl
-      ; header-bits = refl
-      ; header-bytes = refl
-      }
+    record {
+      centre = refl;
+      tie-above = refl;
+      tie-below = refl;
+      beyond-the-last = refl;
+      least = refl;
+      below-half = refl;
+      half = refl;
+      negative-half = refl;
+      ordinal-0 = refl;
+      ordinal-1 = refl;
+      ordinal-less-1 = refl;
+      ordinal-4 = refl;
+      ordinal-512 = refl;
+      far-prior = refl;
+      last-of-slot-3 = refl;
+      header-bits = refl;
+      header-bytes = refl;
+    }
