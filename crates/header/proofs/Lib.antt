@@ -1,2 +1,4 @@
 pub mod Coefficient
 pub mod Worked
+pub mod Reference
+pub mod RoundTrip

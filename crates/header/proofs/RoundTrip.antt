@@ -1,0 +1,161 @@
+-- What was written is read back: the same models and the same count, at the start where it was written; and how long a header is at most.
+-- Assumes nothing.
+use Prim.Native.Nat.{ℕ, zero, suc, _+_, _-_, _*_, _/_, _%_, _≤_, _<_}
+use mathlib.Core.Bool.{Bool, true, false, not}
+use mathlib.Core.List.{List, [], _∷_, _++_}
+use mathlib.Core.Path.{_≡_, refl, ap, sym, subst, _∙_}
+use native.Mathlib.Numerals.{add-one}
+use native.Mathlib.Omega.{arith}
+use borrow.Author.Tests.{ltb-false}
+use lib.Dec.{lit<, lit≤}
+use lib.IntN.{ℤ, pos}
+use lib.ListN.{length, getD, take, drop, length-append}
+use lib.Seq.{take-all, take-add, drop-cons, drop-drop}
+use Rattle.laws.specs.Refusal.{choose}
+use Rattle.laws.proofs.Below.{each-fails}
+use Rattle.bits.specs.Bits.{Holds, AreBits, bitAt, putBits}
+use Rattle.bits.specs.Fields.{padBits, padding}
+use Rattle.bits.proofs.Buffer.{bitAt-lt, holds-front, holds-back, bits-append, putBits-holds}
+use Rattle.bits.proofs.Fields.{fieldBits-are-bits, length-fieldBits, padding-lt}
+use Rattle.grid.specs.Grid.{absBits, precBits, centre, Codable, quantized}
+use Rattle.grid.proofs.Table.{row-codable}
+use Rattle.legal.specs.Integers.{equal}
+use Rattle.legal.specs.Models.{carries, filler, slotWrong, slotAt, modelWrong, modelAt, modelsWrong, priorAt, priorsOut, typeAt, typesOver}
+use Rattle.legal.proofs.Integers.{same-equal}
+use Rattle.header.specs.Reading.{ReadModel, ReadModels, referenceRead, referencesRead, modelsRead}
+use Rattle.header.specs.Valid.{ValidModel, ValidPrior, sixOf}
+use Rattle.header.specs.Writing.{slotOf, referenceBits, referencesBits, headerBits, placed, bytesFor}
+use Rattle.header.proofs.Reference.{reference-back, reference-bits, at-most-141-bits}
+
+-- ---- what the refusals leave
+
+right : (b : Bool) → not b ≡ false → b ≡ true
+right true e = refl
+right false e = sym e
+
+module _ (types : List ℕ) (flag : ℕ) (ps : List ℤ) (r : ℕ) where
+  pub valid-model : r < length types → typesOver types ≡ false → modelsWrong types flag ps ≡ false → ValidModel (getD types r 0) flag ps (6 * r)
+  unfolding typesOver modelsWrong modelWrong slotWrong
+  valid-model h known wrong =
+      record {
+        known = ltb-false 3 (getD types r 0) (each-fails (typeAt types) (length types) known r h);
+        carried = λ slot l c.
+            let e : slotOf ps (6 * r) slot ≡ quantized (getD types r 0) flag slot (slotOf ps (6 * r) slot) = rw c at (own slot l) in
+            subst (Codable (absBits (getD types r 0) flag slot) (precBits (getD types r 0) flag slot) (centre slot)) (sym e) (row-codable (getD types r 0) flag slot (slotOf ps (6 * r) slot));
+        filled = λ slot l c. rw c at (own slot l);
+      }
+    where
+      own : (slot : ℕ) → slot < 6 → slotOf ps (6 * r) slot ≡ choose (carries (getD types r 0) slot) (quantized (getD types r 0) flag slot (slotOf ps (6 * r) slot)) (filler (getD types r 0) slot (slotOf ps (6 * r) 2) (slotOf ps (6 * r) 3))
+      own slot l =
+          let e : slotAt (getD types r 0) flag ps (6 * r) slot ≡ false = each-fails (slotAt (getD types r 0) flag ps (6 * r)) 6 (each-fails (modelAt types flag ps) (length types) wrong r h) slot l in
+          same-equal (slotOf ps (6 * r) slot) (choose (carries (getD types r 0) slot) (quantized (getD types r 0) flag slot (slotOf ps (6 * r) slot)) (filler (getD types r 0) slot (slotOf ps (6 * r) 2) (slotOf ps (6 * r) 3)))
+          (right (equal (slotOf ps (6 * r) slot) (choose (carries (getD types r 0) slot) (quantized (getD types r 0) flag slot (slotOf ps (6 * r) slot)) (filler (getD types r 0) slot (slotOf ps (6 * r) 2) (slotOf ps (6 * r) 3)))) e)
+
+pub valid-prior : (qs : List ℤ) (r : ℕ) → 6 * r + 6 ≤ length qs → priorsOut qs ≡ false → ValidPrior qs (6 * r)
+unfolding priorsOut
+valid-prior qs r h e =
+    record {
+      within = λ slot l.
+          let m : (6 * r + slot) % 6 ≡ slot = omega arith in
+          rw m at (each-fails (priorAt qs) (length qs) e (6 * r + slot) (omega arith));
+    }
+
+-- ---- seven references
+
+taken-at : (ps : List ℤ) (k n o : ℕ) → k + o < length ps → take (suc n) (drop (k + o) ps) ≡ getD ps (k + o) (pos 0) ∷ take n (drop (k + suc o) ps)
+taken-at ps k n o h =
+    let e : k + suc o ≡ suc (k + o) = omega arith in
+    rw (e, drop-cons ps (k + o) (pos 0) h)
+
+-- six numbers of a list
+six-taken : (ps : List ℤ) (k : ℕ) → k + 6 ≤ length ps → take 6 (drop k ps) ≡ sixOf ps k
+six-taken ps k h =
+    let front : ℤ → List ℤ → List ℤ = λ z l. z ∷ l in
+    ap (λ (i : ℕ). take 6 (drop i ps)) (let e : k ≡ k + 0 = omega arith in e)
+    ∙ taken-at ps k 5 0 (omega arith)
+    ∙ ap (front (slotOf ps k 0)) (taken-at ps k 4 1 (omega arith)
+    ∙ ap (front (slotOf ps k 1)) (taken-at ps k 3 2 (omega arith)
+    ∙ ap (front (slotOf ps k 2)) (taken-at ps k 2 3 (omega arith)
+    ∙ ap (front (slotOf ps k 3)) (taken-at ps k 1 4 (omega arith)
+    ∙ ap (front (slotOf ps k 4)) (taken-at ps k 0 5 (omega arith))))))
+
+six-more : (ps : List ℤ) (n r : ℕ) → 6 * r + 6 ≤ length ps → take (6 * suc n) (drop (6 * r) ps) ≡ sixOf ps (6 * r) ++ take (6 * n) (drop (6 * (r + 1)) ps)
+six-more ps n r h =
+    let m : 6 * suc n ≡ 6 + 6 * n = omega arith in
+    let e : 6 * (r + 1) ≡ 6 * r + 6 = omega arith in
+    rw (m, take-add 6 (6 * n) (drop (6 * r) ps), six-taken ps (6 * r) h, drop-drop 6 (6 * r) ps, e)
+
+one-more : (types : List ℕ) (n r : ℕ) → r < length types → take (suc n) (drop r types) ≡ getD types r 0 ∷ take n (drop (r + 1) types)
+one-more types n r h = rw (add-one r, drop-cons types r 0 h)
+
+module _ (flag : ℕ) (types : List ℕ) (ps qs : List ℤ) where
+  pub references-bits : (n r : ℕ) → AreBits (referencesBits flag ps qs types n r)
+  references-bits zero r = tt
+  references-bits (suc n) r =
+      bits-append (referenceBits flag ps qs (getD types r 0) (6 * r)) (referencesBits flag ps qs types n (r + 1)) (reference-bits flag ps qs (6 * r) (getD types r 0)) (references-bits n (r + 1))
+
+  references-length : (n r : ℕ) → length (referencesBits flag ps qs types n r) ≤ 141 * n
+  references-length zero r = lit≤ tt
+  references-length (suc n) r =
+      omega (
+        arith,
+        length-append (referenceBits flag ps qs (getD types r 0) (6 * r)) (referencesBits flag ps qs types n (r + 1)),
+        at-most-141-bits flag ps qs (6 * r) (getD types r 0),
+        references-length n (r + 1),
+      )
+
+  pub at-most-987-bits : length (headerBits types ps flag qs) ≤ 987
+  unfolding headerBits
+  at-most-987-bits = references-length 7 0
+
+  pub header-bits : AreBits (headerBits types ps flag qs)
+  unfolding headerBits
+  header-bits = references-bits 7 0
+
+  -- 124 bytes suffice
+  pub at-most-124-bytes : bytesFor 0 (length (headerBits types ps flag qs)) ≤ 124
+  at-most-124-bytes = omega (arith, at-most-987-bits)
+
+-- the refusals of a writing call that don't hold
+pub record Writable (types : List ℕ) (ps : List ℤ) (flag : ℕ) (qs : List ℤ) : Type 0 where
+  pub seven : length types ≡ 7
+  pub models : length ps ≡ 42
+  pub priors : length qs ≡ 42
+  pub known : typesOver types ≡ false
+  pub right : modelsWrong types flag ps ≡ false
+  pub within : priorsOut qs ≡ false
+
+module _ (types : List ℕ) (ps : List ℤ) (flag : ℕ) (qs : List ℤ) (w : Writable types ps flag qs) where
+  references-back : (g : ℕ → ℕ) → ((i : ℕ) → g i < 2) → (n r j : ℕ) → r + n ≤ 7 → Holds g j (referencesBits flag ps qs types n r)
+      → referencesRead g flag qs n r j ≡ record { types = take n (drop r types); params = take (6 * n) (drop (6 * r) ps); bits = length (referencesBits flag ps qs types n r) }
+  references-back g bits zero r j l h = refl
+  references-back g bits (suc n) r j l h =
+      let seven : length types ≡ 7 = w .seven in
+      let models : length ps ≡ 42 = w .models in
+      let priors : length qs ≡ 42 = w .priors in
+      let xs : List ℕ = referenceBits flag ps qs (getD types r 0) (6 * r) in
+      let ys : List ℕ = referencesBits flag ps qs types n (r + 1) in
+      let m : referenceRead g flag qs (6 * r) j ≡ record { gmType = getD types r 0; six = sixOf ps (6 * r); bits = length xs } =
+      reference-back g bits flag ps qs (6 * r) (valid-prior qs r (omega arith) (w .within)) (getD types r 0) j (valid-model types flag ps r (omega arith) (w .known) (w .right)) (holds-front g j xs ys h) in
+      let rest : referencesRead g flag qs n (r + 1) (j + length xs) ≡ record { types = take n (drop (r + 1) types); params = take (6 * n) (drop (6 * (r + 1)) ps); bits = length ys } =
+      references-back g bits n (r + 1) (j + length xs) (omega arith) (holds-back g j xs ys h) in
+      rw (m, rest, length-append xs ys, six-more ps n r (omega arith), one-more types n r (omega arith))
+
+  -- reading by the standard from where the bits stand
+  pub read-back : (header : List ℕ) (at : ℕ) → Holds (bitAt header) at (headerBits types ps flag qs)
+      → modelsRead header at flag qs ≡ record { types = types; params = ps; bits = length (headerBits types ps flag qs) }
+  unfolding modelsRead headerBits
+  read-back header at h =
+      references-back (bitAt header) (bitAt-lt header) 7 0 at (lit≤ tt) h
+      ∙ rw (take-all 7 types (omega (arith, w .seven)), take-all 42 ps (omega (arith, w .models)))
+
+  -- written from `start` on, then read there: the same models and the same count
+  pub round-trip : (start : ℕ) (old : List ℕ) → bytesFor start (length (headerBits types ps flag qs)) ≤ length old
+      → modelsRead (placed start (headerBits types ps flag qs) old) start flag qs ≡ record { types = types; params = ps; bits = length (headerBits types ps flag qs) }
+  round-trip start old room =
+      let xs : List ℕ = headerBits types ps flag qs in
+      let pad : List ℕ = padBits (start + length xs) in
+      read-back (placed start xs old) start
+      (holds-front (bitAt (placed start xs old)) start xs pad
+      (putBits-holds old start (xs ++ pad) (bits-append xs pad (header-bits flag types ps qs) (fieldBits-are-bits (padding (start + length xs)) 0))
+      (omega (arith, length-append xs pad, length-fieldBits (padding (start + length xs)) 0))))
