@@ -1,0 +1,177 @@
+// Tries the two forms of `lent` against the core they stand over, on inputs from the generator: a bit,
+// a field and an ns code by a reader against the cursor, and the score of lent samples against that of
+// their words.
+ghost use Prim.Native.Nat.{_≤_, _<_};
+use bits::BitCursor;
+use sample::MotionSample;
+
+const READS: u64 = 4000;
+
+const SCORES: u64 = 2000;
+
+const BYTES: usize = 24;
+
+const WORDS: usize = 64;
+
+// The upper half of a state.
+fn upper(state: u32) -> u32
+    ensures { λ r. ⌜ r < 65536 ⌝ }
+{
+    state / 65536
+}
+
+fn bytes_from(seed: u32) -> [u8; 24] {
+    let mut bytes = [0u8; 24];
+    let mut state = seed;
+    let mut i = 0usize;
+    while i < BYTES {
+        state = replay::next_state(state);
+        bytes[i] = (upper(state) % 256) as u8;
+        i += 1;
+    }
+    bytes
+}
+
+fn words_from(seed: u32) -> [u32; 64] {
+    let mut words = [0u32; 64];
+    let mut state = seed;
+    let mut i = 0usize;
+    while i < WORDS {
+        state = replay::next_state(state);
+        let high = upper(state);
+        state = replay::next_state(state);
+        words[i] = high * 65536 + upper(state);
+        i += 1;
+    }
+    words
+}
+
+fn samples_of(words: [u32; 64]) -> [MotionSample; 64] {
+    let first = sample::sample_of(words[0]);
+    let mut samples = [first; 64];
+    let mut i = 0usize;
+    while i < WORDS {
+        samples[i] = sample::sample_of(words[i]);
+        i += 1;
+    }
+    samples
+}
+
+// A number of slot 2 or 5, within 8,192 of one.
+fn about_one(state: u32) -> i32 {
+    (57344 + upper(state) % 16385) as i32
+}
+
+// A number of slot 3 or 4.
+fn small(state: u32) -> i32 {
+    (upper(state) % 8193) as i32
+}
+
+fn params_from(seed: u32) -> [i32; 6] {
+    let a = replay::next_state(seed);
+    let b = replay::next_state(a);
+    let c = replay::next_state(b);
+    let d = replay::next_state(c);
+    let e = replay::next_state(d);
+    let f = replay::next_state(e);
+    let x = replay::signed(a);
+    let y = replay::signed(b);
+    [x, y, about_one(c), small(d), small(e), about_one(f)]
+}
+
+// The reader's answers are the cursor's, also past the end of the bytes.
+fn reads_agree(bytes: [u8; 24], at: usize, width: u32, symbols: u32) -> bool
+    requires { ⌜ (at < 65536) × (width ≤ 32) × (0 < symbols) × (symbols ≤ 65536) ⌝ }
+{
+    let lent = lent::read_in_turn(&bytes, at, width, symbols);
+    let cursor = BitCursor { at };
+    let bit = cursor.read_bit(&bytes);
+    let second = bit.next;
+    let field = second.f(&bytes, width);
+    let third = field.next;
+    let symbol = third.ns(&bytes, symbols);
+    let end = symbol.next;
+    lent.bit == bit.value
+        && lent.field == field.value
+        && lent.symbol == symbol.value
+        && lent.at == end.at
+}
+
+fn read_case(case: u64) -> bool {
+    let seed = replay::next_state((case % 0x1_0000_0000) as u32);
+    let at = replay::next_state(seed);
+    let width = replay::next_state(at);
+    let symbols = replay::next_state(width);
+    let bytes = bytes_from(symbols);
+    reads_agree(
+        bytes,
+        (upper(at) % 240) as usize,
+        upper(width) % 33,
+        upper(symbols) + 1,
+    )
+}
+
+fn same(a: f64, b: f64) -> bool {
+    a == b || (a != a && b != b)
+}
+
+// The score of the first n samples is the score of their words.
+fn scores_agree(params: [i32; 6], words: [u32; 64], n: usize) -> bool
+    requires { ⌜ n ≤ 64 ⌝ }
+{
+    let lent = lent::mean_sq_residual_of_first(params, samples_of(words), n);
+    let core = model::mean_sq_residual(params, &words[..n]);
+    lent.refusal == core.refusal && same(lent.score, core.score)
+}
+
+fn score_case(case: u64) -> bool {
+    let seed = replay::next_state((case % 0x1_0000_0000) as u32);
+    let n = replay::next_state(seed);
+    scores_agree(params_from(seed), words_from(n), (upper(n) % 65) as usize)
+}
+
+// 1 for a case that failed, which gets a line.
+fn failed_read(case: u64) -> u64
+    ensures { λ r. ⌜ r ≤ 1 ⌝ }
+{
+    if read_case(case) {
+        return 0;
+    }
+    replay::print_failure(b"reads", case);
+    1
+}
+
+fn failed_score(case: u64) -> u64
+    ensures { λ r. ⌜ r ≤ 1 ⌝ }
+{
+    if score_case(case) {
+        return 0;
+    }
+    replay::print_failure(b"scores", case);
+    1
+}
+
+fn failed_reads(count: u64) -> u64 {
+    let mut failed = 0u64;
+    let mut case = 0u64;
+    while case < count {
+        failed += failed_read(case);
+        case += 1;
+    }
+    failed
+}
+
+fn failed_scores(count: u64) -> u64 {
+    let mut failed = 0u64;
+    let mut case = 0u64;
+    while case < count {
+        failed += failed_score(case);
+        case += 1;
+    }
+    failed
+}
+
+fn main() {
+    replay::print_count(b"reads", READS, failed_reads(READS));
+    replay::print_count(b"scores", SCORES, failed_scores(SCORES));
+}
