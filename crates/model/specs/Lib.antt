@@ -1,2 +1,1 @@
-pub mod Quantize
-pub mod OnGrid
+pub mod Score

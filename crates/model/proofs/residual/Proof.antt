@@ -1,0 +1,14 @@
+-- `model::residual` meets its contract: the same operations in the same order.
+-- Assumes nothing.
+use mathlib.Core.Path.{refl}
+use Rattle.model.specs.Score.{residualOf}
+use borrow.Author.Needs.{needs}
+use Rattle.model.proofs.residual.Statement.{statement}
+use Rattle.model.proofs.residual.Tie as tie
+
+returns : tie.Need-returns
+unfolding residualOf
+returns c = refl
+
+pub residual-spec : {M : Type 1} → statement M
+residual-spec = tie.close (tie.spec returns)

@@ -1,0 +1,6 @@
+pub mod Slots
+pub mod Leftover
+pub mod OppositeSlots
+pub mod OnGrid
+pub mod NearestSlots
+pub mod Accepted

@@ -1,0 +1,64 @@
+-- `quantize::refit_sums` meets its contract: what is left to add, from here as from the first word.
+-- Assumes nothing.
+use Rattle.quantize.proofs.Leftover.{refit-sums}
+use Rattle.quantize.specs.Quantize.{refitStep}
+use Rattle.fit.specs.Sums.{reading}
+use Rattle.sample.specs.Sample.{sampleOf}
+use Rattle.laws.proofs.Fold.{fold-again, fold-done}
+use Rattle.laws.specs.Loops.{fold}
+use lib.ListN.{length, drop}
+use Prim.Native.Nat.{_-_}
+use mathlib.Core.Path.{_≡_, refl, _∙_, ap}
+use borrow.Author.Needs.{needs}
+use Rattle.quantize.proofs.refit_sums.Statement.{statement}
+use Rattle.quantize.proofs.refit_sums.Tie as tie
+
+abbrev Inv-loop : tie.InvT-loop
+Inv-loop m words t₀ i₀ t i = fold (reading (refitStep m) sampleOf) (drop i words) t ≡ fold (reading (refitStep m) sampleOf) words t₀
+
+abbrev μ-loop : tie.MeasureT-loop
+μ-loop m words t₀ i₀ t i = length words - i
+
+loop-holds : tie.Need-loop-holds Inv-loop μ-loop
+loop-holds c = refl
+
+mul-sample-of : tie.Need-mul-sample-of Inv-loop μ-loop
+mul-sample-of c = search needs
+
+shared-slice-read-sample-of : tie.Need-shared-slice-read-sample-of Inv-loop μ-loop
+shared-slice-read-sample-of c = search needs
+
+sample-of-requires : tie.Need-sample-of-requires Inv-loop μ-loop
+sample-of-requires c κs = search needs
+
+refit-step-requires : tie.Need-refit-step-requires Inv-loop μ-loop
+refit-step-requires c κs = search needs
+
+add-i : tie.Need-add-i Inv-loop μ-loop
+add-i c = search needs
+
+loop-less : tie.Need-loop-less Inv-loop μ-loop
+loop-less c = search needs
+
+loop-again : tie.Need-loop-again Inv-loop μ-loop
+loop-again c = fold-again (reading (refitStep (c .before .before .before .before .before .before .args .m)) sampleOf) (c .before .before .before .before .before .before .args .words .now) (c .before .before .before .before .loop .i) 0
+    (c .before .before .before .loop-test .taken) (c .refit-step .ensures ∙ ap (refitStep (c .before .before .before .before .before .before .args .m) (c .before .before .before .before .loop .t)) (c .before .sample-of .ensures)) (c .before .before .before .before .loop .inv)
+
+returns : tie.Need-returns Inv-loop μ-loop
+returns c = fold-done (reading (refitStep (c .before .before .before .args .m)) sampleOf) (c .before .before .before .args .words .now) (c .before .loop .i) (c .loop-test .left) (c .before .loop .inv) ∙ refit-sums (c .before .before .before .args .m) (c .before .before .before .args .words .now)
+
+pub refit-sums-spec : {M : Type 1} → statement M
+refit-sums-spec =
+    tie.close
+    (tie.spec
+    Inv-loop
+    μ-loop
+    loop-holds
+    mul-sample-of
+    shared-slice-read-sample-of
+    sample-of-requires
+    refit-step-requires
+    add-i
+    loop-less
+    loop-again
+    returns)

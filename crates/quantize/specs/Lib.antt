@@ -1,0 +1,2 @@
+pub mod Quantize
+pub mod OnGrid
