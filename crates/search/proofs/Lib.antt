@@ -1,3 +1,5 @@
 pub mod Rows
 pub mod Word
 pub mod Ending
+pub mod Range
+pub mod Words
