@@ -3,8 +3,8 @@
 // 'Header' (the row-first exchange), rows 1 and 4, and to `quantize_model` (encoder/global_motion.rs).
 use fit::Fitted;
 use fit::TranslationSums;
-use sample::MotionSample;
 use model::ContinuousModel;
+use sample::MotionSample;
 ghost use mathlib.Core.Path.{_≡_};
 ghost use Prim.Native.Nat.{_≤_};
 ghost use lib.IntN.{natAbs};
