@@ -2,6 +2,5 @@ pub mod Signs
 pub mod Nearest
 pub mod Fixed
 pub mod Table
-pub mod Worked
 pub mod Symbols
 pub mod Bounds
