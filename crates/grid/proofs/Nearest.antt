@@ -59,12 +59,7 @@ unfolding nearestOrdinal
 nearestOrdinal-le abs prec m = omega arith
 
 pub ordinal-in-range : (abs prec c : ℕ) (z : ℤ) → Ordinal abs (ordinalOf abs prec c z)
-ordinal-in-range abs prec c z =
-    record {
-      within =
-          rw (natAbs-signed (negative (z -ℤ pos c)) (nearestOrdinal abs prec (natAbs (z -ℤ pos c))))
-          (nearestOrdinal-le abs prec (natAbs (z -ℤ pos c)));
-    }
+ordinal-in-range abs prec c z = record { within = simp natAbs-signed (nearestOrdinal-le abs prec _) }
 
 pub quantized-codable : (abs prec c : ℕ) (z : ℤ) → Codable abs prec c (quantize abs prec c z)
 unfolding quantize
