@@ -3,11 +3,16 @@
 use Prim.Native.Nat.{ℕ, _+_, _≤_, _<_}
 use mathlib.Core.Bool.{false}
 use mathlib.Core.Path.{_≡_}
+use mathlib.Core.List.{List}
 use lib.IntN.{ℤ}
+use lib.ListN.{length}
+use Rattle.bits.specs.Fields.{fieldBits}
 use Rattle.grid.specs.Grid.{absBits, precBits, centre}
 use Rattle.grid.specs.Symbols.{symbols, symbolOf, priorOut}
-use Rattle.header.specs.Coefficient.{ReadNumber, place}
-use Rattle.header.specs.declared.Param.{Param}
+use Rattle.header.specs.Coefficient.{place}
+use Rattle.header.specs.Valid.{ValidPrior}
+use Rattle.header.specs.Writing.{typeBits}
+use Rattle.header.specs.declared.TypeField.{TypeField}
 use Rattle.header.specs.declared.Symbols.{Symbols}
 
 -- a prior in range, of a slot of a model
@@ -26,6 +31,13 @@ pub record SymbolIs (gmType flag slot : ℕ) (z : ℤ) (r : ℕ) : Type 0 where
   pub is : r ≡ symbolOf (absBits gmType flag slot) (precBits gmType flag slot) (centre slot) z
   pub below : r < symbols (absBits gmType flag slot)
 
-pub record ParamIs (r : Param) (t : ReadNumber) (j : ℕ) : Type 0 where
-  pub value : r .value ≡ t .value
-  pub next : r .next .at ≡ j + t .bits
+-- a model and its priors lie in their lists, and the priors are in range
+pub record ModelReady (ps qs : List ℤ) (first : ℕ) : Type 0 where
+  pub numbers : first + 6 ≤ length ps
+  pub places : first + 6 ≤ length qs
+  pub priors : ValidPrior qs first
+
+-- the type bits as a field
+pub record TypeFieldIs (gmType : ℕ) (r : TypeField) : Type 0 where
+  pub bits : fieldBits (r .n) (r .value) ≡ typeBits gmType
+  pub few : r .n ≤ 3

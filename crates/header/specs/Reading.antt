@@ -1,17 +1,13 @@
 -- Reading seven models by the standard from a bit position: document 01, 'Reading by the standard, written out'; clauses 5.9.24 and 5.9.25.
 -- Assumes nothing.
 use Prim.Native.Nat.{ℕ, zero, suc, _+_, _*_}
-use mathlib.Core.Bool.{Bool, not}
 use mathlib.Core.List.{List, [], _∷_, _++_}
-use lib.Dec.{ltb, eqb}
+use lib.Dec.{eqb}
 use lib.IntN.{ℤ, pos, negℤ}
-use lib.ListN.{length, replicate}
-use Rattle.laws.specs.Refusal.{row, choose, either, judge}
+use Rattle.laws.specs.Refusal.{choose}
 use Rattle.bits.specs.Bits.{bitAt}
-use Rattle.legal.specs.Models.{priorsOut}
 use Rattle.header.specs.Coefficient.{ReadNumber, coefficient}
 use Rattle.header.specs.Writing.{slotOf}
-use Rattle.header.specs.declared.Models.{Models}
 
 -- a type, six numbers, and how many bits were taken
 pub record ReadModel : Type 0 where
@@ -89,28 +85,3 @@ referencesRead g flag qs (suc n) r j =
 -- the seven models at position `at` of the bytes, and the bits that they take
 unfoldable pub modelsRead : List ℕ → ℕ → ℕ → List ℤ → ReadModels
 modelsRead header at flag qs = referencesRead (bitAt header) flag qs 7 0 at
-
--- ---- the public call
-
-unfoldable pub readRefusal : List ℕ → ℕ → ℕ → List ℤ → ℕ
-readRefusal header at flag qs =
-    judge
-    (row 2 (not (eqb (length qs) 42))
-    ∷ row 4 (ltb 1 flag)
-    ∷ row 8 (priorsOut qs)
-    ∷ row 9 (ltb (8 * length header) (at + modelsRead header at flag qs .bits))
-    ∷ [])
-
-abbrev pub noModels : ℕ → Models
-noModels n = record { refusal = n; types = replicate 7 0; params = replicate 42 (pos 0); bits = 0 }
-
-unfoldable pub models : List ℕ → ℕ → ℕ → List ℤ → Models
-models header at flag qs =
-    choose (eqb (readRefusal header at flag qs) 0)
-    (record {
-      refusal = 0;
-      types = modelsRead header at flag qs .types;
-      params = modelsRead header at flag qs .params;
-      bits = modelsRead header at flag qs .bits;
-    })
-    (noModels (readRefusal header at flag qs))

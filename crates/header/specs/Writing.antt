@@ -30,13 +30,16 @@ module _ (flag : ℕ) (ps qs : List ℤ) where
       coefficientBits gmType flag slot (slotOf ps first slot) (slotOf qs first slot)
       ++ coefficientBits gmType flag (slot + 1) (slotOf ps first (slot + 1)) (slotOf qs first (slot + 1))
 
+  abbrev pub affineBits : ℕ → ℕ → List ℕ
+  affineBits gmType first = pairBits gmType first 2 ++ (pairBits gmType first 4 ++ pairBits gmType first 0)
+
   -- slots 2, 3, for AFFINE 4, 5, then 0, 1
   abbrev pub modelBits : ℕ → ℕ → List ℕ
   modelBits gmType first =
       choose (eqb gmType 0) []
       (choose (eqb gmType 1) (pairBits gmType first 0)
       (choose (eqb gmType 2) (pairBits gmType first 2 ++ pairBits gmType first 0)
-      (pairBits gmType first 2 ++ (pairBits gmType first 4 ++ pairBits gmType first 0))))
+      (affineBits gmType first)))
 
   unfoldable pub referenceBits : ℕ → ℕ → List ℕ
   referenceBits gmType first = typeBits gmType ++ modelBits gmType first

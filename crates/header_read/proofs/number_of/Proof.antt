@@ -1,7 +1,7 @@
--- `header::number_of` meets its contract. Assumes nothing.
+-- `header_read::number_of` meets its contract. Assumes nothing.
 use borrow.Author.Needs.{needs}
-use Rattle.header.proofs.number_of.Statement.{statement}
-use Rattle.header.proofs.number_of.Tie as tie
+use Rattle.header_read.proofs.number_of.Statement.{statement}
+use Rattle.header_read.proofs.number_of.Tie as tie
 use mir.Syntax.{w32}
 use Rattle.laws.proofs.Signed.{result-reads}
 use mir.Facts.{toZ-ofZ}

@@ -1,7 +1,7 @@
--- `header::read_global_param` meets its contract. Assumes nothing.
+-- `header_read::read_global_param` meets its contract. Assumes nothing.
 use borrow.Author.Needs.{needs}
-use Rattle.header.proofs.read_global_param.Statement.{statement}
-use Rattle.header.proofs.read_global_param.Tie as tie
+use Rattle.header_read.proofs.read_global_param.Statement.{statement}
+use Rattle.header_read.proofs.read_global_param.Tie as tie
 use Prim.Native.Nat.{ℕ, _+_}
 use mathlib.Core.Path.{subst, _≡_}
 use mir.Syntax.{w32}
