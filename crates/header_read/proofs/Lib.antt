@@ -1,0 +1,2 @@
+pub mod Coefficient
+pub mod Composed
