@@ -1,10 +1,13 @@
 -- What the functions below the public call ask and answer.
 -- Assumes nothing.
 use Prim.Native.Nat.{ℕ, _+_, _*_, _^_, _≤_, _<_}
+use mathlib.Core.Bool.{false}
 use mathlib.Core.Path.{_≡_}
 use mathlib.Core.List.{List}
 use lib.IntN.{ℤ, natAbs}
-use lib.ListN.{length}
+use lib.ListN.{length, set}
+use Rattle.laws.specs.Placed.{placed}
+use Rattle.legal.specs.Models.{priorsOut}
 use Rattle.header.specs.Coefficient.{ReadNumber}
 use Rattle.header.specs.Reading.{ReadPair, ReadModel, ReadModels}
 use Rattle.header.specs.Valid.{ValidPrior}
@@ -20,10 +23,14 @@ pub record Ready (qs : List ℤ) (first at n : ℕ) : Type 0 where
   pub priors : ValidPrior qs first
   pub room : at + n < 2 ^ 64
 
--- all the priors are there and in range, and the positions of a header from `at` on are numbers of the machine
-pub record AllReady (qs : List ℤ) (at : ℕ) : Type 0 where
+-- all the priors are there and in range
+pub record PriorsReady (qs : List ℤ) : Type 0 where
   pub places : length qs ≡ 42
-  pub priors : (r : ℕ) → r < 7 → ValidPrior qs (6 * r)
+  pub within : priorsOut qs ≡ false
+
+-- and the positions of a header from `at` on are numbers of the machine
+pub record AllReady (qs : List ℤ) (at : ℕ) : Type 0 where
+  pub priors : PriorsReady qs
   pub room : at + 2048 < 2 ^ 64
 
 -- the number at position j, and the position behind it
@@ -51,6 +58,13 @@ pub record ModelIs (r : Model) (t : ReadModel) (j most : ℕ) : Type 0 where
   pub six : r .six ≡ t .six
   pub next : r .next .at ≡ j + t .bits
   pub near : r .next .at ≤ j + most
+
+-- the seven with the model t at reference r
+pub record NextIs (s seven : Seven) (t : ReadModel) (r : ℕ) : Type 0 where
+  pub types : s .types ≡ set (seven .types) r (t .gmType)
+  pub params : s .params ≡ placed (6 * r) (t .six) (seven .params)
+  pub next : s .next .at ≡ seven .next .at + t .bits
+  pub near : s .next .at ≤ seven .next .at + 141
 
 pub record SevenIs (r : Seven) (t : ReadModels) (j : ℕ) : Type 0 where
   pub types : r .types ≡ t .types

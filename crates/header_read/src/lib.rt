@@ -4,18 +4,22 @@
 // standard; `read_global_motion_params` and `read_global_param` of uncompressed_header_tail.rs.
 ghost use mathlib.Core.List.{[]};
 ghost use mathlib.Core.Path.{_≡_};
-ghost use Prim.Native.Nat.{_+_, _*_, _^_, _≤_, _<_};
+ghost use Prim.Native.Nat.{_+_, _-_, _*_, _^_, _≤_, _<_};
+ghost use lib.Dec.{ltb};
 ghost use lib.IntN.{natAbs, negℤ};
 ghost use lib.ListN.{length};
 ghost use Rattle.laws.specs.Placed.{placed};
+ghost use Rattle.laws.specs.Refusal.{choose};
 ghost use Rattle.bits.specs.Bits.{bitAt};
 ghost use Rattle.grid.specs.Grid.{absBits, precBits, centre};
 ghost use Rattle.grid.specs.Symbols.{symbols, numberOf};
 ghost use Rattle.header.specs.Coefficient.{coefficient};
 ghost use Rattle.header.specs.Contracts.{PriorIn};
-ghost use Rattle.header.specs.Reading.{pairRead, typeRead, typeLength, identityRead, translationRead, rotzoomRead, affineRead, modelRead, referenceRead};
+ghost use Rattle.header.specs.Reading.{pairRead, typeRead, typeLength, identityRead, translationRead, rotzoomRead, affineRead, modelRead, referenceRead, referencesRead, modelsRead};
 ghost use Rattle.header.specs.Writing.{slotOf};
-ghost use Rattle.header_read.specs.Contracts.{Ready, ParamIs, PairIs, TypeIs, ModelIs};
+ghost use Rattle.header_read.specs.Called.{noModels, within, models};
+ghost use Rattle.header_read.specs.Contracts.{Ready, AllReady, PriorsReady, ParamIs, PairIs, TypeIs, ModelIs, NextIs, SevenIs};
+use bits::BITS_OF_A_BYTE;
 use bits::BitCursor;
 
 const IDENTITY: u8 = 0;
@@ -25,6 +29,18 @@ const TRANSLATION: u8 = 1;
 const ROTZOOM: u8 = 2;
 
 const AFFINE: u8 = 3;
+
+// Six numbers for each of seven references.
+const NUMBERS: usize = 42;
+
+// Rows of document 01's table.
+const WRONG_LENGTH: u32 = 2;
+
+const NO_SUCH_CODE: u32 = 4;
+
+const PRIOR_OUT: u32 = 8;
+
+const ENDS_FIRST: u32 = 9;
 
 // A row of the table of refusals (0: none), the seven types and models, and the bits consumed.
 pub struct Models {
@@ -286,4 +302,106 @@ fn with_six(params: [i32; 42], first: usize, six: [i32; 6]) -> [i32; 42]
         i += 1;
     }
     out
+}
+
+// One reference more.
+fn read_next(seven: Seven, header: &[u8], flag: u8, prior: &[i32], r: usize) -> Seven
+    requires { ⌜ Ready (now prior) (6 * r) (seven .next .at) 512 × (r < 7) ⌝ }
+    ensures { λ s. ⌜ NextIs s seven (referenceRead (bitAt (now (header .entry))) flag (now (prior .entry)) (6 * r) (seven .next .at)) r ⌝ }
+{
+    let mut types = seven.types;
+    let params = seven.params;
+    let model = read_reference(seven.next, header, flag, prior, 6 * r);
+    let six = model.six;
+    let next = model.next;
+    types[r] = model.gm_type;
+    let with_model = with_six(params, 6 * r, six);
+    Seven {
+        types,
+        params: with_model,
+        next,
+    }
+}
+
+// The seven references.
+fn read_references(cursor: BitCursor, header: &[u8], flag: u8, prior: &[i32]) -> Seven
+    requires { ⌜ AllReady (now prior) (cursor .at) ⌝ }
+    ensures { λ r. ⌜ SevenIs r (referencesRead (bitAt (now (header .entry))) flag (now (prior .entry)) 7 0 (cursor .at)) (cursor .at) ⌝ }
+{
+    let types = [0u8; 7];
+    let params = [0i32; 42];
+    let mut seven = Seven {
+        types,
+        params,
+        next: cursor,
+    };
+    let mut r = 0usize;
+    while r < 7 {
+        seven = read_next(seven, header, flag, prior, r);
+        r += 1;
+    }
+    seven
+}
+
+fn no_models(refusal: u32) -> Models
+    ensures { λ r. ⌜ r ≡ noModels refusal ⌝ }
+{
+    let types = [0u8; 7];
+    let params = [0i32; 42];
+    Models {
+        refusal,
+        types,
+        params,
+        bits: 0,
+    }
+}
+
+// What was read from bit `start` of so many bytes, or row 9 where they end first.
+fn answer(seven: Seven, start: usize, bytes: usize) -> Models
+    requires { ⌜ (start ≤ seven .next .at) × (seven .next .at + 8 < 2 ^ 64) ⌝ }
+    ensures { λ r. ⌜ r ≡ choose (ltb (8 * bytes) (seven .next .at)) (noModels 9) (record { refusal = 0; types = seven .types; params = seven .params; bits = seven .next .at - start }) ⌝ }
+{
+    let types = seven.types;
+    let params = seven.params;
+    let next = seven.next;
+    let end = next.at;
+    if bytes < (end + 7) / BITS_OF_A_BYTE {
+        return no_models(ENDS_FIRST);
+    }
+    Models {
+        refusal: 0,
+        types,
+        params,
+        bits: end - start,
+    }
+}
+
+// From the byte of the position on, so that no position is too large a number.
+fn read_from(header: &[u8], at: usize, flag: u8, prior: &[i32]) -> Models
+    requires { ⌜ PriorsReady (now prior) ⌝ }
+    ensures { λ r. ⌜ r ≡ within (now (header .entry)) at (modelsRead (now (header .entry)) at flag (now (prior .entry))) ⌝ }
+{
+    let byte = at / BITS_OF_A_BYTE;
+    if header.len() <= byte {
+        return no_models(ENDS_FIRST);
+    }
+    let start = at % BITS_OF_A_BYTE;
+    let bytes = header.len() - byte;
+    let seven = read_references(BitCursor::new(start), &header[byte..], flag, prior);
+    answer(seven, start, bytes)
+}
+
+pub fn read_global_motion_params(header: &[u8], at: usize, flag: u8, prior: &[i32]) -> Models
+    ensures { λ r. ⌜ r ≡ models (now (header .entry)) at flag (now (prior .entry)) ⌝ }
+{
+    if prior.len() != NUMBERS {
+        return no_models(WRONG_LENGTH);
+    }
+    if 1 < flag {
+        return no_models(NO_SUCH_CODE);
+    }
+    if legal::priors_out(prior) {
+        return no_models(PRIOR_OUT);
+    }
+    read_from(header, at, flag, prior)
 }
