@@ -5,3 +5,6 @@ pub mod Rewritten
 pub mod Valid
 pub mod Shift
 pub mod Answers
+pub mod Count
+pub mod Cut
+pub mod RoundTrip

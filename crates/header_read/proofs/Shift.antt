@@ -18,11 +18,10 @@ use Rattle.header_read.proofs.Rewritten.{Again, rewritten}
 use Rattle.header_read.proofs.Valid.{all-priors, writable}
 
 -- the n bits of g from position j on are those of h from position k on
-pub Same : (ℕ → ℕ) → ℕ → (ℕ → ℕ) → ℕ → ℕ → Type 0
+abbrev pub Same : (ℕ → ℕ) → ℕ → (ℕ → ℕ) → ℕ → ℕ → Type 0
 Same g j h k n = (i : ℕ) → i < n → g (j + i) ≡ h (k + i)
 
 pub holds-same : (g : ℕ → ℕ) (j : ℕ) (h : ℕ → ℕ) (k : ℕ) (bs : List ℕ) → Same g j h k (length bs) → Holds g j bs → Holds h k bs
-unfolding Same
 holds-same g j h k [] s p = tt
 holds-same g j h k (b ∷ bs) s p =
     let here : g j ≡ h k = rw (add-zero j, add-zero k) at (s 0 (omega arith)) in
@@ -43,7 +42,6 @@ module _ (flag : ℕ) (qs : List ℤ) (long : length qs ≡ 42) (within : priors
 
   -- from the byte of the position on
   pub read-from-byte : (header : List ℕ) (at : ℕ) → modelsRead (drop (at / 8) header) (at % 8) flag qs ≡ modelsRead header at flag qs
-  unfolding Same
   read-from-byte header at =
       read-same header at (drop (at / 8) header) (at % 8)
       (λ i l.

@@ -6,7 +6,7 @@ use mathlib.Core.List.{List}
 use mathlib.Core.Logic.{⊎-elim}
 use mathlib.Core.Path.{_≡_, refl, ap, sym, subst, _∙_}
 use native.Mathlib.Omega.{arith}
-use borrow.Author.Tests.{le-ltb}
+use borrow.Author.Tests.{le-ltb, eq-eqb}
 use lib.Dec.{lit<, lit≤}
 use lib.IntN.{ℤ, pos, negℤ}
 use lib.ListN.{length, getD, take, drop}
@@ -22,7 +22,7 @@ use Rattle.legal.proofs.Integers.{equal-same}
 use Rattle.header.specs.Coefficient.{coefficient}
 use Rattle.header.specs.Reading.{ReadModel, pairRead, typeRead, typeLength, identityRead, translationRead, rotzoomRead, affineRead, modelRead, referenceRead, referencesRead, modelsRead}
 use Rattle.header.specs.Valid.{ValidModel, ValidPrior}
-use Rattle.header.specs.Writing.{slotOf}
+use Rattle.header.specs.Writing.{slotOf, headerBits, bytesFor, writeRefusal}
 use Rattle.header.proofs.Coefficient.{coefficient-codable}
 use Rattle.header.proofs.RoundTrip.{Writable, valid-prior}
 use Rattle.header_read.proofs.Rewritten.{slot-read, type-again, Stands, stands-type, stands-six, stands-later, gm-type, stands, seven-types, params-42}
@@ -176,3 +176,19 @@ module _ (header : List ℕ) (at flag : ℕ) (qs : List ℤ) (long : length qs �
         right = none-holds (modelAt (modelsRead header at flag qs .types) flag (modelsRead header at flag qs .params)) (length (modelsRead header at flag qs .types)) (λ k l. model-right (getD (modelsRead header at flag qs .types) k 0) flag (modelsRead header at flag qs .params) (6 * k) (valid k (below-seven k l)));
         within = within;
       }
+
+  -- a writing call with room for it refuses nothing
+  pub not-refused : flag ≤ 1 → (room : ℕ) → bytesFor 0 (length (headerBits (modelsRead header at flag qs .types) (modelsRead header at flag qs .params) flag qs)) ≤ room
+      → writeRefusal (modelsRead header at flag qs .types) (modelsRead header at flag qs .params) flag qs room ≡ 0
+  unfolding writeRefusal
+  not-refused f room h =
+      rw (
+        eq-eqb (length (modelsRead header at flag qs .types)) 7 (writable .seven),
+        eq-eqb (length (modelsRead header at flag qs .params)) 42 (writable .models),
+        eq-eqb (length qs) 42 long,
+        writable .known,
+        le-ltb 1 flag f,
+        writable .right,
+        within,
+        le-ltb room (bytesFor 0 (length (headerBits (modelsRead header at flag qs .types) (modelsRead header at flag qs .params) flag qs))) h,
+      )
