@@ -4,20 +4,18 @@ use Prim.Native.Nat.{ℕ, _+_, _*_, _-_, _/_, _%_, _≤_, _<_}
 use mathlib.Core.Bool.{true, false}
 use mathlib.Core.List.{List}
 use mathlib.Core.Logic.{⊎-elim}
-use mathlib.Core.Path.{_≡_, refl, ap, sym, subst, _∙_}
+use mathlib.Core.Path.{_≡_, subst}
 use native.Mathlib.Omega.{arith}
 use borrow.Author.Tests.{lt-ltb, le-ltb, eq-eqb, ne-eqb}
 use lib.Dec.{ltb}
 use lib.IntN.{ℤ}
 use lib.ListN.{length, drop}
-use Rattle.laws.specs.Refusal.{choose}
 use Rattle.laws.proofs.Cases.{outcome, lt-or-le}
 use Rattle.bits.specs.Bits.{bitAt}
 use Rattle.legal.specs.Models.{priorsOut}
 use Rattle.header.specs.Reading.{ReadModels, referencesRead, modelsRead}
-use Rattle.header_read.specs.Called.{readRefusal, noModels, within, models}
+use Rattle.header_read.specs.Called.{readRefusal, noModels, answerOf, within, models}
 use Rattle.header_read.specs.Contracts.{PriorsReady, SevenIs}
-use Rattle.header_read.specs.declared.Models.{Models}
 use Rattle.header_read.specs.declared.Seven.{Seven}
 use Rattle.header_read.proofs.References.{models-some}
 use Rattle.header_read.proofs.Shift.{read-from-byte}
@@ -53,8 +51,7 @@ module _ (header : List ℕ) (at flag : ℕ) (qs : List ℤ) where
   same p = read-from-byte flag qs (p .places) (p .within) header at
 
   pub from-byte : PriorsReady qs → at / 8 < length header → (seven : Seven) → SevenIs seven (referencesRead (bitAt (drop (at / 8) header)) flag qs 7 0 (at % 8)) (at % 8)
-      → choose (ltb (8 * (length header - at / 8)) (seven .next .at)) (noModels 9) (record { refusal = 0; types = seven .types; params = seven .params; bits = seven .next .at - at % 8 })
-      ≡ within header at (modelsRead header at flag qs)
+      → answerOf seven (at % 8) (length header - at / 8) ≡ within header at (modelsRead header at flag qs)
   from-byte p h seven s =
       let t : ReadModels = modelsRead header at flag qs in
       let read : SevenIs seven t (at % 8) = subst (λ (x : ReadModels). SevenIs seven x (at % 8)) (same p) s in
