@@ -33,7 +33,7 @@ pub record AllReady (qs : List ℤ) (at : ℕ) : Type 0 where
   pub priors : PriorsReady qs
   pub room : at + 2048 < 2 ^ 64
 
--- the number at position j, and the position behind it
+-- the number at position j, and the position behind it: at most 23 bits, and no number farther from 0 than 4,194,304 about 65,536
 pub record ParamIs (r : Param) (t : ReadNumber) (j : ℕ) : Type 0 where
   pub value : r .value ≡ t .value
   pub next : r .next .at ≡ j + t .bits

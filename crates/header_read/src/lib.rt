@@ -187,6 +187,7 @@ fn read_type(cursor: BitCursor, header: &[u8]) -> TypeRead
     }
 }
 
+// The opposite of a number that a slot can hold.
 fn opposite(value: i32) -> i32
     requires { ⌜ natAbs value ≤ 4259840 ⌝ }
     ensures { λ r. ⌜ r ≡ negℤ value ⌝ }
@@ -347,6 +348,7 @@ fn read_references(cursor: BitCursor, header: &[u8], flag: u8, prior: &[i32]) ->
     seven
 }
 
+// A refusal: its row's number and zeros.
 fn no_models(refusal: u32) -> Models
     ensures { λ r. ⌜ r ≡ noModels refusal ⌝ }
 {
@@ -395,6 +397,7 @@ fn read_from(header: &[u8], at: usize, flag: u8, prior: &[i32]) -> Models
     answer(seven, start, bytes)
 }
 
+// global_motion_params of clause 5.9.24 for a frame that isn't intra, from bit `at` of the bytes on.
 pub fn read_global_motion_params(header: &[u8], at: usize, flag: u8, prior: &[i32]) -> Models
     ensures { λ r. ⌜ r ≡ models (now (header .entry)) at flag (now (prior .entry)) ⌝ }
 {
