@@ -2,22 +2,22 @@
 -- Assumes nothing.
 use Prim.Native.Nat.{ℕ, _+_, _*_, _-_, _/_, _%_, _≤_, _<_}
 use mathlib.Core.Bool.{true, false}
-use mathlib.Core.List.{List}
+use mathlib.Core.List.{List, [], _∷_}
 use mathlib.Core.Logic.{⊎-elim}
-use mathlib.Core.Path.{_≡_, refl, ap, sym, subst, _∙_}
+use mathlib.Core.Path.{_≡_, subst}
 use native.Mathlib.Omega.{arith}
 use borrow.Author.Tests.{lt-ltb, le-ltb, eq-eqb, ne-eqb}
 use lib.Dec.{ltb}
 use lib.IntN.{ℤ}
 use lib.ListN.{length, drop}
-use Rattle.laws.specs.Refusal.{choose}
+use Rattle.laws.specs.Refusal.{row}
 use Rattle.laws.proofs.Cases.{outcome, lt-or-le}
+use Rattle.laws.proofs.Refusal.{judge-hit}
 use Rattle.bits.specs.Bits.{bitAt}
 use Rattle.legal.specs.Models.{priorsOut}
 use Rattle.header.specs.Reading.{ReadModels, referencesRead, modelsRead}
-use Rattle.header_read.specs.Called.{readRefusal, noModels, within, models}
+use Rattle.header_read.specs.Called.{readRefusal, noModels, answerOf, within, models}
 use Rattle.header_read.specs.Contracts.{PriorsReady, SevenIs}
-use Rattle.header_read.specs.declared.Models.{Models}
 use Rattle.header_read.specs.declared.Seven.{Seven}
 use Rattle.header_read.proofs.References.{models-some}
 use Rattle.header_read.proofs.Shift.{read-from-byte}
@@ -31,9 +31,16 @@ module _ (header : List ℕ) (at flag : ℕ) (qs : List ℤ) where
   unfolding models readRefusal
   no-such-code e f = rw (eq-eqb (length qs) 42 e, lt-ltb 1 flag f)
 
+  -- whichever slot it is, carried or not
+  refused-8 : length qs ≡ 42 → flag ≤ 1 → priorsOut qs ≡ true → readRefusal header at flag qs ≡ 8
+  unfolding readRefusal
+  refused-8 e f o =
+      rw (eq-eqb (length qs) 42 e, le-ltb 1 flag f)
+      (judge-hit 8 (priorsOut qs) (row 9 (ltb (8 * length header) (at + modelsRead header at flag qs .bits)) ∷ []) o)
+
   pub prior-out : length qs ≡ 42 → flag ≤ 1 → priorsOut qs ≡ true → noModels 8 ≡ models header at flag qs
-  unfolding models readRefusal
-  prior-out e f o = rw (eq-eqb (length qs) 42 e, le-ltb 1 flag f, o)
+  unfolding models
+  prior-out e f o = rw (refused-8 e f o)
 
   pub read-or-ended : flag ≤ 1 → PriorsReady qs → within header at (modelsRead header at flag qs) ≡ models header at flag qs
   unfolding models readRefusal
@@ -53,8 +60,7 @@ module _ (header : List ℕ) (at flag : ℕ) (qs : List ℤ) where
   same p = read-from-byte flag qs (p .places) (p .within) header at
 
   pub from-byte : PriorsReady qs → at / 8 < length header → (seven : Seven) → SevenIs seven (referencesRead (bitAt (drop (at / 8) header)) flag qs 7 0 (at % 8)) (at % 8)
-      → choose (ltb (8 * (length header - at / 8)) (seven .next .at)) (noModels 9) (record { refusal = 0; types = seven .types; params = seven .params; bits = seven .next .at - at % 8 })
-      ≡ within header at (modelsRead header at flag qs)
+      → answerOf seven (at % 8) (length header - at / 8) ≡ within header at (modelsRead header at flag qs)
   from-byte p h seven s =
       let t : ReadModels = modelsRead header at flag qs in
       let read : SevenIs seven t (at % 8) = subst (λ (x : ReadModels). SevenIs seven x (at % 8)) (same p) s in

@@ -1,6 +1,6 @@
 -- A coefficient that was read: its bits are those that were read, all of them, and few; its number is small.
 -- Assumes nothing.
-use Prim.Native.Nat.{ℕ, _+_, _*_, _-_, _^_, _≤_, _<_}
+use Prim.Native.Nat.{ℕ, _*_, _^_, _≤_, _<_}
 use mathlib.Core.Bool.{false}
 use mathlib.Core.Path.{_≡_, sym, subst}
 use native.Mathlib.Omega.{arith}
@@ -11,7 +11,7 @@ use Rattle.bits.specs.Bits.{Holds}
 use Rattle.subexp.specs.Coefficient.{symbol, symbolBits}
 use Rattle.subexp.proofs.Coefficient.{symbol-within, symbol-again, symbol-all}
 use Rattle.grid.specs.Grid.{absBits, precBits, centre, step}
-use Rattle.grid.specs.Symbols.{symbols, symbolOf, numberOf, priorOut}
+use Rattle.grid.specs.Symbols.{symbols, symbolOf, priorOut}
 use Rattle.grid.proofs.Bounds.{symbol-distance-small}
 use Rattle.grid.proofs.Symbols.{number-symbol, row-place-below}
 use Rattle.grid.proofs.Table.{table-row, centre-le}

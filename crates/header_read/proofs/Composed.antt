@@ -1,12 +1,12 @@
 -- What a function answers, from what its callees answered: a type by its bits, a pair, a model of each type, a reference.
 -- Assumes nothing.
-use Prim.Native.Nat.{ℕ, _+_, _≤_, _<_}
+use Prim.Native.Nat.{ℕ, _+_, _≤_}
 use mathlib.Core.List.{List, [], _∷_}
-use mathlib.Core.Path.{_≡_, refl, ap, sym, subst, _∙_}
+use mathlib.Core.Path.{_≡_, ap, sym, subst, _∙_}
 use native.Mathlib.Nat.{add-assoc}
 use native.Mathlib.Omega.{arith}
 use borrow.Author.Tests.{eq-eqb, ne-eqb}
-use lib.Dec.{lit≤, eqb}
+use lib.Dec.{lit≤}
 use lib.IntN.{ℤ, pos, negℤ, natAbs}
 use Rattle.header.specs.Coefficient.{ReadNumber, coefficient}
 use Rattle.header.specs.Reading.{ReadPair, ReadModel, pairRead, typeRead, typeLength, translationRead, rotzoomRead, affineRead, modelRead, referenceRead}
@@ -20,17 +20,25 @@ use Rattle.header_read.specs.declared.Model.{Model}
 -- ---- the type bits
 
 module _ (g : ℕ → ℕ) (j : ℕ) (r : TypeRead) where
-  pub identity-typed : g j ≡ 0 → r .«gm_type» ≡ 0 → r .next .at ≡ j + 1 → TypeIs r (typeRead g 0 [] j) (typeLength g 0 [] (typeRead g 0 [] j)) j
-  identity-typed a e n = rw (eq-eqb (g j) 0 a) (record { is = e; next = n; near = lit≤ tt })
+  typed : (gmType : ℕ) → typeRead g 0 [] j ≡ gmType → typeLength g 0 [] gmType ≤ 3 → r .«gm_type» ≡ gmType → r .next .at ≡ j + typeLength g 0 [] gmType → TypeIs r g j
+  typed gmType t few e n =
+      record {
+        is = e ∙ sym t;
+        next = n ∙ ap (λ (x : ℕ). j + typeLength g 0 [] x) (sym t);
+        near = omega (arith, n, few);
+      }
 
-  pub rotzoom-typed : (g j ≡ 0 → ⊥) → g (j + 1) ≡ 1 → r .«gm_type» ≡ 2 → r .next .at ≡ j + 2 → TypeIs r (typeRead g 0 [] j) (typeLength g 0 [] (typeRead g 0 [] j)) j
-  rotzoom-typed a b e n = rw (ne-eqb (g j) 0 a, eq-eqb (g (j + 1)) 1 b) (record { is = e; next = n; near = lit≤ tt })
+  pub identity-typed : g j ≡ 0 → r .«gm_type» ≡ 0 → r .next .at ≡ j + 1 → TypeIs r g j
+  identity-typed a e n = typed 0 (rw (eq-eqb (g j) 0 a)) (lit≤ tt) e n
 
-  pub translation-typed : (g j ≡ 0 → ⊥) → (g (j + 1) ≡ 1 → ⊥) → g (j + 2) ≡ 1 → r .«gm_type» ≡ 1 → r .next .at ≡ j + 3 → TypeIs r (typeRead g 0 [] j) (typeLength g 0 [] (typeRead g 0 [] j)) j
-  translation-typed a b d e n = rw (ne-eqb (g j) 0 a, ne-eqb (g (j + 1)) 1 b, eq-eqb (g (j + 2)) 1 d) (record { is = e; next = n; near = lit≤ tt })
+  pub rotzoom-typed : (g j ≡ 0 → ⊥) → g (j + 1) ≡ 1 → r .«gm_type» ≡ 2 → r .next .at ≡ j + 2 → TypeIs r g j
+  rotzoom-typed a b e n = typed 2 (rw (ne-eqb (g j) 0 a, eq-eqb (g (j + 1)) 1 b)) (lit≤ tt) e n
 
-  pub affine-typed : (g j ≡ 0 → ⊥) → (g (j + 1) ≡ 1 → ⊥) → (g (j + 2) ≡ 1 → ⊥) → r .«gm_type» ≡ 3 → r .next .at ≡ j + 3 → TypeIs r (typeRead g 0 [] j) (typeLength g 0 [] (typeRead g 0 [] j)) j
-  affine-typed a b d e n = rw (ne-eqb (g j) 0 a, ne-eqb (g (j + 1)) 1 b, ne-eqb (g (j + 2)) 1 d) (record { is = e; next = n; near = lit≤ tt })
+  pub translation-typed : (g j ≡ 0 → ⊥) → (g (j + 1) ≡ 1 → ⊥) → g (j + 2) ≡ 1 → r .«gm_type» ≡ 1 → r .next .at ≡ j + 3 → TypeIs r g j
+  translation-typed a b d e n = typed 1 (rw (ne-eqb (g j) 0 a, ne-eqb (g (j + 1)) 1 b, eq-eqb (g (j + 2)) 1 d)) (lit≤ tt) e n
+
+  pub affine-typed : (g j ≡ 0 → ⊥) → (g (j + 1) ≡ 1 → ⊥) → (g (j + 2) ≡ 1 → ⊥) → r .«gm_type» ≡ 3 → r .next .at ≡ j + 3 → TypeIs r g j
+  affine-typed a b d e n = typed 3 (rw (ne-eqb (g j) 0 a, ne-eqb (g (j + 1)) 1 b, ne-eqb (g (j + 2)) 1 d)) (lit≤ tt) e n
 
 -- ---- coefficients and models
 
@@ -106,7 +114,7 @@ module _ (g : ℕ → ℕ) (flag : ℕ) (qs : List ℤ) (first j : ℕ) where
         near = omega (arith, n, pt .near, pb .near, pa .near);
       }
 
-  pub referenced : (t : TypeRead) (m r : Model) → TypeIs t (typeRead g flag qs j) (typeLength g flag qs (typeRead g flag qs j)) j
+  pub referenced : (t : TypeRead) (m r : Model) → TypeIs t g j
       → ModelIs m (modelRead g flag qs (t .«gm_type») first (t .next .at)) (t .next .at) 138
       → r .«gm_type» ≡ t .«gm_type» → r .six ≡ m .six → r .next .at ≡ m .next .at
       → ModelIs r (referenceRead g flag qs first j) j 141

@@ -8,3 +8,4 @@ pub mod Answers
 pub mod Count
 pub mod Cut
 pub mod RoundTrip
+pub mod Worked

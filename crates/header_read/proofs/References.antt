@@ -3,7 +3,7 @@
 use Prim.Native.Nat.{ℕ, suc, _+_, _*_, _-_, _≤_, _<_}
 use mathlib.Core.Bool.{Bool, true, false}
 use mathlib.Core.List.{List, [], _∷_, _++_, append-nil, append-assoc}
-use mathlib.Core.Path.{_≡_, refl, ap, sym, subst, _∙_}
+use mathlib.Core.Path.{_≡_, refl, sym, subst, _∙_}
 use native.Mathlib.Nat.{add-assoc}
 use native.Mathlib.Numerals.{add-one}
 use native.Mathlib.Omega.{arith}
@@ -15,7 +15,7 @@ use Rattle.laws.specs.Refusal.{choose}
 use Rattle.laws.specs.Placed.{placed}
 use Rattle.laws.proofs.Placed.{placed-length}
 use Rattle.bits.specs.Bits.{bitAt}
-use Rattle.header.specs.Reading.{ReadModel, ReadModels, identityRead, translationRead, rotzoomRead, affineRead, typeRead, typeLength, modelRead, referenceRead, referencesRead, modelsRead}
+use Rattle.header.specs.Reading.{ReadModel, identityRead, translationRead, rotzoomRead, affineRead, typeRead, typeLength, modelRead, referenceRead, referencesRead, modelsRead}
 use Rattle.header_read.specs.Contracts.{NextIs, SevenIs}
 use Rattle.header_read.specs.declared.Seven.{Seven}
 

@@ -1,8 +1,7 @@
 -- What was read, written again, gives the bits that were read, all of them and no more: a coefficient, a model, a reference, a header.
 -- Assumes nothing.
 use Prim.Native.Nat.{ℕ, zero, suc, _+_, _*_, _≤_, _<_}
-use mathlib.Core.Bool.{false}
-use mathlib.Core.List.{List, [], _∷_, _++_}
+use mathlib.Core.List.{List, _∷_, _++_}
 use mathlib.Core.Logic.{⊎-elim}
 use mathlib.Core.Path.{_≡_, refl, ap, sym, subst, _∙_}
 use native.Mathlib.Nat.{add-assoc}
@@ -11,13 +10,12 @@ use borrow.Author.Tests.{eq-eqb, ne-eqb}
 use lib.Dec.{lit<, lit≤}
 use lib.IntN.{ℤ, pos}
 use lib.ListN.{length, getD, take, drop, length-append}
-use lib.Seq.{getD-drop, getD-take, take-all, take-at, drop-at, take-take, take-add, drop-drop, length-take-le, drop-cons}
+use lib.Seq.{getD-drop, getD-take, take-all, take-at, drop-at, take-add, drop-drop, length-take-le, drop-cons}
 use Rattle.laws.proofs.Cases.{eq-or-ne}
 use Rattle.bits.specs.Bits.{Holds, bitAt}
 use Rattle.bits.proofs.Buffer.{bitAt-lt, holds-join}
-use Rattle.grid.specs.Symbols.{priorOut}
-use Rattle.header.specs.Coefficient.{ReadNumber, coefficient, coefficientBits}
-use Rattle.header.specs.Reading.{ReadPair, ReadModel, ReadModels, pairRead, typeRead, typeLength, translationRead, rotzoomRead, affineRead, modelRead, referenceRead, referencesRead, modelsRead}
+use Rattle.header.specs.Coefficient.{coefficient, coefficientBits}
+use Rattle.header.specs.Reading.{ReadModel, pairRead, typeRead, typeLength, translationRead, rotzoomRead, affineRead, modelRead, referenceRead, referencesRead, modelsRead}
 use Rattle.header.specs.Valid.{ValidPrior}
 use Rattle.header.specs.Writing.{slotOf, typeBits, pairBits, modelBits, referenceBits, referencesBits, headerBits}
 use Rattle.header_read.proofs.Coefficient.{coefficient-again, coefficient-all}
@@ -44,8 +42,7 @@ module _ (g : ℕ → ℕ) (bits : (i : ℕ) → g i < 2) (flag : ℕ) (qs : Lis
   -- ---- the type bits
 
   bit-one : (i : ℕ) → (g i ≡ 0 → ⊥) → g i ≡ 1
-  bit-one i n =
-      ⊎-elim (λ (e : g i ≡ 1). e) (λ (m : g i ≡ 1 → ⊥). absurd (n (omega (arith, bits i)))) (eq-or-ne (g i) 1)
+  bit-one i n = omega (arith, bits i)
 
   bit-none : (i : ℕ) → (g i ≡ 1 → ⊥) → g i ≡ 0
   bit-none i n = omega (arith, bits i)

@@ -2,13 +2,13 @@
 -- Assumes nothing.
 use Prim.Native.Nat.{ℕ, _+_, _-_, _*_, _/_, _%_, _≤_, _<_}
 use mathlib.Core.List.{List, [], _∷_, _++_}
-use mathlib.Core.Path.{_≡_, refl, ap, sym, subst, _∙_}
+use mathlib.Core.Path.{_≡_, refl, ap, sym, _∙_}
 use native.Mathlib.Omega.{arith}
 use borrow.Author.Tests.{le-ltb}
 use lib.IntN.{ℤ}
-use lib.ListN.{length, getD, set, take, length-append}
+use lib.ListN.{length, getD, set, take}
 use lib.Seq.{set-getD}
-use Rattle.bits.specs.Bits.{Holds, bitOf, withBit, bitAt, putBit, putBits}
+use Rattle.bits.specs.Bits.{Holds, withBit, bitAt, putBit, putBits}
 use Rattle.bits.specs.Fields.{padBits}
 use Rattle.bits.proofs.Buffer.{holds-join, length-putBits}
 use Rattle.bits.proofs.Byte.{parts}
@@ -17,7 +17,6 @@ use Rattle.header.specs.Writing.{headerBits, placed, bytesFor}
 use Rattle.header.proofs.RoundTrip.{Writable, round-trip}
 use Rattle.header_read.specs.Called.{noModels, within, models}
 use Rattle.header_read.specs.Contracts.{PriorsReady}
-use Rattle.header_read.specs.declared.Models.{Models}
 use Rattle.header_read.proofs.Answers.{read-or-ended}
 use Rattle.header_read.proofs.Cut.{cut}
 use Rattle.header_read.proofs.Rewritten.{Again, rewritten}

@@ -1,10 +1,10 @@
 -- What was read can be written: each type is known, its carried slots are codable, the others filled, so no row refuses it.
 -- Assumes nothing.
 use Prim.Native.Nat.{ℕ, zero, suc, _+_, _*_, _≤_, _<_}
-use mathlib.Core.Bool.{Bool, true, false, not}
+use mathlib.Core.Bool.{true, false}
 use mathlib.Core.List.{List}
 use mathlib.Core.Logic.{⊎-elim}
-use mathlib.Core.Path.{_≡_, refl, ap, sym, subst, _∙_}
+use mathlib.Core.Path.{_≡_, ap, sym, subst, _∙_}
 use native.Mathlib.Omega.{arith}
 use borrow.Author.Tests.{le-ltb, eq-eqb}
 use lib.Dec.{lit<, lit≤}
@@ -16,11 +16,10 @@ use Rattle.bits.specs.Bits.{bitAt}
 use Rattle.bits.proofs.Buffer.{bitAt-lt}
 use Rattle.grid.specs.Grid.{absBits, precBits, centre, Codable, quantized}
 use Rattle.grid.proofs.Table.{row-own}
-use Rattle.legal.specs.Integers.{equal}
 use Rattle.legal.specs.Models.{carries, filler, slotWrong, slotAt, modelWrong, modelAt, modelsWrong, priorsOut, typeAt, typesOver}
 use Rattle.legal.proofs.Integers.{equal-same}
 use Rattle.header.specs.Coefficient.{coefficient}
-use Rattle.header.specs.Reading.{ReadModel, pairRead, typeRead, typeLength, identityRead, translationRead, rotzoomRead, affineRead, modelRead, referenceRead, referencesRead, modelsRead}
+use Rattle.header.specs.Reading.{ReadModel, pairRead, typeRead, typeLength, identityRead, translationRead, rotzoomRead, affineRead, modelRead, referenceRead, modelsRead}
 use Rattle.header.specs.Valid.{ValidModel, ValidPrior}
 use Rattle.header.specs.Writing.{slotOf, headerBits, bytesFor, writeRefusal}
 use Rattle.header.proofs.Coefficient.{coefficient-codable}
@@ -37,11 +36,11 @@ six-slots P a b c d e f (suc (suc (suc (suc zero)))) l = e
 six-slots P a b c d e f (suc (suc (suc (suc (suc zero))))) l = f
 six-slots P a b c d e f (suc (suc (suc (suc (suc (suc n)))))) l = absurd (omega arith)
 
-never : {A : Type 0} → false ≡ true → A
-never {A} e = absurd (let z : _≡_ {A = ℕ} 0 1 = cc in omega arith)
+false-true : {A : Type 0} → false ≡ true → A
+false-true {A} e = absurd (let z : _≡_ {A = ℕ} 0 1 = cc in omega arith)
 
-nor : {A : Type 0} → true ≡ false → A
-nor {A} e = absurd (let z : _≡_ {A = ℕ} 0 1 = cc in omega arith)
+true-false : {A : Type 0} → true ≡ false → A
+true-false {A} e = absurd (let z : _≡_ {A = ℕ} 0 1 = cc in omega arith)
 
 module _ (g : ℕ → ℕ) (bits : (i : ℕ) → g i < 2) (flag : ℕ) (qs ps : List ℤ) (first : ℕ) (priors : ValidPrior qs first) where
   first-codable : (gmType slot j : ℕ) → slot + 1 < 6 → (z : ℤ) → z ≡ pairRead g flag qs gmType first slot j .first → Codable (absBits gmType flag slot) (precBits gmType flag slot) (centre slot) z
@@ -64,7 +63,7 @@ module _ (g : ℕ → ℕ) (bits : (i : ℕ) → g i < 2) (flag : ℕ) (qs ps : 
   identity-valid e =
       record {
         known = lit≤ tt;
-        carried = λ slot l c. never c;
+        carried = λ slot l c. false-true c;
         filled = six-slots (λ (slot : ℕ). carries 0 slot ≡ false → slotOf ps first slot ≡ filler 0 slot (slotOf ps first 2) (slotOf ps first 3))
             (λ c. e 0 (lit< tt)) (λ c. e 1 (lit< tt)) (λ c. e 2 (lit< tt)) (λ c. e 3 (lit< tt)) (λ c. e 4 (lit< tt)) (λ c. e 5 (lit< tt));
       }
@@ -76,9 +75,9 @@ module _ (g : ℕ → ℕ) (bits : (i : ℕ) → g i < 2) (flag : ℕ) (qs ps : 
         known = lit≤ tt;
         carried = six-slots (λ (slot : ℕ). carries 1 slot ≡ true → Codable (absBits 1 flag slot) (precBits 1 flag slot) (centre slot) (slotOf ps first slot))
             (λ c. first-codable 1 0 j (lit< tt) (slotOf ps first 0) (e 0 (lit< tt))) (λ c. second-codable 1 0 j (lit< tt) (slotOf ps first 1) (e 1 (lit< tt)))
-            (λ c. never c) (λ c. never c) (λ c. never c) (λ c. never c);
+            (λ c. false-true c) (λ c. false-true c) (λ c. false-true c) (λ c. false-true c);
         filled = six-slots (λ (slot : ℕ). carries 1 slot ≡ false → slotOf ps first slot ≡ filler 1 slot (slotOf ps first 2) (slotOf ps first 3))
-            (λ c. nor c) (λ c. nor c) (λ c. e 2 (lit< tt)) (λ c. e 3 (lit< tt)) (λ c. e 4 (lit< tt)) (λ c. e 5 (lit< tt));
+            (λ c. true-false c) (λ c. true-false c) (λ c. e 2 (lit< tt)) (λ c. e 3 (lit< tt)) (λ c. e 4 (lit< tt)) (λ c. e 5 (lit< tt));
       }
 
   rotzoom-valid : (j : ℕ) → Reads (rotzoomRead g flag qs first j) → ValidModel 2 flag ps first
@@ -90,9 +89,9 @@ module _ (g : ℕ → ℕ) (bits : (i : ℕ) → g i < 2) (flag : ℕ) (qs ps : 
         carried = six-slots (λ (slot : ℕ). carries 2 slot ≡ true → Codable (absBits 2 flag slot) (precBits 2 flag slot) (centre slot) (slotOf ps first slot))
             (λ c. first-codable 2 0 k (lit< tt) (slotOf ps first 0) (e 0 (lit< tt))) (λ c. second-codable 2 0 k (lit< tt) (slotOf ps first 1) (e 1 (lit< tt)))
             (λ c. first-codable 2 2 j (lit< tt) (slotOf ps first 2) (e 2 (lit< tt))) (λ c. second-codable 2 2 j (lit< tt) (slotOf ps first 3) (e 3 (lit< tt)))
-            (λ c. never c) (λ c. never c);
+            (λ c. false-true c) (λ c. false-true c);
         filled = six-slots (λ (slot : ℕ). carries 2 slot ≡ false → slotOf ps first slot ≡ filler 2 slot (slotOf ps first 2) (slotOf ps first 3))
-            (λ c. nor c) (λ c. nor c) (λ c. nor c) (λ c. nor c)
+            (λ c. true-false c) (λ c. true-false c) (λ c. true-false c) (λ c. true-false c)
             (λ c. e 4 (lit< tt) ∙ ap negℤ (sym (e 3 (lit< tt)))) (λ c. e 5 (lit< tt) ∙ sym (e 2 (lit< tt)));
       }
 
@@ -107,7 +106,7 @@ module _ (g : ℕ → ℕ) (bits : (i : ℕ) → g i < 2) (flag : ℕ) (qs ps : 
             (λ c. first-codable 3 0 l (lit< tt) (slotOf ps first 0) (e 0 (lit< tt))) (λ c. second-codable 3 0 l (lit< tt) (slotOf ps first 1) (e 1 (lit< tt)))
             (λ c. first-codable 3 2 j (lit< tt) (slotOf ps first 2) (e 2 (lit< tt))) (λ c. second-codable 3 2 j (lit< tt) (slotOf ps first 3) (e 3 (lit< tt)))
             (λ c. first-codable 3 4 k (lit< tt) (slotOf ps first 4) (e 4 (lit< tt))) (λ c. second-codable 3 4 k (lit< tt) (slotOf ps first 5) (e 5 (lit< tt)));
-        filled = λ slot l c. nor c;
+        filled = λ slot l c. true-false c;
       }
 
   model-valid : (gmType j : ℕ) → gmType ≤ 3 → Reads (modelRead g flag qs gmType first j) → ValidModel gmType flag ps first

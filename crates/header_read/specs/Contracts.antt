@@ -3,13 +3,13 @@
 use Prim.Native.Nat.{ℕ, _+_, _*_, _^_, _≤_, _<_}
 use mathlib.Core.Bool.{false}
 use mathlib.Core.Path.{_≡_}
-use mathlib.Core.List.{List}
+use mathlib.Core.List.{List, []}
 use lib.IntN.{ℤ, natAbs}
 use lib.ListN.{length, set}
 use Rattle.laws.specs.Placed.{placed}
 use Rattle.legal.specs.Models.{priorsOut}
 use Rattle.header.specs.Coefficient.{ReadNumber}
-use Rattle.header.specs.Reading.{ReadPair, ReadModel, ReadModels}
+use Rattle.header.specs.Reading.{ReadPair, ReadModel, ReadModels, typeRead, typeLength}
 use Rattle.header.specs.Valid.{ValidPrior}
 use Rattle.header_read.specs.declared.Param.{Param}
 use Rattle.header_read.specs.declared.Pair.{Pair}
@@ -33,7 +33,7 @@ pub record AllReady (qs : List ℤ) (at : ℕ) : Type 0 where
   pub priors : PriorsReady qs
   pub room : at + 2048 < 2 ^ 64
 
--- the number at position j, and the position behind it
+-- the number at position j, and the position behind it: at most 23 bits, and no number farther from 0 than 4,194,304 about 65,536
 pub record ParamIs (r : Param) (t : ReadNumber) (j : ℕ) : Type 0 where
   pub value : r .value ≡ t .value
   pub next : r .next .at ≡ j + t .bits
@@ -47,11 +47,11 @@ pub record PairIs (r : Pair) (t : ReadPair) (j : ℕ) : Type 0 where
   pub near : r .next .at ≤ j + 46
   pub small : natAbs (r .second) ≤ 4259840
 
--- a type, and the position behind so many bits
-pub record TypeIs (r : TypeRead) (gmType n j : ℕ) : Type 0 where
-  pub is : r .«gm_type» ≡ gmType
-  pub next : r .next .at ≡ j + n
-  pub near : n ≤ 3
+-- the type at position j of the bits g, which is read alike for every flag and prior
+pub record TypeIs (r : TypeRead) (g : ℕ → ℕ) (j : ℕ) : Type 0 where
+  pub is : r .«gm_type» ≡ typeRead g 0 [] j
+  pub next : r .next .at ≡ j + typeLength g 0 [] (typeRead g 0 [] j)
+  pub near : r .next .at ≤ j + 3
 
 pub record ModelIs (r : Model) (t : ReadModel) (j most : ℕ) : Type 0 where
   pub gmType : r .«gm_type» ≡ t .gmType

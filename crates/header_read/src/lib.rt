@@ -2,22 +2,18 @@
 // the types and numbers of seven models and the bits consumed come out. Answers to document 01,
 // 'Reading by the standard, written out' and rows 2, 4, 8, 9; clauses 5.9.24 and 5.9.25 of the
 // standard; `read_global_motion_params` and `read_global_param` of uncompressed_header_tail.rs.
-ghost use mathlib.Core.List.{[]};
 ghost use mathlib.Core.Path.{_≡_};
-ghost use Prim.Native.Nat.{_+_, _-_, _*_, _^_, _≤_, _<_};
-ghost use lib.Dec.{ltb};
+ghost use Prim.Native.Nat.{_+_, _*_, _^_, _≤_, _<_};
 ghost use lib.IntN.{natAbs, negℤ};
-ghost use lib.ListN.{length};
 ghost use Rattle.laws.specs.Placed.{placed};
-ghost use Rattle.laws.specs.Refusal.{choose};
 ghost use Rattle.bits.specs.Bits.{bitAt};
 ghost use Rattle.grid.specs.Grid.{absBits, precBits, centre};
 ghost use Rattle.grid.specs.Symbols.{symbols, numberOf};
 ghost use Rattle.header.specs.Coefficient.{coefficient};
 ghost use Rattle.header.specs.Contracts.{PriorIn};
-ghost use Rattle.header.specs.Reading.{pairRead, typeRead, typeLength, identityRead, translationRead, rotzoomRead, affineRead, modelRead, referenceRead, referencesRead, modelsRead};
+ghost use Rattle.header.specs.Reading.{pairRead, translationRead, rotzoomRead, affineRead, modelRead, referenceRead, referencesRead, modelsRead};
 ghost use Rattle.header.specs.Writing.{slotOf};
-ghost use Rattle.header_read.specs.Called.{noModels, within, models};
+ghost use Rattle.header_read.specs.Called.{noModels, answerOf, within, models};
 ghost use Rattle.header_read.specs.Contracts.{Ready, AllReady, PriorsReady, ParamIs, PairIs, TypeIs, ModelIs, NextIs, SevenIs};
 use bits::BITS_OF_A_BYTE;
 use bits::BitCursor;
@@ -29,6 +25,9 @@ const TRANSLATION: u8 = 1;
 const ROTZOOM: u8 = 2;
 
 const AFFINE: u8 = 3;
+
+// The whole of a number at 16 fraction bits: slots 2 and 5 of the identity.
+const WHOLE: i32 = 65536;
 
 // Six numbers for each of seven references.
 const NUMBERS: usize = 42;
@@ -83,6 +82,7 @@ struct Seven {
     next: BitCursor,
 }
 
+// The number that a symbol of a slot stands for.
 fn number_of(gm_type: u8, flag: u8, slot: u8, symbol: u32) -> i32
     requires { ⌜ symbol < symbols (absBits «gm_type» flag slot) ⌝ }
     ensures { λ r. ⌜ r ≡ numberOf (absBits «gm_type» flag slot) (precBits «gm_type» flag slot) (centre slot) symbol ⌝ }
@@ -91,6 +91,7 @@ fn number_of(gm_type: u8, flag: u8, slot: u8, symbol: u32) -> i32
     grid::number_of(bits.abs_bits, bits.prec_bits, grid::centre_of(slot), symbol)
 }
 
+// read_global_param of clause 5.9.25.
 fn read_global_param(
     cursor: BitCursor,
     header: &[u8],
@@ -154,7 +155,7 @@ fn read_pair(
 // is_global, is_rot_zoom, is_translation of clause 5.9.24.
 fn read_type(cursor: BitCursor, header: &[u8]) -> TypeRead
     requires { ⌜ cursor .at + 64 < 2 ^ 64 ⌝ }
-    ensures { λ r. ⌜ TypeIs r (typeRead (bitAt (now (header .entry))) 0 [] (cursor .at)) (typeLength (bitAt (now (header .entry))) 0 [] (typeRead (bitAt (now (header .entry))) 0 [] (cursor .at))) (cursor .at) ⌝ }
+    ensures { λ r. ⌜ TypeIs r (bitAt (now (header .entry))) (cursor .at) ⌝ }
 {
     let is_global = cursor.read_bit(header);
     let second = is_global.next;
@@ -186,6 +187,7 @@ fn read_type(cursor: BitCursor, header: &[u8]) -> TypeRead
     }
 }
 
+// The opposite of a number that a slot can hold.
 fn opposite(value: i32) -> i32
     requires { ⌜ natAbs value ≤ 4259840 ⌝ }
     ensures { λ r. ⌜ r ≡ negℤ value ⌝ }
@@ -193,6 +195,7 @@ fn opposite(value: i32) -> i32
     0 - value
 }
 
+// Slots 0 and 1.
 fn read_translation(
     cursor: BitCursor,
     header: &[u8],
@@ -204,7 +207,7 @@ fn read_translation(
     ensures { λ r. ⌜ ModelIs r (translationRead (bitAt (now (header .entry))) flag (now (prior .entry)) first (cursor .at)) (cursor .at) 138 ⌝ }
 {
     let t = read_pair(cursor, header, TRANSLATION, flag, prior, first, 0);
-    let six = [t.first, t.second, 65536, 0, 0, 65536];
+    let six = [t.first, t.second, WHOLE, 0, 0, WHOLE];
     let next = t.next;
     Model {
         gm_type: TRANSLATION,
@@ -213,6 +216,7 @@ fn read_translation(
     }
 }
 
+// Slots 2, 3, then 0, 1; 4 and 5 follow from 3 and 2.
 fn read_rotzoom(cursor: BitCursor, header: &[u8], flag: u8, prior: &[i32], first: usize) -> Model
     requires { ⌜ Ready (now prior) first (cursor .at) 256 ⌝ }
     ensures { λ r. ⌜ ModelIs r (rotzoomRead (bitAt (now (header .entry))) flag (now (prior .entry)) first (cursor .at)) (cursor .at) 138 ⌝ }
@@ -229,6 +233,7 @@ fn read_rotzoom(cursor: BitCursor, header: &[u8], flag: u8, prior: &[i32], first
     }
 }
 
+// Slots 2, 3, then 4, 5, then 0, 1.
 fn read_affine(cursor: BitCursor, header: &[u8], flag: u8, prior: &[i32], first: usize) -> Model
     requires { ⌜ Ready (now prior) first (cursor .at) 256 ⌝ }
     ensures { λ r. ⌜ ModelIs r (affineRead (bitAt (now (header .entry))) flag (now (prior .entry)) first (cursor .at)) (cursor .at) 138 ⌝ }
@@ -245,7 +250,7 @@ fn read_affine(cursor: BitCursor, header: &[u8], flag: u8, prior: &[i32], first:
     }
 }
 
-// Slots 2, 3, for AFFINE 4, 5, then 0, 1; the slots that the type doesn't carry are filled.
+// The coefficients of a type; the slots that it doesn't carry are filled.
 fn read_model(
     cursor: BitCursor,
     header: &[u8],
@@ -258,7 +263,7 @@ fn read_model(
     ensures { λ r. ⌜ ModelIs r (modelRead (bitAt (now (header .entry))) flag (now (prior .entry)) «gm_type» first (cursor .at)) (cursor .at) 138 ⌝ }
 {
     if gm_type == IDENTITY {
-        let six = [0, 0, 65536, 0, 0, 65536];
+        let six = [0, 0, WHOLE, 0, 0, WHOLE];
         return Model {
             gm_type: IDENTITY,
             six,
@@ -343,6 +348,7 @@ fn read_references(cursor: BitCursor, header: &[u8], flag: u8, prior: &[i32]) ->
     seven
 }
 
+// A refusal: its row's number and zeros.
 fn no_models(refusal: u32) -> Models
     ensures { λ r. ⌜ r ≡ noModels refusal ⌝ }
 {
@@ -359,7 +365,7 @@ fn no_models(refusal: u32) -> Models
 // What was read from bit `start` of so many bytes, or row 9 where they end first.
 fn answer(seven: Seven, start: usize, bytes: usize) -> Models
     requires { ⌜ (start ≤ seven .next .at) × (seven .next .at + 8 < 2 ^ 64) ⌝ }
-    ensures { λ r. ⌜ r ≡ choose (ltb (8 * bytes) (seven .next .at)) (noModels 9) (record { refusal = 0; types = seven .types; params = seven .params; bits = seven .next .at - start }) ⌝ }
+    ensures { λ r. ⌜ r ≡ answerOf seven start bytes ⌝ }
 {
     let types = seven.types;
     let params = seven.params;
@@ -391,6 +397,7 @@ fn read_from(header: &[u8], at: usize, flag: u8, prior: &[i32]) -> Models
     answer(seven, start, bytes)
 }
 
+// global_motion_params of clause 5.9.24 for a frame that isn't intra, from bit `at` of the bytes on.
 pub fn read_global_motion_params(header: &[u8], at: usize, flag: u8, prior: &[i32]) -> Models
     ensures { λ r. ⌜ r ≡ models (now (header .entry)) at flag (now (prior .entry)) ⌝ }
 {

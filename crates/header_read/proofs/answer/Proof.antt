@@ -1,7 +1,6 @@
 -- `answer` meets its contract: the bytes that the bits need, against those there are.
 -- Assumes nothing.
-use Prim.Native.Nat.{ℕ, _+_, _*_}
-use mathlib.Core.Path.{refl}
+use Prim.Native.Nat.{_*_}
 use native.Mathlib.Omega.{arith}
 use borrow.Author.Needs.{needs}
 use borrow.Author.Tests.{lt-ltb, le-ltb}
@@ -16,7 +15,6 @@ no-models-requires c κs = search needs
 
 returns : tie.Need-returns
 returns c =
-    let a = c .before .before .before .before .before .args in
     rw (lt-ltb (8 * c .before .before .before .before .before .args .bytes) (c .before .before .before .before .before .args .seven .next .at) (omega (arith, c .before .if1 .taken))) (c .no-models .ensures)
 
 sub-t8 : tie.Need-sub-t8

@@ -1,7 +1,7 @@
 -- `opposite` meets its contract: a number that is small enough can be negated.
 -- Assumes nothing.
 use native.Mathlib.Omega.{arith}
-use lib.IntN.{ℤ, negℤ, natAbs, +ℤ-idl}
+use lib.IntN.{negℤ, +ℤ-idl}
 use mir.Facts.{toZ-ofZ}
 use mir.Syntax.{w32}
 use Rattle.laws.proofs.Signed.{natAbs-neg, sfits-natAbs, reads-back}

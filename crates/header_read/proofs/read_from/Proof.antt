@@ -1,8 +1,8 @@
 -- `read_from` meets its contract: the bytes from the position's on read as all of them do.
 -- Assumes nothing.
-use Prim.Native.Nat.{ℕ, _/_, _%_}
+use Prim.Native.Nat.{ℕ, _/_}
 use mathlib.Core.List.{List}
-use mathlib.Core.Path.{refl, subst, _∙_}
+use mathlib.Core.Path.{subst, _∙_}
 use native.Mathlib.Omega.{arith}
 use borrow.Author.Needs.{needs}
 use lib.ListN.{drop}
@@ -52,7 +52,6 @@ returns-2 : tie.Need-returns-2
 returns-2 c =
     let e = c .before .before .before .before .before .before in
     let a = c .before .before .before .before .before .before .args in
-    let seven = c .before .read-references .result in
     let tail = subst (λ (l : List ℕ). SevenIs (c .before .read-references .result) (referencesRead (bitAt l) (a .flag) (a .prior .now) 7 0 (c .before .before .before .new .result .at)) (c .before .before .before .new .result .at)) (tail-whole (a .at / 8) (a .header .now)) (c .before .read-references .ensures) in
     let read = subst (λ (k : ℕ). SevenIs (c .before .read-references .result) (referencesRead (bitAt (drop (a .at / 8) (a .header .now))) (a .flag) (a .prior .now) 7 0 k) k) (c .before .before .before .new .ensures) tail in
     c .answer .ensures ∙ from-byte (a .header .now) (a .at) (a .flag) (a .prior .now) (e .pre) (omega (arith, c .before .before .before .before .if1 .left)) (c .before .read-references .result) read

@@ -1,7 +1,6 @@
 -- `read_global_motion_params` meets its contract: the table's rows in their order, then the reading.
 -- Assumes nothing.
 use mathlib.Core.Path.{sym, _∙_}
-use native.Mathlib.Omega.{arith}
 use borrow.Author.Needs.{needs}
 use Rattle.header_read.proofs.Answers.{wrong-length, no-such-code, prior-out, read-or-ended}
 use Rattle.header_read.proofs.read_global_motion_params.Statement.{statement}

@@ -28,7 +28,6 @@ with-six-requires c κs = search needs
 returns : tie.Need-returns
 returns c =
     let m = c .before .before .before .read-reference .ensures in
-    let a = c .before .before .before .before .before .before .before .args in
     record {
       types = ap (λ (x : ℕ). set (c .before .before .before .before .before .before .before .args .seven .types) (c .before .before .before .before .before .before .before .args .r) x) (m .gmType);
       params = c .with-six .ensures ∙ ap (λ (six : List ℤ). placed (6 * c .before .before .before .before .before .before .before .args .r) six (c .before .before .before .before .before .before .before .args .seven .params)) (m .six);

@@ -1,8 +1,7 @@
 -- `read_rotzoom` meets its contract: slots 2 and 3, then 0 and 1, and the pair that follows from them.
 -- Assumes nothing.
 use mathlib.Core.Path.{refl, _∙_, ap}
-use lib.IntN.{ℤ, natAbs, negℤ}
-use Prim.Native.Nat.{_≤_}
+use lib.IntN.{negℤ}
 use borrow.Author.Needs.{needs}
 use mir.Syntax.{w32}
 use Rattle.laws.proofs.Signed.{result-reads}
