@@ -10,9 +10,9 @@ use lib.IntN.{ℤ, pos, _+ℤ_, +ℤ-idr}
 use borrow.Author.Tests.{eq-eqb, ne-eqb}
 use Rattle.laws.specs.Loops.{run, turns}
 use Rattle.laws.specs.Refusal.{choose}
-use Rattle.cost.specs.Clamp.{offset}
-use Rattle.cost.proofs.Offset.{offset-add, offset-pos, offset-magnitude}
-use Rattle.cost.specs.Cost.{difference}
+use Rattle.pels.specs.Clamp.{offset}
+use Rattle.pels.proofs.Offset.{offset-add, offset-pos, offset-magnitude}
+use Rattle.pels.specs.Difference.{difference}
 use Rattle.stage.specs.declared.Best.{Best}
 use Rattle.stage.specs.Stage.{Found, priced, better, side, square, rowOffset, columnOffset, consider, scan, withOffset}
 use Rattle.stage.specs.Ready.{seen, replaced}

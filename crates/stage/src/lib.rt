@@ -4,9 +4,11 @@
 // the signed one plus a bias: 12 in the coarse stage, 27 by full pels, 223 in eighths.
 ghost use mathlib.Core.Path.{_≡_};
 ghost use Prim.Native.Nat.{_≤_, _<_};
-ghost use Rattle.cost.specs.Clamp.{offset};
+ghost use Rattle.pels.specs.Clamp.{offset};
 ghost use Rattle.cost.specs.Cost as costs;
-ghost use Rattle.cost.specs.Ready.{Is, Planes};
+ghost use Rattle.pels.specs.Difference.{difference};
+ghost use Rattle.pels.specs.Ready.{Is};
+ghost use Rattle.cost.specs.Ready.{Planes};
 ghost use Rattle.stage.specs.Stage as stages;
 ghost use Rattle.stage.specs.Stage.{consider, withOffset, fullPel, eighthsStep, refined};
 ghost use Rattle.stage.specs.Ready.{seen, replaced, Leads, Steps, Block, Roomy};
@@ -59,7 +61,7 @@ fn better(best: Best, cost: u32, y: usize, x: usize) -> Best
 fn magnitude(n: usize, bias: usize) -> u32
     requires { ⌜ n ≤ 512 ⌝ }
     requires { ⌜ bias ≤ 512 ⌝ }
-    ensures { λ s. ⌜ Is (costs.difference n bias) 512 s ⌝ }
+    ensures { λ s. ⌜ Is (difference n bias) 512 s ⌝ }
 {
     if n < bias {
         (bias - n) as u32

@@ -1,6 +1,6 @@
 use native.Mathlib.Omega.{arith}
 use borrow.Author.Needs.{needs}
-use Rattle.cost.specs.Clamp.{offset}
+use Rattle.pels.specs.Clamp.{offset}
 use Rattle.stage.proofs.Stages.{refined-is}
 use Rattle.stage.proofs.refine.Statement.{statement}
 use Rattle.stage.proofs.refine.Tie as tie

@@ -5,8 +5,9 @@ use lib.ListN.{length, getD}
 use borrow.Author.Needs.{needs}
 use Rattle.laws.specs.Loops.{sum}
 use Rattle.plane.specs.Plane.{pel}
-use Rattle.cost.specs.Clamp.{displaced, offset}
-use Rattle.cost.specs.Cost.{difference, bilinear, rowCost, blockCost, predicted, bilinearRowCost, bilinearCost}
+use Rattle.pels.specs.Clamp.{displaced, offset}
+use Rattle.pels.specs.Difference.{difference}
+use Rattle.cost.specs.Cost.{bilinear, rowCost, blockCost, predicted, bilinearRowCost, bilinearCost}
 use Rattle.cost.specs.Ready.{rowDifference, bilinearDifference}
 use Rattle.cost.proofs.Sum.{sum-more, sum-all}
 use Rattle.cost.proofs.eighths.row_of_16.Statement.{statement}
@@ -14,7 +15,7 @@ use Rattle.cost.proofs.eighths.row_of_16.Tie as tie
 use Rattle.cost.proofs.eighths.row_of_16.Reads as reads
 use Rattle.cost.proofs.eighths.row_of_16.Lts as lts
 use Rattle.cost.proofs.eighths.blend.Reads as blend-reads
-use Rattle.cost.proofs.pels.absolute_difference.Reads as absolute-difference-reads
+use Rattle.pels.proofs.absolute_difference.Reads as absolute-difference-reads
 
 abbrev Inv-loop : tie.InvT-loop
 Inv-loop input top bottom fy fx cost₀ j₀ cost j = (j ≤ 16) × (cost ≡ sum (λ k. difference (getD input k 0) (bilinear fy fx (getD top k 0) (getD top (k + 1) 0) (getD bottom k 0) (getD bottom (k + 1) 0))) j) × (cost ≤ 65535 * j)

@@ -1,8 +1,8 @@
--- `pels::clamp` holds a coordinate to the plane.
+-- `clamp` holds a coordinate to the plane.
 -- Assumes nothing.
 use borrow.Author.Needs.{needs}
-use Rattle.cost.proofs.pels.clamp.Statement.{statement}
-use Rattle.cost.proofs.pels.clamp.Tie as tie
+use Rattle.pels.proofs.clamp.Statement.{statement}
+use Rattle.pels.proofs.clamp.Tie as tie
 
 returns : tie.Need-returns
 returns c = search needs
