@@ -2,12 +2,12 @@
 -- Assumes nothing.
 use Prim.Native.Nat.{ℕ, _+_, _*_, _-_, _/_, _%_, _≤_, _<_, min}
 use mathlib.Core.List.{List}
-use mathlib.Core.Path.{_≡_, refl, sym, ap, _∙_}
+use mathlib.Core.Path.{_≡_, sym, ap, _∙_}
 use native.Mathlib.Nat.{mul-add, mul-le-mul-right}
 use native.Mathlib.Omega.{arith}
 use lib.ListN.{take, drop}
 use Rattle.pels.specs.Clamp.{offset}
-use Rattle.cost.specs.Cost.{weighted, bilinear, predicted, bilinearRowCost, bilinearCost, eighthsCost}
+use Rattle.cost.specs.Cost.{weighted, predicted, bilinearRowCost, bilinearCost, eighthsCost}
 use Rattle.cost.specs.Ready.{bilinearDifference}
 use Rattle.cost.proofs.Stored.{whole-of-stored, fraction-of-stored}
 use Rattle.cost.proofs.Rows.{pel-of-part, displaced-of-part}

@@ -2,11 +2,10 @@
 -- Assumes nothing.
 use Prim.Native.Nat.{ℕ, _+_, _*_, _-_, _≤_, _<_, min}
 use mathlib.Core.List.{List}
-use mathlib.Core.Path.{_≡_, refl, sym}
+use mathlib.Core.Path.{_≡_}
 use native.Mathlib.Omega.{arith}
-use lib.ListN.{length, take, drop, getD}
+use lib.ListN.{take, drop, getD}
 use lib.Seq.{getD-take, getD-drop}
-use Rattle.laws.specs.Loops.{sum}
 use Rattle.plane.specs.Plane.{pel}
 use Rattle.pels.specs.Clamp.{displaced, offset}
 use Rattle.pels.specs.Difference.{difference}

@@ -2,10 +2,10 @@
 -- Assumes nothing.
 use Prim.Native.Nat.{ℕ, suc, _+_, _*_, _-_, _≤_, _<_, min}
 use mathlib.Core.List.{List}
-use mathlib.Core.Path.{_≡_, refl}
+use mathlib.Core.Path.{_≡_}
 use native.Mathlib.Nat.{mul-le-mul, mul-le-mul-right}
 use native.Mathlib.Omega.{arith}
-use lib.IntN.{pos, negsuc, _+ℤ_}
+use lib.IntN.{pos, _+ℤ_}
 use Rattle.plane.specs.Plane.{pel}
 use Rattle.pels.specs.Clamp.{clamped, displaced, offset}
 use Rattle.pels.proofs.Offset.{sub-cases, offset-cases}

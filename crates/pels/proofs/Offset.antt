@@ -2,10 +2,10 @@
 -- Assumes nothing.
 use Prim.Native.Nat.{ℕ, zero, suc, _+_, _-_}
 use mathlib.Core.Bool.{Bool, true, false, cond, not}
-use mathlib.Core.Path.{_≡_, refl, sym, ap, _∙_, subst}
+use mathlib.Core.Path.{_≡_, refl, sym, ap, subst}
 use native.Mathlib.Omega.{arith}
 use lib.Dec.{T, ltb, ltb→lt, nltb→le}
-use lib.IntN.{ℤ, pos, negsuc, _+ℤ_, _*ℤ_, subℕ, natAbs}
+use lib.IntN.{ℤ, pos, negsuc, _+ℤ_, subℕ, natAbs}
 use Rattle.pels.specs.Clamp.{offset}
 use Rattle.pels.specs.Difference.{difference}
 

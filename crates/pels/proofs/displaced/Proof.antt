@@ -1,6 +1,5 @@
 -- `displaced`: both coordinates are clamped.
 -- Assumes nothing.
-use lib.ListN.{getD}
 use Rattle.pels.proofs.Clamped.{displaced-is}
 use borrow.Author.Needs.{needs}
 use Rattle.pels.proofs.displaced.Statement.{statement}

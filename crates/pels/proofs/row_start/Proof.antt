@@ -3,7 +3,6 @@
 use mathlib.Core.Path.{refl}
 use native.Mathlib.Omega.{arith}
 use Rattle.pels.proofs.Clamped.{row-end, plane-small}
-use borrow.Author.Needs.{needs}
 use Rattle.pels.proofs.row_start.Statement.{statement}
 use Rattle.pels.proofs.row_start.Tie as tie
 

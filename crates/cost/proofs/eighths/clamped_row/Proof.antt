@@ -1,21 +1,20 @@
 -- `clamped_row`: the sum of the differences, pel by pel.
 -- Assumes nothing.
-use Prim.Native.Nat.{_+_, _*_, _-_, _≤_}
-use mathlib.Core.Path.{_≡_, refl, _∙_}
+use Prim.Native.Nat.{_+_, _-_}
+use mathlib.Core.Path.{_∙_}
 use native.Mathlib.Omega.{arith}
-use Rattle.laws.specs.Loops.{sum}
 use Rattle.plane.specs.Plane.{pel}
 use Rattle.pels.specs.Clamp.{offset}
 use Rattle.pels.specs.Difference.{difference}
 use Rattle.cost.specs.Cost.{predicted, bilinearRowCost}
-use Rattle.cost.proofs.Sum.{sum-more, sum-all}
+use Rattle.cost.proofs.Sum.{Adds, none, more, all}
 use Rattle.cost.proofs.Rows.{pel-differs}
 use borrow.Author.Needs.{needs}
 use Rattle.cost.proofs.eighths.clamped_row.Statement.{statement}
 use Rattle.cost.proofs.eighths.clamped_row.Tie as tie
 
 abbrev Inv-loop : tie.InvT-loop
-Inv-loop input reference width height r c y x fy fx first cost₀ j₀ cost j = (j ≤ 16) × (cost ≡ sum (λ k. difference (pel input width r (c + k)) (predicted reference width height r (c + k) (offset 28 y) (offset 28 x) fy fx)) j) × (cost ≤ 65535 * j)
+Inv-loop input reference width height r c y x fy fx first cost₀ j₀ cost j = Adds (λ k. difference (pel input width r (c + k)) (predicted reference width height r (c + k) (offset 28 y) (offset 28 x) fy fx)) 65535 16 j cost
 
 abbrev μ-loop : tie.MeasureT-loop
 μ-loop input reference width height r c y x fy fx first cost₀ j₀ cost j = 16 - j
@@ -24,7 +23,7 @@ row-start-requires : tie.Need-row-start-requires Inv-loop μ-loop
 row-start-requires c κs = search needs
 
 loop-holds : tie.Need-loop-holds Inv-loop μ-loop
-loop-holds c = (omega arith, refl, omega arith)
+loop-holds c = none _ _ _
 
 add-absolute-difference : tie.Need-add-absolute-difference Inv-loop μ-loop
 add-absolute-difference c = search needs
@@ -55,23 +54,11 @@ loop-less : tie.Need-loop-less Inv-loop μ-loop
 loop-less c = search needs
 
 loop-again : tie.Need-loop-again Inv-loop μ-loop
-loop-again c =
-    let a = c .before .before .before .before .before .before .before .before .args in (
-      omega arith,
-      sum-more (λ k. difference (pel (a .input .now) (a .width) (a .r) ((a .c) + k)) (predicted (a .reference .now) (a .width) (a .height) (a .r) ((a .c) + k) (offset 28 (a .y)) (offset 28 (a .x)) (a .fy) (a .fx))) (c .before .before .before .before .loop .j) (c .before .before .before .before .loop .inv .1)
-          (c .absolute-difference .ensures .same ∙ pel-differs (a .input .now) (a .width) (a .r) (a .c) (c .before .before .before .before .loop .j) (c .before .before .before .before .before .row-start .ensures .same) (c .before .clamped-pel .ensures)),
-      omega arith,
-    )
+loop-again c = let a = c .before .before .before .before .before .before .before .before .args in more (c .before .before .before .before .loop .inv) (omega arith) (c .absolute-difference .ensures .same ∙ pel-differs (a .input .now) (a .width) (a .r) (a .c) (c .before .before .before .before .loop .j) (c .before .before .before .before .before .row-start .ensures .same) (c .before .clamped-pel .ensures)) (c .absolute-difference .ensures .small)
 
 returns : tie.Need-returns Inv-loop μ-loop
 unfolding bilinearRowCost
-returns c =
-    let a = c .before .before .before .before .before .args in
-    record {
-      same =
-          sum-all (λ k. difference (pel (a .input .now) (a .width) (a .r) ((a .c) + k)) (predicted (a .reference .now) (a .width) (a .height) (a .r) ((a .c) + k) (offset 28 (a .y)) (offset 28 (a .x)) (a .fy) (a .fx))) (let e : c .before .loop .j ≡ 16 = omega arith in e) (c .before .loop .inv .1);
-      small = omega arith;
-    }
+returns c = all _ (c .before .loop .inv) (omega arith) (omega arith)
 
 pub clamped-row-spec : {M : Type 1} → statement M
 clamped-row-spec =
