@@ -1,13 +1,13 @@
--- Signed offsets as biased natural numbers: an offset has one or the other sign, and sums, multiples, magnitudes and eighths go over.
+-- Signed offsets as biased natural numbers: an offset has one or the other sign, and sums and magnitudes go over.
 -- Assumes nothing.
-use Prim.Native.Nat.{ℕ, zero, suc, _+_, _*_, _-_, _/_, _%_}
+use Prim.Native.Nat.{ℕ, zero, suc, _+_, _-_}
 use mathlib.Core.Bool.{Bool, true, false, cond, not}
-use mathlib.Core.Path.{_≡_, refl, sym, ap, _∙_, subst}
+use mathlib.Core.Path.{_≡_, refl, sym, ap, subst}
 use native.Mathlib.Omega.{arith}
 use lib.Dec.{T, ltb, ltb→lt, nltb→le}
-use lib.IntN.{ℤ, pos, negsuc, _+ℤ_, _*ℤ_, subℕ, natAbs}
-use Rattle.cost.specs.Clamp.{offset}
-use Rattle.cost.specs.Cost.{difference, whole, fraction}
+use lib.IntN.{ℤ, pos, negsuc, _+ℤ_, subℕ, natAbs}
+use Rattle.pels.specs.Clamp.{offset}
+use Rattle.pels.specs.Difference.{difference}
 
 by-test : (t : Bool) (x y : ℤ) (P : ℤ → Type 0) → (T t → P x) → (T (not t) → P y) → P (cond t x y)
 by-test true x y P f g = f tt
@@ -63,18 +63,3 @@ offset-add a m b n =
     (λ i p. sym (offset-neg (a + b) (m + n) i (omega arith)))
     (λ i p. sym (offset-pos (a + b) (m + n) i (omega arith))))
     (λ l q. sym (offset-pos (a + b) (m + n) (k + l) (omega arith))))
-
--- a motion in eighths plus 223, as whole pels plus 28 and eighths left
-pub whole-of-stored : (n : ℕ) → whole (offset 223 n) ≡ offset 28 ((n + 1) / 8)
-unfolding whole
-whole-of-stored n =
-    offset-cases 223 n (λ z. whole z ≡ offset 28 ((n + 1) / 8))
-    (λ k e. sym (offset-neg 28 ((n + 1) / 8) (k / 8) (omega arith)))
-    (λ k e. sym (offset-pos 28 ((n + 1) / 8) (k / 8) (omega arith)))
-
-pub fraction-of-stored : (n : ℕ) → fraction (offset 223 n) ≡ (n + 1) % 8
-unfolding fraction
-fraction-of-stored n =
-    offset-cases 223 n (λ z. fraction z ≡ (n + 1) % 8)
-    (λ k e. omega arith)
-    (λ k e. omega arith)
