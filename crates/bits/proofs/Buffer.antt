@@ -114,6 +114,14 @@ wrote-both {l} {l'} {l''} {j} {j'} {j''} xs ys a b =
       buffer = b .buffer ∙ rw (a .buffer, a .at) (sym (putBits-append l j xs ys));
     }
 
+-- and where the first is written, the second is what is left of both
+pub wrote-rest : {l l' m : List ℕ} {j j' n : ℕ} (xs ys : List ℕ) → Wrote l j xs l' j' → Wrote l j (xs ++ ys) m n → Wrote l' j' ys m n
+wrote-rest {l} {l'} {m} {j} {j'} {n} xs ys a b =
+    record {
+      at = omega (arith, a .at, b .at, length-append xs ys);
+      buffer = b .buffer ∙ rw (a .buffer, a .at) (putBits-append l j xs ys);
+    }
+
 pub wrote-as : {l l' : List ℕ} {j j' : ℕ} (xs ys : List ℕ) → xs ≡ ys → Wrote l j xs l' j' → Wrote l j ys l' j'
 wrote-as {l} {l'} {j} {j'} xs ys e w = subst (λ (bs : List ℕ). Wrote l j bs l' j') e w
 

@@ -9,6 +9,7 @@ use lib.ListN.{length}
 use Rattle.bits.specs.Fields.{fieldBits}
 use Rattle.grid.specs.Grid.{absBits, precBits, centre}
 use Rattle.grid.specs.Symbols.{symbols, symbolOf, priorOut}
+use Rattle.legal.specs.Models.{priorsOut}
 use Rattle.header.specs.Coefficient.{place}
 use Rattle.header.specs.Valid.{ValidPrior}
 use Rattle.header.specs.Writing.{typeBits}
@@ -36,6 +37,13 @@ pub record ModelReady (ps qs : List ℤ) (first : ℕ) : Type 0 where
   pub numbers : first + 6 ≤ length ps
   pub places : first + 6 ≤ length qs
   pub priors : ValidPrior qs first
+
+-- seven types and their models, and priors in range
+pub record HeaderReady (types : List ℕ) (ps qs : List ℤ) : Type 0 where
+  pub seven : length types ≡ 7
+  pub numbers : length ps ≡ 42
+  pub places : length qs ≡ 42
+  pub within : priorsOut qs ≡ false
 
 -- the type bits as a field
 pub record TypeFieldIs (gmType : ℕ) (r : TypeField) : Type 0 where

@@ -7,7 +7,7 @@ use mathlib.Core.List.{List, [], _∷_, _++_}
 use lib.Dec.{ltb, eqb}
 use lib.IntN.{ℤ, pos}
 use lib.ListN.{length, getD}
-use Rattle.laws.specs.Refusal.{row, choose, either, judge}
+use Rattle.laws.specs.Refusal.{Row, row, choose, either, judge}
 use Rattle.bits.specs.Bits.{putBits}
 use Rattle.bits.specs.Fields.{padBits}
 use Rattle.legal.specs.Models.{typesOver, modelsWrong, priorsOut}
@@ -55,8 +55,9 @@ headerBits types ps flag qs = referencesBits flag ps qs types 7 0
 
 -- ---- the public call
 
-abbrev pub lengthsWrong : List ℕ → List ℤ → List ℤ → Bool
-lengthsWrong types ps qs = either (not (eqb (length types) 7)) (either (not (eqb (length ps) 42)) (not (eqb (length qs) 42)))
+-- of types, of their numbers, of the priors
+abbrev pub lengthsWrong : ℕ → ℕ → ℕ → Bool
+lengthsWrong types ps qs = either (not (eqb types 7)) (either (not (eqb ps 42)) (not (eqb qs 42)))
 
 -- the bytes that hold so many bits from the bit `start` of the first byte on
 abbrev pub bytesFor : ℕ → ℕ → ℕ
@@ -66,16 +67,21 @@ bytesFor start n = (start + n + 7) / 8
 abbrev pub placed : ℕ → List ℕ → List ℕ → List ℕ
 placed start bits old = putBits old start (bits ++ padBits (start + length bits))
 
-unfoldable pub writeRefusal : List ℕ → List ℤ → ℕ → List ℤ → ℕ → ℕ
-writeRefusal types ps flag qs room =
-    judge
-    (row 2 (lengthsWrong types ps qs)
+abbrev pub tooShort : List ℕ → List ℤ → ℕ → List ℤ → ℕ → Bool
+tooShort types ps flag qs room = ltb room (bytesFor 0 (length (headerBits types ps flag qs)))
+
+abbrev pub writeRows : List ℕ → List ℤ → ℕ → List ℤ → ℕ → List Row
+writeRows types ps flag qs room =
+    row 2 (lengthsWrong (length types) (length ps) (length qs))
     ∷ row 4 (typesOver types)
     ∷ row 4 (ltb 1 flag)
     ∷ row 7 (modelsWrong types flag ps)
     ∷ row 8 (priorsOut qs)
-    ∷ row 3 (ltb room (bytesFor 0 (length (headerBits types ps flag qs))))
-    ∷ [])
+    ∷ row 3 (tooShort types ps flag qs room)
+    ∷ []
+
+unfoldable pub writeRefusal : List ℕ → List ℤ → ℕ → List ℤ → ℕ → ℕ
+writeRefusal types ps flag qs room = judge (writeRows types ps flag qs room)
 
 unfoldable pub written : List ℕ → List ℤ → ℕ → List ℤ → ℕ → Written
 written types ps flag qs room =

@@ -3,13 +3,23 @@
 // and 5.9.25 of the standard; `encode_inter_global_motion` and `write_global_param` of
 // encoder/frame_obu.rs. `specs/Reading` also states what the standard reads.
 ghost use mathlib.Core.Path.{_≡_};
+ghost use mathlib.Core.List.{_++_};
 ghost use Prim.Native.Nat.{_+_, _*_, _^_, _≤_, _<_};
 ghost use lib.ListN.{length};
 ghost use Rattle.bits.specs.Bits.{Room, Wrote};
 ghost use Rattle.header.specs.Coefficient.{coefficientBits};
-ghost use Rattle.header.specs.Contracts.{PriorIn, SymbolsIs, SymbolIs, ModelReady, TypeFieldIs};
-ghost use Rattle.header.specs.Writing.{slotOf, typeBits, pairBits};
+ghost use Rattle.header.specs.Contracts.{PriorIn, SymbolsIs, SymbolIs, ModelReady, HeaderReady, TypeFieldIs};
+ghost use Rattle.header.specs.Writing.{slotOf, typeBits, pairBits, affineBits, modelBits, referenceBits, headerBits, lengthsWrong, bytesFor, tooShort, placed, writeRefusal, written, headerAfter};
 use bits::BitCursor;
+
+const REFERENCES: usize = 7;
+
+const SLOTS: usize = 6;
+
+const NUMBERS: usize = 42;
+
+// 987 bits at most.
+const MOST_BYTES: usize = 124;
 
 const IDENTITY: u8 = 0;
 
@@ -136,4 +146,191 @@ fn write_pair(
 {
     let next = write_slot(cursor, header, gm_type, flag, params, prior, first, slot);
     write_slot(next, header, gm_type, flag, params, prior, first, slot + 1)
+}
+
+// Two pairs of slots, one after the other.
+fn write_pairs(
+    cursor: BitCursor,
+    header: &mut [u8],
+    gm_type: u8,
+    flag: u8,
+    params: &[i32],
+    prior: &[i32],
+    first: usize,
+    slot: u8,
+) -> BitCursor
+    requires { ⌜ ModelReady (now params) (now prior) first × (slot < 5) × Room (now header) (cursor .at) (length (pairBits flag (now params) (now prior) «gm_type» first slot ++ pairBits flag (now params) (now prior) «gm_type» first 0)) ⌝ }
+    ensures { λ r. ⌜ Wrote (now (header .entry)) (cursor .at) (pairBits flag (now (params .entry)) (now (prior .entry)) «gm_type» first slot ++ pairBits flag (now (params .entry)) (now (prior .entry)) «gm_type» first 0) (now (header .exit)) (r .at) ⌝ }
+{
+    let next = write_pair(cursor, header, gm_type, flag, params, prior, first, slot);
+    write_pair(next, header, gm_type, flag, params, prior, first, 0)
+}
+
+// Slots 2, 3, then 4, 5, then 0, 1.
+fn write_affine(
+    cursor: BitCursor,
+    header: &mut [u8],
+    gm_type: u8,
+    flag: u8,
+    params: &[i32],
+    prior: &[i32],
+    first: usize,
+) -> BitCursor
+    requires { ⌜ ModelReady (now params) (now prior) first × Room (now header) (cursor .at) (length (affineBits flag (now params) (now prior) «gm_type» first)) ⌝ }
+    ensures { λ r. ⌜ Wrote (now (header .entry)) (cursor .at) (affineBits flag (now (params .entry)) (now (prior .entry)) «gm_type» first) (now (header .exit)) (r .at) ⌝ }
+{
+    let next = write_pair(cursor, header, gm_type, flag, params, prior, first, 2);
+    write_pairs(next, header, gm_type, flag, params, prior, first, 4)
+}
+
+// The coefficients of the model whose six numbers begin at `first`, in the standard's order.
+fn write_model(
+    cursor: BitCursor,
+    header: &mut [u8],
+    gm_type: u8,
+    flag: u8,
+    params: &[i32],
+    prior: &[i32],
+    first: usize,
+) -> BitCursor
+    requires { ⌜ ModelReady (now params) (now prior) first × Room (now header) (cursor .at) (length (modelBits flag (now params) (now prior) «gm_type» first)) ⌝ }
+    ensures { λ r. ⌜ Wrote (now (header .entry)) (cursor .at) (modelBits flag (now (params .entry)) (now (prior .entry)) «gm_type» first) (now (header .exit)) (r .at) ⌝ }
+{
+    if gm_type == IDENTITY {
+        return cursor;
+    }
+    if gm_type == TRANSLATION {
+        return write_pair(cursor, header, gm_type, flag, params, prior, first, 0);
+    }
+    if gm_type == ROTZOOM {
+        return write_pairs(cursor, header, gm_type, flag, params, prior, first, 2);
+    }
+    write_affine(cursor, header, gm_type, flag, params, prior, first)
+}
+
+// One reference: its type bits, then its coefficients.
+fn write_reference(
+    cursor: BitCursor,
+    header: &mut [u8],
+    gm_type: u8,
+    flag: u8,
+    params: &[i32],
+    prior: &[i32],
+    first: usize,
+) -> BitCursor
+    requires { ⌜ ModelReady (now params) (now prior) first × Room (now header) (cursor .at) (length (referenceBits flag (now params) (now prior) «gm_type» first)) ⌝ }
+    ensures { λ r. ⌜ Wrote (now (header .entry)) (cursor .at) (referenceBits flag (now (params .entry)) (now (prior .entry)) «gm_type» first) (now (header .exit)) (r .at) ⌝ }
+{
+    let next = write_type(cursor, header, gm_type);
+    write_model(next, header, gm_type, flag, params, prior, first)
+}
+
+// References 1 to 7, one behind the other.
+fn write_references(
+    cursor: BitCursor,
+    header: &mut [u8],
+    types: &[u8],
+    flag: u8,
+    params: &[i32],
+    prior: &[i32],
+) -> BitCursor
+    requires { ⌜ HeaderReady (now types) (now params) (now prior) × Room (now header) (cursor .at) (length (headerBits (now types) (now params) flag (now prior))) ⌝ }
+    ensures { λ r. ⌜ Wrote (now (header .entry)) (cursor .at) (headerBits (now (types .entry)) (now (params .entry)) flag (now (prior .entry))) (now (header .exit)) (r .at) ⌝ }
+{
+    let mut next = cursor;
+    let mut r = 0;
+    while r < REFERENCES {
+        next = write_reference(next, header, types[r], flag, params, prior, SLOTS * r);
+        r += 1;
+    }
+    next
+}
+
+// How many bits the references take: they are written where there is always room.
+fn header_length(types: &[u8], flag: u8, params: &[i32], prior: &[i32]) -> usize
+    requires { ⌜ HeaderReady (now types) (now params) (now prior) ⌝ }
+    ensures { λ r. ⌜ r ≡ length (headerBits (now (types .entry)) (now (params .entry)) flag (now (prior .entry))) ⌝ }
+{
+    let mut bytes = [0u8; 124];
+    let end = write_references(BitCursor::new(0), &mut bytes, types, flag, params, prior);
+    end.at
+}
+
+fn lengths_wrong(types: usize, params: usize, prior: usize) -> bool
+    ensures { λ r. ⌜ r ≡ lengthsWrong types params prior ⌝ }
+{
+    if types != REFERENCES {
+        return true;
+    }
+    if params != NUMBERS {
+        return true;
+    }
+    prior != NUMBERS
+}
+
+// Fewer bytes than the header's bits take.
+fn too_short(types: &[u8], flag: u8, params: &[i32], prior: &[i32], room: usize) -> bool
+    requires { ⌜ HeaderReady (now types) (now params) (now prior) ⌝ }
+    ensures { λ r. ⌜ r ≡ tooShort (now (types .entry)) (now (params .entry)) flag (now (prior .entry)) room ⌝ }
+{
+    if MOST_BYTES <= room {
+        return false;
+    }
+    room < (header_length(types, flag, params, prior) + 7) / 8
+}
+
+fn refusal_of(types: &[u8], params: &[i32], flag: u8, prior: &[i32], room: usize) -> u32
+    ensures { λ r. ⌜ r ≡ writeRefusal (now (types .entry)) (now (params .entry)) flag (now (prior .entry)) room ⌝ }
+{
+    if lengths_wrong(types.len(), params.len(), prior.len()) {
+        return 2;
+    }
+    if legal::types_over(types) {
+        return 4;
+    }
+    if 1 < flag {
+        return 4;
+    }
+    if legal::models_wrong(types, flag, params) {
+        return 7;
+    }
+    if legal::priors_out(prior) {
+        return 8;
+    }
+    if too_short(types, flag, params, prior, room) {
+        return 3;
+    }
+    0
+}
+
+// The bits, then zeros up to the end of the last byte; how many bits they are without the zeros.
+fn write_header(types: &[u8], params: &[i32], flag: u8, prior: &[i32], header: &mut [u8]) -> usize
+    requires { ⌜ HeaderReady (now types) (now params) (now prior) × (bytesFor 0 (length (headerBits (now types) (now params) flag (now prior))) ≤ length (now header)) ⌝ }
+    ensures { λ r. ⌜ (r ≡ length (headerBits (now (types .entry)) (now (params .entry)) flag (now (prior .entry)))) × (now (header .exit) ≡ placed 0 (headerBits (now (types .entry)) (now (params .entry)) flag (now (prior .entry))) (now (header .entry))) ⌝ }
+{
+    let end = write_references(BitCursor::new(0), header, types, flag, params, prior);
+    let bits = end.at;
+    end.byte_align(header);
+    bits
+}
+
+// Seven types and models in rising order of reference, the flag, and a prior for each number.
+pub fn encode_inter_global_motion(
+    types: &[u8],
+    params: &[i32],
+    flag: u8,
+    prior: &[i32],
+    header: &mut [u8],
+) -> Written
+    ensures { λ r. ⌜ r ≡ written (now (types .entry)) (now (params .entry)) flag (now (prior .entry)) (length (now (header .entry))) ⌝ }
+    ensures { λ r. ⌜ now (header .exit) ≡ headerAfter (now (types .entry)) (now (params .entry)) flag (now (prior .entry)) (now (header .entry)) ⌝ }
+{
+    let refusal = refusal_of(types, params, flag, prior, header.len());
+    if refusal != 0 {
+        return Written { refusal, bits: 0 };
+    }
+    Written {
+        refusal: 0,
+        bits: write_header(types, params, flag, prior, header),
+    }
 }
