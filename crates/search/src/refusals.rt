@@ -9,7 +9,7 @@ const LAST_CLASS: u8 = 3;
 
 const BLOCK: usize = 16;
 
-fn too_large(width: usize, height: usize) -> bool
+pub fn too_large(width: usize, height: usize) -> bool
     ensures { λ b. ⌜ b ≡ tooLarge width height ⌝ }
 {
     if LARGEST_SIDE < width {
@@ -18,7 +18,13 @@ fn too_large(width: usize, height: usize) -> bool
     LARGEST_SIDE < height
 }
 
-fn wrong_length(width: usize, height: usize, input: usize, reference: usize, classes: usize) -> bool
+pub fn wrong_length(
+    width: usize,
+    height: usize,
+    input: usize,
+    reference: usize,
+    classes: usize,
+) -> bool
     requires { ⌜ Small width height ⌝ }
     ensures { λ b. ⌜ b ≡ wrongLength width height input reference classes ⌝ }
 {
@@ -31,7 +37,7 @@ fn wrong_length(width: usize, height: usize, input: usize, reference: usize, cla
     classes != height / BLOCK * (width / BLOCK)
 }
 
-fn bad_class(classes: &[u8]) -> bool
+pub fn bad_class(classes: &[u8]) -> bool
     ensures { λ b. ⌜ b ≡ badClass (now (classes .entry)) ⌝ }
 {
     let mut k = 0;
@@ -44,7 +50,13 @@ fn bad_class(classes: &[u8]) -> bool
     false
 }
 
-fn too_short(width: usize, height: usize, input_half: usize, ref_half: usize, words: usize) -> bool
+pub fn too_short(
+    width: usize,
+    height: usize,
+    input_half: usize,
+    ref_half: usize,
+    words: usize,
+) -> bool
     requires { ⌜ Small width height ⌝ }
     ensures { λ b. ⌜ b ≡ tooShort width height «input_half» «ref_half» words ⌝ }
 {

@@ -1,0 +1,184 @@
+// The job (document 01, 'Job'): search, sample words, fit for the type asked for, grid, score, then the
+// blocks and the header with the model at its reference. In go a frame pair, the settings, a class for
+// each sample, the six other types and models, and the prior; lent are two half planes, words, blocks
+// and header. It calls the public calls alone; its rows are in the crate `job_refusal`.
+use job_laws::Report;
+use job_model::Modelled;
+use job_refusal::Settings;
+ghost use mathlib.Core.Path.{_≡_};
+ghost use lib.ListN.{length};
+ghost use Rattle.block.specs.Frame.{blocksLeft};
+ghost use Rattle.header.specs.Writing.{written, headerAfter};
+ghost use Rattle.job_refusal.specs.Task.{task, lend, roomOf};
+ghost use Rattle.job_refusal.specs.Rows.{early};
+ghost use Rattle.job_model.specs.Modelled.{Modelling};
+ghost use Rattle.job_laws.specs.Outcome.{refused, ended, outcome};
+ghost use Rattle.job_laws.specs.Done.{Done};
+ghost use Rattle.job.specs.Finished.{reportOf, finished, blocksFinished, headerFinished};
+
+fn refused(number: u32) -> Report
+    ensures { λ r. ⌜ r ≡ refused number ⌝ }
+{
+    let types = [0u8; 7];
+    let models = [0i32; 42];
+    Report {
+        refusal: number,
+        types,
+        models,
+        score: 0.0,
+        bits: 0,
+        samples: 0,
+    }
+}
+
+// The words into blocks, the seven models into the header.
+fn write_out(
+    m: Modelled,
+    settings: Settings,
+    prior: &[i32],
+    words: &[u32],
+    blocks: &mut [u8],
+    header: &mut [u8],
+) -> Report
+    ensures { λ r. ⌜ r ≡ reportOf m (written (m .types) (m .models) (settings .flag) (now (prior .entry)) (length (now (header .entry))) .bits) (length (now (words .entry))) ⌝ }
+    ensures { λ _. ⌜ now (blocks .exit) ≡ blocksLeft (settings .frame) (now (words .entry)) (now (blocks .entry)) ⌝ }
+    ensures { λ _. ⌜ now (header .exit) ≡ headerAfter (m .types) (m .models) (settings .flag) (now (prior .entry)) (now (header .entry)) ⌝ }
+{
+    let types = m.types;
+    let models = m.models;
+    block::write_frame(settings.frame, words, &mut *blocks);
+    let w = header::encode_inter_global_motion(&types, &models, settings.flag, prior, &mut *header);
+    Report {
+        refusal: 0,
+        types,
+        models,
+        score: m.score,
+        bits: w.bits,
+        samples: words.len(),
+    }
+}
+
+// The model of the words; a refused fit writes no block and no header.
+fn finish(
+    settings: Settings,
+    types: &[u8],
+    models: &[i32],
+    prior: &[i32],
+    words: &[u32],
+    blocks: &mut [u8],
+    header: &mut [u8],
+) -> Report
+    requires { ⌜ Modelling (settings .«gm_type») (settings .reference) (settings .flag) (now types) (now models) (now words) ⌝ }
+    ensures { λ r. ⌜ r ≡ finished settings (now (types .entry)) (now (models .entry)) (now (prior .entry)) (now (words .entry)) (length (now (header .entry))) ⌝ }
+    ensures { λ _. ⌜ now (blocks .exit) ≡ blocksFinished settings (now (types .entry)) (now (models .entry)) (now (words .entry)) (now (blocks .entry)) ⌝ }
+    ensures { λ _. ⌜ now (header .exit) ≡ headerFinished settings (now (types .entry)) (now (models .entry)) (now (prior .entry)) (now (words .entry)) (now (header .entry)) ⌝ }
+{
+    let m = job_model::models_of(
+        settings.gm_type,
+        settings.reference,
+        settings.flag,
+        types,
+        models,
+        words,
+    );
+    if m.refusal != 0 {
+        return refused(m.refusal);
+    }
+    write_out(m, settings, prior, words, &mut *blocks, &mut *header)
+}
+
+// A job that no row before the fit refuses.
+fn run(
+    input: &[u16],
+    reference: &[u16],
+    width: usize,
+    height: usize,
+    settings: Settings,
+    classes: &[u8],
+    types: &[u8],
+    models: &[i32],
+    prior: &[i32],
+    input_half: &mut [u16],
+    ref_half: &mut [u16],
+    words: &mut [u32],
+    blocks: &mut [u8],
+    header: &mut [u8],
+) -> Report
+    requires { ⌜ early (task (now input) (now reference) width height settings (now classes) (now types) (now models) (now prior)) (roomOf (lend (now «input_half») (now «ref_half») (now words) (now blocks) (now header))) ≡ 0 ⌝ }
+    ensures { λ r. ⌜ ended r (lend (now («input_half» .exit)) (now («ref_half» .exit)) (now (words .exit)) (now (blocks .exit)) (now (header .exit))) ≡ outcome (task (now (input .entry)) (now (reference .entry)) width height settings (now (classes .entry)) (now (types .entry)) (now (models .entry)) (now (prior .entry))) (lend (now («input_half» .entry)) (now («ref_half» .entry)) (now (words .entry)) (now (blocks .entry)) (now (header .entry))) ⌝ }
+{
+    let found = search::collect_motion_samples(
+        input,
+        reference,
+        width,
+        height,
+        classes,
+        &mut *input_half,
+        &mut *ref_half,
+        &mut *words,
+    );
+    finish(
+        settings,
+        types,
+        models,
+        prior,
+        &words[..found.samples],
+        &mut *blocks,
+        &mut *header,
+    )
+}
+
+pub fn job(
+    input: &[u16],
+    reference: &[u16],
+    width: usize,
+    height: usize,
+    settings: Settings,
+    classes: &[u8],
+    types: &[u8],
+    models: &[i32],
+    prior: &[i32],
+    input_half: &mut [u16],
+    ref_half: &mut [u16],
+    words: &mut [u32],
+    blocks: &mut [u8],
+    header: &mut [u8],
+) -> Report
+    ensures { λ r. ⌜ Done (task (now (input .entry)) (now (reference .entry)) width height settings (now (classes .entry)) (now (types .entry)) (now (models .entry)) (now (prior .entry))) (lend (now («input_half» .entry)) (now («ref_half» .entry)) (now (words .entry)) (now (blocks .entry)) (now (header .entry))) (ended r (lend (now («input_half» .exit)) (now («ref_half» .exit)) (now (words .exit)) (now (blocks .exit)) (now (header .exit)))) ⌝ }
+{
+    let refusal = job_refusal::refusal_of(
+        input,
+        reference,
+        width,
+        height,
+        settings,
+        classes,
+        types,
+        models,
+        prior,
+        input_half.len(),
+        ref_half.len(),
+        words.len(),
+        blocks.len(),
+        header.len(),
+    );
+    if refusal != 0 {
+        return refused(refusal);
+    }
+    run(
+        input,
+        reference,
+        width,
+        height,
+        settings,
+        classes,
+        types,
+        models,
+        prior,
+        &mut *input_half,
+        &mut *ref_half,
+        &mut *words,
+        &mut *blocks,
+        &mut *header,
+    )
+}

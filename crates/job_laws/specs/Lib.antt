@@ -1,0 +1,4 @@
+pub mod Outcome
+pub mod Count
+pub mod Demand3
+pub mod Done

@@ -1,0 +1,2 @@
+pub mod FitOfType
+pub mod Composed
