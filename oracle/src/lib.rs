@@ -73,7 +73,11 @@ pub struct Samples(Vec<MotionSample>);
 
 impl Samples {
     pub fn new(samples: &[[f64; 4]]) -> Self {
-        Self(global_motion::samples(samples))
+        Self(global_motion::samples(samples.iter().copied()))
+    }
+
+    pub fn of_words(words: &[u32]) -> Self {
+        Self(global_motion::samples(words.iter().map(|&word| sample_of(word))))
     }
 
     pub fn fit(&self, kind: u8) -> Option<[f64; 6]> {
