@@ -8,7 +8,7 @@ use lib.IntN.{ℤ, pos}
 use lib.ListN.{length, replicate}
 use Rattle.laws.specs.Refusal.{row, choose, judge}
 use Rattle.legal.specs.Models.{priorsOut}
-use Rattle.header.specs.Reading.{modelsRead}
+use Rattle.header.specs.Reading.{ReadModels, modelsRead}
 use Rattle.header_read.specs.declared.Models.{Models}
 
 unfoldable pub readRefusal : List ℕ → ℕ → ℕ → List ℤ → ℕ
@@ -22,6 +22,13 @@ readRefusal header at flag qs =
 
 abbrev pub noModels : ℕ → Models
 noModels n = record { refusal = n; types = replicate 7 0; params = replicate 42 (pos 0); bits = 0 }
+
+-- the models that were read from position `at` of the bytes, or row 9 where their bits are more than the bytes hold
+abbrev pub within : List ℕ → ℕ → ReadModels → Models
+within header at t =
+    choose (ltb (8 * length header) (at + t .bits))
+    (noModels 9)
+    (record { refusal = 0; types = t .types; params = t .params; bits = t .bits })
 
 unfoldable pub models : List ℕ → ℕ → ℕ → List ℤ → Models
 models header at flag qs =
