@@ -3,6 +3,7 @@
 //! A type is 0 to 3; every not-a-number in an answer is the one that `canonical` gives.
 
 pub mod blocks;
+pub mod header_files;
 pub mod list;
 mod ported;
 mod stand_ins;
