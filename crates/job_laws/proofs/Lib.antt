@@ -5,4 +5,5 @@ pub mod OwnModel
 pub mod Seven
 pub mod Count
 pub mod Written
+pub mod Refused
 pub mod Demand3

@@ -20,7 +20,7 @@ passes : (rs after : List Row) → Quiet rs → judge (rs ++ after) ≡ judge af
 passes [] after q = refl
 passes (r ∷ rs) after q = rw (q .0) (passes rs after (q .1))
 
-silent : (rs : List Row) → Quiet rs → judge rs ≡ 0
+pub silent : (rs : List Row) → Quiet rs → judge rs ≡ 0
 silent [] q = refl
 silent (r ∷ rs) q = rw (q .0) (silent rs (q .1))
 
@@ -33,7 +33,7 @@ stops [] after h = absurd (h refl)
 stops (r ∷ rs) after h = stop (r .holds) (r .number) (judge (rs ++ after)) (judge rs) h (stops rs after)
 
 -- no row has this number
-abbrev without : ℕ → List Row → Bool
+abbrev pub without : ℕ → List Row → Bool
 without k [] = true
 without k (r ∷ rs) = both (not (eqb (r .number) k)) (without k rs)
 
@@ -47,7 +47,7 @@ first-of : (a b : Bool) → T (both a b) → (a ≡ true) × T b
 first-of true b t = (refl, t)
 first-of false b t = absurd t
 
-never : (k : ℕ) (rs : List Row) → T (without k rs) → 0 < k → judge rs ≡ k → ⊥
+pub never : (k : ℕ) (rs : List Row) → T (without k rs) → 0 < k → judge rs ≡ k → ⊥
 never k [] t h e = omega arith
 never k (r ∷ rs) t h e =
     let f = first-of (not (eqb (r .number) k)) (without k rs) t in

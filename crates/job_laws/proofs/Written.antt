@@ -9,7 +9,7 @@ use borrow.Author.Tests.{le-ltb, eq-eqb}
 use lib.IntN.{ℤ, pos}
 use lib.ListN.{length, getD, take, drop}
 use Rattle.bits.proofs.Buffer.{length-putBits}
-use Rattle.legal.specs.Models.{typesOver, modelsWrong, priorsOut}
+use Rattle.legal.specs.Models.{typesOver, modelWrong, modelsWrong, priorsOut}
 use Rattle.header.specs.declared.Written as declared
 use Rattle.header.specs.Reading.{ReadModels, modelsRead}
 use Rattle.header.specs.Writing.{headerBits, placed, bytesFor, writeRefusal, written, headerAfter}
@@ -50,7 +50,11 @@ module _ (j : Task) (s : Sound j) (fits : refusalOf (fitIn j) ≡ 0) where
   pub stored-six : length (stored kind flag (words j)) ≡ 6
   stored-six = row-first-length kind (own kind flag (words j)) ∙ on-grid .six
 
-  -- row 7 never holds of the seven models
+  -- row 7 never holds of the fitted model
+  pub fitted-right : modelWrong kind flag (stored kind flag (words j)) 0 ≡ false
+  fitted-right = own-right kind flag (s .fits .least) (s .fits .most) (own kind flag (words j)) on-grid
+
+  -- nor of the seven
   pub writable : Writable (types j) (models j) flag (j .prior)
   writable =
       record {
@@ -60,7 +64,7 @@ module _ (j : Task) (s : Sound j) (fits : refusalOf (fitIn j) ≡ 0) where
         known = types-known (j .settings .reference - 1) kind (j .types) (s .six) place-le (s .known) (s .fits .most);
         right =
             models-right (j .settings .reference - 1) kind flag (j .types) (stored kind flag (words j)) (j .models) (s .six) stored-six (s .numbers) place-le (s .right)
-            (own-right kind flag (s .fits .least) (s .fits .most) (own kind flag (words j)) on-grid);
+            fitted-right;
         within = s .within;
       }
 

@@ -14,13 +14,13 @@ use Rattle.quantize.proofs.row_first.Reads as row-first-reads
 quantize-model-requires : tie.Need-quantize-model-requires
 quantize-model-requires c κs = search needs
 
--- src/lib.rt:69:9
-mean-sq-residual-requires : tie.Need-mean-sq-residual-requires
-mean-sq-residual-requires c κs = search needs
-
 -- src/lib.rt:70:9
 row-first-requires : tie.Need-row-first-requires
 row-first-requires c κs = search needs
+
+-- src/lib.rt:69:9
+mean-sq-residual-requires : tie.Need-mean-sq-residual-requires
+mean-sq-residual-requires c κs = search needs
 
 -- src/lib.rt:71:9
 types-with-requires : tie.Need-types-with-requires
@@ -32,15 +32,15 @@ models-with-requires c κs = search needs
 
 -- src/lib.rt:55:1
 returns : tie.Need-returns
-returns c = composed (c .before .before .before .before .before .before .before .before .args .gm-type) (c .before .before .before .before .before .before .before .before .args .reference) (c .before .before .before .before .before .before .before .before .args .flag) (c .before .before .before .before .before .before .before .before .args .types .now) (c .before .before .before .before .before .before .before .before .args .models .now) (c .before .before .before .before .before .before .before .before .args .words .now) (c .before .before .before .before .before .before .before .before .pre) (c .before .before .before .before .before .quantize-model .ensures) (c .before .before .before .mean-sq-residual .ensures) (c .before .before .row-first .ensures) (c .before .types-with .ensures) (c .models-with .ensures)
+returns c = composed (c .before .before .before .before .before .before .before .before .args .gm-type) (c .before .before .before .before .before .before .before .before .args .reference) (c .before .before .before .before .before .before .before .before .args .flag) (c .before .before .before .before .before .before .before .before .args .types .now) (c .before .before .before .before .before .before .before .before .args .models .now) (c .before .before .before .before .before .before .before .before .args .words .now) (c .before .before .before .before .before .before .before .before .pre) (c .before .before .before .before .before .quantize-model .ensures) (c .before .before .mean-sq-residual .ensures) (c .before .before .before .row-first .ensures) (c .before .types-with .ensures) (c .models-with .ensures)
 
 pub with-model-spec : {M : Type 1} → statement M
 with-model-spec =
     tie.close
     (tie.spec
     quantize-model-requires
-    mean-sq-residual-requires
     row-first-requires
+    mean-sq-residual-requires
     types-with-requires
     models-with-requires
     returns)
