@@ -252,51 +252,29 @@ fn next_numbers(list: i32) -> [i32; 42] {
     numbers
 }
 
+// What slots 2 and 5 hold in the identity.
+fn centre_of(slot: usize) -> u32 {
+    if slot % 3 == 2 { 65536 } else { 0 }
+}
+
 fn identity() -> [i32; 42] {
-    [
-        0,
-        0,
-        65536,
-        0,
-        0,
-        65536,
-        0,
-        0,
-        65536,
-        0,
-        0,
-        65536,
-        0,
-        0,
-        65536,
-        0,
-        0,
-        65536,
-        0,
-        0,
-        65536,
-        0,
-        0,
-        65536,
-        0,
-        0,
-        65536,
-        0,
-        0,
-        65536,
-        0,
-        0,
-        65536,
-        0,
-        0,
-        65536,
-        0,
-        0,
-        65536,
-        0,
-        0,
-        65536,
-    ]
+    let mut numbers = [0i32; 42];
+    let mut i = 0usize;
+    while i < 42 {
+        numbers[i] = replay::signed(centre_of(i));
+        i += 1;
+    }
+    numbers
+}
+
+fn identity_words() -> [u32; 43] {
+    let mut words = [0u32; 43];
+    let mut i = 0usize;
+    while i < 43 {
+        words[i] = centre_of(i);
+        i += 1;
+    }
+    words
 }
 
 fn next_prior(list: i32, given: bool) -> [i32; 42] {
@@ -331,7 +309,7 @@ fn types_of(word: u32) -> [u8; 7] {
 }
 
 fn next_short(list: i32) -> u16 {
-    (replay::next_word(list) % 65536) as u16
+    least(replay::next_word(list) as usize, 65535) as u16
 }
 
 fn next_case(list: i32) -> Case {
@@ -379,99 +357,42 @@ fn worked_case() -> Case {
     }
 }
 
-// All types, numbers in the middle and at both ends, codable with either flag; prior identity.
+fn with_model(words: [u32; 43], reference: usize, model: [u32; 6]) -> [u32; 43]
+    requires { ⌜ (1 ≤ reference) × (reference ≤ 7) ⌝ }
+{
+    let mut out = words;
+    let first = 6 * reference - 6;
+    out[first] = model[0];
+    out[first + 1] = model[1];
+    out[first + 2] = model[2];
+    out[first + 3] = model[3];
+    out[first + 4] = model[4];
+    out[first + 5] = model[5];
+    out
+}
+
+// Reference 1 is IDENTITY. The others hold numbers in the middle and at both ends, codable with either
+// flag; negative numbers are the words that stand for them.
+fn legal_params() -> [u32; 43] {
+    let translation = [16384, 0xffff_8000, 65536, 0, 0, 65536];
+    let rotzoom = [1024, 0xffff_f800, 65540, 6, 0xffff_fffa, 65540];
+    let affine = [0xffff_fc00, 5120, 65530, 0xffff_fff8, 12, 65544];
+    let far_translation = [0xffc0_0000, 4194304, 65536, 0, 0, 65536];
+    let far_rotzoom = [4194304, 0xffc0_0000, 73728, 0xffff_e000, 8192, 73728];
+    let far_affine = [0xffc0_0000, 4194304, 57344, 8192, 0xffff_e000, 73728];
+    let two = with_model(identity_words(), 2, translation);
+    let three = with_model(two, 3, rotzoom);
+    let four = with_model(three, 4, affine);
+    let five = with_model(four, 5, far_translation);
+    let six = with_model(five, 6, far_rotzoom);
+    with_model(six, 7, far_affine)
+}
+
+// Nothing to refuse; prior identity.
 fn legal_ask(flag: u8) -> Ask {
     let types = [0, 1, 2, 3, 1, 2, 3, 0];
-    let params = [
-        0,
-        0,
-        65536,
-        0,
-        0,
-        65536,
-        16384,
-        0xffff_8000,
-        65536,
-        0,
-        0,
-        65536,
-        1024,
-        0xffff_f800,
-        65540,
-        6,
-        0xffff_fffa,
-        65540,
-        0xffff_fc00,
-        5120,
-        65530,
-        0xffff_fff8,
-        12,
-        65544,
-        0xffc0_0000,
-        4194304,
-        65536,
-        0,
-        0,
-        65536,
-        4194304,
-        0xffc0_0000,
-        73728,
-        0xffff_e000,
-        8192,
-        73728,
-        0xffc0_0000,
-        4194304,
-        57344,
-        8192,
-        0xffff_e000,
-        73728,
-        0,
-    ];
-    let prior = [
-        0,
-        0,
-        65536,
-        0,
-        0,
-        65536,
-        0,
-        0,
-        65536,
-        0,
-        0,
-        65536,
-        0,
-        0,
-        65536,
-        0,
-        0,
-        65536,
-        0,
-        0,
-        65536,
-        0,
-        0,
-        65536,
-        0,
-        0,
-        65536,
-        0,
-        0,
-        65536,
-        0,
-        0,
-        65536,
-        0,
-        0,
-        65536,
-        0,
-        0,
-        65536,
-        0,
-        0,
-        65536,
-        0,
-    ];
+    let params = legal_params();
+    let prior = identity_words();
     Ask {
         types,
         params,
@@ -513,10 +434,6 @@ fn with_wrong_code(a: Ask, k: usize) -> Ask {
         _ => b.types[k % 7] = 4,
     }
     b
-}
-
-fn centre_of(slot: usize) -> u32 {
-    if slot % 3 == 2 { 65536 } else { 0 }
 }
 
 // From the centre to either end of the numbers and of the priors.

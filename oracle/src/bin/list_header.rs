@@ -73,7 +73,7 @@ fn bits(kind: u8, high: bool, slot: usize) -> (u32, u32) {
     }
 }
 
-/// The ends of a prior's range.
+/// The ends of a prior's range, which are those of an AFFINE number too.
 fn prior_range(slot: usize) -> (i32, i32) {
     match slot {
         0 | 1 => (-4_194_304, 4_194_304),
@@ -124,6 +124,10 @@ impl Default for Maker {
 impl Maker {
     fn headers(&mut self) -> Vec<Header> {
         let mut headers = Vec::new();
+        for high in [false, true] {
+            headers.push(self.longest(high, |(low, high)| (low, high)));
+            headers.push(self.longest(high, |(low, high)| (high, low)));
+        }
         for aim in AIMS {
             for high in [false, true] {
                 for kind in 0..=3 {
@@ -145,7 +149,6 @@ impl Maker {
         headers
     }
 
-    /// A header of the oracle, alone in its bytes or with others around it.
     fn header(&mut self, types: [u8; 7], high: bool, aim: Aim, identity_prior: bool) -> Header {
         let mut prior = [IDENTITY; 7];
         let mut params = [IDENTITY; 7];
@@ -164,6 +167,18 @@ impl Maker {
                 params[reference][5] = params[reference][2];
             }
         }
+        self.written(types, params, high, prior)
+    }
+
+    /// Every prior at one end of its range and every number at the other.
+    fn longest(&mut self, high: bool, ends: fn((i32, i32)) -> (i32, i32)) -> Header {
+        let prior = [std::array::from_fn(|slot| ends(prior_range(slot)).0); 7];
+        let params = [std::array::from_fn(|slot| ends(prior_range(slot)).1); 7];
+        self.written([3; 7], params, high, prior)
+    }
+
+    /// A header of the oracle, alone in its bytes or with others around it.
+    fn written(&mut self, types: [u8; 7], params: Models, high: bool, prior: Models) -> Header {
         let (written, bits) = write_header(&types, &params, high, &prior);
         let (bytes, start) = self.surrounded(written, bits);
         assert_eq!(read_header(&bytes, start, high, &prior), Some((types, params, bits)));

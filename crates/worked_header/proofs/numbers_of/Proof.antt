@@ -1,7 +1,7 @@
 -- `numbers_of` meets its contract: the array keeps its length.
 -- Assumes nothing.
 use Prim.Native.Nat.{_≤_, _-_}
-use mathlib.Core.Path.{_≡_, refl, sym}
+use mathlib.Core.Path.{_≡_}
 use lib.ListN.{length, length-set}
 use borrow.Author.Needs.{needs}
 use Rattle.worked_header.proofs.numbers_of.Statement.{statement}
