@@ -3,6 +3,7 @@
 //! A type is 0 to 3; every not-a-number in an answer is the one that `canonical` gives.
 
 pub mod blocks;
+pub mod header_files;
 pub mod list;
 mod ported;
 mod stand_ins;
@@ -73,7 +74,11 @@ pub struct Samples(Vec<MotionSample>);
 
 impl Samples {
     pub fn new(samples: &[[f64; 4]]) -> Self {
-        Self(global_motion::samples(samples))
+        Self(global_motion::samples(samples.iter().copied()))
+    }
+
+    pub fn of_words(words: &[u32]) -> Self {
+        Self(global_motion::samples(words.iter().map(|&word| sample_of(word))))
     }
 
     pub fn fit(&self, kind: u8) -> Option<[f64; 6]> {

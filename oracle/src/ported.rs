@@ -55,8 +55,8 @@ pub mod encoder {
     pub mod global_motion {
         include!(concat!(env!("OUT_DIR"), "/global_motion.rs"));
 
-        pub fn samples(numbers: &[[f64; 4]]) -> Vec<MotionSample> {
-            numbers.iter().map(|&[x, y, u, v]| MotionSample { x, y, u, v }).collect()
+        pub fn samples(numbers: impl Iterator<Item = [f64; 4]>) -> Vec<MotionSample> {
+            numbers.map(|[x, y, u, v]| MotionSample { x, y, u, v }).collect()
         }
 
         pub fn search(input: &[u16], reference: &[u16], width: usize, height: usize) -> Vec<[f64; 4]> {

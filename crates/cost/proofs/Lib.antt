@@ -1,5 +1,4 @@
-pub mod Offset
-pub mod Clamp
+pub mod Stored
 pub mod Sum
 pub mod Rows
 pub mod Bilinear

@@ -1,3 +1,2 @@
-pub mod Clamp
 pub mod Cost
 pub mod Ready

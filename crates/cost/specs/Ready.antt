@@ -1,26 +1,12 @@
--- What the functions of this crate ask of their arguments, and the form of their answers.
+-- What the functions of this crate ask of their arguments.
 -- Assumes nothing.
 use Prim.Native.Nat.{ℕ, _+_, _*_, _≤_, _<_}
 use mathlib.Core.List.{List}
 use mathlib.Core.Path.{_≡_}
 use lib.ListN.{length, getD}
 use Rattle.laws.specs.Loops.{sum}
-use Rattle.cost.specs.Cost.{difference, bilinear}
-
--- the result is this value, and at most this bound
-pub record Is (value bound result : ℕ) : Type 0 where
-  pub same : result ≡ value
-  pub small : result ≤ bound
-
--- a plane of sides w and h, and a place and a biased offset that are small
-pub record Near (p : List ℕ) (w h r c y x : ℕ) : Type 0 where
-  pub wide : 0 < w
-  pub high : 0 < h
-  pub pels : h * w ≡ length p
-  pub r-small : r ≤ 1025
-  pub c-small : c ≤ 1025
-  pub y-small : y ≤ 512
-  pub x-small : x ≤ 512
+use Rattle.pels.specs.Difference.{difference}
+use Rattle.cost.specs.Cost.{bilinear}
 
 -- two planes of sides w and h
 pub record Planes (input ref : List ℕ) (w h : ℕ) : Type 0 where

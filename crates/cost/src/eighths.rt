@@ -1,13 +1,16 @@
 // The cost between pels: 16×16, bilinear at eighths (`sad_subpel`).
 ghost use mathlib.Core.Path.{_≡_};
 ghost use Prim.Native.Nat.{_+_};
-ghost use Rattle.cost.specs.Clamp.{offset};
+ghost use Rattle.pels.specs.Clamp.{offset};
+ghost use Rattle.pels.specs.Ready.{Is, Near};
 ghost use Rattle.cost.specs.Cost as cost;
 ghost use Rattle.cost.specs.Cost.{bilinear, predicted, bilinearRowCost, bilinearCost, eighthsCost};
-ghost use Rattle.cost.specs.Ready.{bilinearDifference, Is, Near, Planes, RowAt, BlockAt, Inside, BilinearRows, Fractions, Weighable};
-use super::pels;
+ghost use Rattle.cost.specs.Ready.{bilinearDifference, Planes, RowAt, BlockAt, Inside, BilinearRows, Fractions, Weighable};
 
 const BLOCK: usize = 16;
+
+// A row of pels that 16 are predicted from.
+const ROW: usize = 17;
 
 // Eighths in a pel.
 const EIGHTHS: usize = 8;
@@ -68,14 +71,13 @@ fn inside_row(
     requires { ⌜ Fractions fy fx ⌝ }
     ensures { λ s. ⌜ Is (bilinearRowCost 16 (now (input .entry)) (now (reference .entry)) width height r c (offset 28 y) (offset 28 x) fy fx) 1048560 s ⌝ }
 {
-    let a = r * width + c;
-    let left = c + x - WHOLE_BIAS;
-    let top = pels::clamp(r + y, WHOLE_BIAS, height) * width + left;
-    let bottom = pels::clamp(r + 1 + y, WHOLE_BIAS, height) * width + left;
+    let a = pels::row_start(BLOCK, width, height, r, c);
+    let top = pels::displaced_start(ROW, width, height, r, c, y, x, WHOLE_BIAS);
+    let bottom = pels::displaced_start(ROW, width, height, r + 1, c, y, x, WHOLE_BIAS);
     row_of_16(
         &input[a..a + BLOCK],
-        &reference[top..top + (BLOCK + 1)],
-        &reference[bottom..bottom + (BLOCK + 1)],
+        &reference[top..top + ROW],
+        &reference[bottom..bottom + ROW],
         fy,
         fx,
     )
@@ -120,7 +122,7 @@ fn clamped_row(
     requires { ⌜ Fractions fy fx ⌝ }
     ensures { λ s. ⌜ Is (bilinearRowCost 16 (now (input .entry)) (now (reference .entry)) width height r c (offset 28 y) (offset 28 x) fy fx) 1048560 s ⌝ }
 {
-    let first = r * width + c;
+    let first = pels::row_start(BLOCK, width, height, r, c);
     let mut cost: u32 = 0;
     let mut j = 0;
     while j < BLOCK {

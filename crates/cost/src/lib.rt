@@ -4,5 +4,4 @@
 // An offset is a natural number, the signed one plus a bias, so that a coordinate clamps at 0 by
 // one test. A row that lies inside the plane has a constant width and no clamp.
 pub mod eighths; // eighths.rt: 16×16 between pels, bilinear
-pub mod pels; // pels.rt: one pel displaced, and the difference of two
 pub mod whole; // whole.rt: 8×8 on half planes and 16×16 on planes, by whole pels

@@ -1,10 +1,10 @@
 // Costs by whole pels: 8×8 on half planes (`sad_half`) and 16×16 on planes (`sad_int`).
 // A block whose displaced columns lie inside the plane goes by rows of constant width.
 ghost use Prim.Native.Nat.{_*_, _≤_};
-ghost use Rattle.cost.specs.Clamp.{offset};
+ghost use Rattle.pels.specs.Clamp.{offset};
+ghost use Rattle.pels.specs.Ready.{Is};
 ghost use Rattle.cost.specs.Cost.{rowCost, blockCost};
-ghost use Rattle.cost.specs.Ready.{rowDifference, Is, Planes, RowAt, BlockAt, Inside, Rows};
-use super::pels;
+ghost use Rattle.cost.specs.Ready.{rowDifference, Planes, RowAt, BlockAt, Inside, Rows};
 
 const HALF_BLOCK: usize = 8;
 
@@ -57,8 +57,8 @@ fn half_row(
     requires { ⌜ Inside 8 width c x 12 ⌝ }
     ensures { λ s. ⌜ Is (rowCost 8 (now (input .entry)) (now (reference .entry)) width height r c (offset 12 y) (offset 12 x)) 524280 s ⌝ }
 {
-    let a = r * width + c;
-    let b = pels::clamp(r + y, COARSE_BIAS, height) * width + (c + x - COARSE_BIAS);
+    let a = pels::row_start(HALF_BLOCK, width, height, r, c);
+    let b = pels::displaced_start(HALF_BLOCK, width, height, r, c, y, x, COARSE_BIAS);
     row_of_8(&input[a..a + HALF_BLOCK], &reference[b..b + HALF_BLOCK])
 }
 
@@ -77,8 +77,8 @@ fn int_row(
     requires { ⌜ Inside 16 width c x 27 ⌝ }
     ensures { λ s. ⌜ Is (rowCost 16 (now (input .entry)) (now (reference .entry)) width height r c (offset 27 y) (offset 27 x)) 1048560 s ⌝ }
 {
-    let a = r * width + c;
-    let b = pels::clamp(r + y, FULL_BIAS, height) * width + (c + x - FULL_BIAS);
+    let a = pels::row_start(BLOCK, width, height, r, c);
+    let b = pels::displaced_start(BLOCK, width, height, r, c, y, x, FULL_BIAS);
     row_of_16(&input[a..a + BLOCK], &reference[b..b + BLOCK])
 }
 
@@ -99,7 +99,7 @@ fn clamped_row(
     requires { ⌜ RowAt n width height r c y x ⌝ }
     ensures { λ s. ⌜ Is (rowCost n (now (input .entry)) (now (reference .entry)) width height r c (offset bias y) (offset bias x)) (65535 * n) s ⌝ }
 {
-    let first = r * width + c;
+    let first = pels::row_start(n, width, height, r, c);
     let mut cost: u32 = 0;
     let mut j = 0;
     while j < n {

@@ -19,6 +19,7 @@ pub struct ParamBits {
 }
 
 // A row of the table of refusals (0: none), and the quantized number.
+#[repr(C)]
 pub struct Quantized {
     pub refusal: u32,
     pub value: i32,

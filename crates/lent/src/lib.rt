@@ -7,6 +7,7 @@
 
 use bits::BitCursor;
 use bits::Read;
+use header_read::Models;
 use model::Score;
 use sample::MotionSample;
 ghost use Prim.Native.Nat.{_+_, _^_, _≤_, _<_};
@@ -16,6 +17,7 @@ ghost use Rattle.bits.specs.Bits.{bitAt};
 ghost use Rattle.bits.specs.Fields.{field};
 ghost use Rattle.bits.specs.Ns.{ns};
 ghost use Rattle.bits.specs.Cursor.{ReadIs};
+ghost use Rattle.header_read.specs.Called.{models};
 ghost use Rattle.lent.specs.InTurn.{InTurnFits, inTurn, together};
 ghost use Rattle.lent.specs.Score.{scoreOfSamples};
 
@@ -88,6 +90,14 @@ impl<'a> BitReader<'a> {
     {
         ns_at(self.bytes, self.at, n)
     }
+
+    // Seven models, by clauses 5.9.24 and 5.9.25. The position behind them is the reader's and the bits
+    // consumed.
+    pub fn read_global_motion_params(self, flag: u8, prior: &[i32]) -> Models
+        ensures { λ r. ⌜ r ≡ models (now (self .entry .bytes)) (self .entry .at) flag (now (prior .entry)) ⌝ }
+    {
+        header_read::read_global_motion_params(self.bytes, self.at, flag, prior)
+    }
 }
 
 // What a bit, a field and an ns code hold, one after the other, and the position behind them.
@@ -122,6 +132,14 @@ pub fn read_in_turn(bytes: &[u8], at: usize, width: u32, symbols: u32) -> InTurn
     let third = second.after(field);
     let symbol = third.ns(symbols);
     in_turn(bit, field, symbol)
+}
+
+// Seven models from a position of plain bytes: a reader is made and read from.
+pub fn read_models(bytes: &[u8], at: usize, flag: u8, prior: &[i32]) -> Models
+    ensures { λ r. ⌜ r ≡ models (now (bytes .entry)) at flag (now (prior .entry)) ⌝ }
+{
+    let reader = BitReader::new(bytes, at);
+    reader.read_global_motion_params(flag, prior)
 }
 
 // The mean squared residual of a model over lent samples, 0.0 for none.

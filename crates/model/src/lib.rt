@@ -24,6 +24,7 @@ pub struct ContinuousModel {
 }
 
 // A row of the table of refusals (0: none), and the mean squared residual.
+#[repr(C)]
 pub struct Score {
     pub refusal: u32,
     pub score: f64,

@@ -42,6 +42,7 @@ pub struct Motion {
 }
 
 // A row of the table of refusals (0: none), and the quantized model, x first.
+#[repr(C)]
 pub struct Quantized {
     pub refusal: u32,
     pub params: [i32; 6],

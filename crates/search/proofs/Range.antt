@@ -6,9 +6,10 @@ use mathlib.Core.Path.{_≡_, refl, sym, ap, _∙_}
 use native.Mathlib.Omega.{arith}
 use lib.IntN.{ℤ, pos, _+ℤ_, _*ℤ_, natAbs}
 use Rattle.plane.specs.Plane.{halfPlane}
-use Rattle.cost.specs.Clamp.{offset}
-use Rattle.cost.specs.Cost.{difference, eighthsCost}
-use Rattle.cost.proofs.Offset.{offset-add, offset-magnitude}
+use Rattle.pels.specs.Clamp.{offset}
+use Rattle.pels.specs.Difference.{difference}
+use Rattle.cost.specs.Cost.{eighthsCost}
+use Rattle.pels.proofs.Offset.{offset-add, offset-magnitude}
 use Rattle.stage.specs.Stage.{Found, coarse, fullPel, eighthsStep, refined, priced}
 use Rattle.stage.proofs.Motion.{offset-same, offset-back, offset-twice, offset-eightfold}
 use Rattle.stage.proofs.Scan.{Within}

@@ -14,6 +14,7 @@ pub mod refusals; // refusals.rt: the rows of the table
 const BLOCK: usize = 16;
 
 // The refusal's number, 0 for none, and how many samples were found.
+#[repr(C)]
 pub struct Searched {
     pub refusal: u32,
     pub samples: usize,

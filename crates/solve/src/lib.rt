@@ -4,7 +4,7 @@
 
 ghost use mathlib.Core.Path.{_≡_};
 ghost use Prim.Native.Nat.{_<_, _≤_};
-ghost use Rattle.solve.specs.Elimination.{absOf, entry, pivotStep, pivotOf, exchangeAt, exchangeRight, exchanged, reduceAt, reduceRight, reduceRow, reduced, column, columnStep, eliminated};
+ghost use Rattle.solve.specs.Elimination.{absOf, entry, pivotStep, pivotOf, exchanged, reduceRow, reduced, column, columnStep, eliminated};
 ghost use Rattle.solve.specs.Solution.{residueStep, residueOf, unknownStep, unknowns, solved};
 
 // Document 01, 'Fits and score': the binary64 nearest 1e-9, below which a pivot is refused.
@@ -83,86 +83,47 @@ fn pivot_of(size: usize, s: System, col: usize) -> usize
     pivot
 }
 
-// The entries at k of two rows change places.
-fn exchange_at(s: System, first: usize, second: usize, k: usize) -> System
-    requires { ⌜ (first < 4) × (second < 4) × (k < 4) ⌝ }
-    ensures { λ r. ⌜ r ≡ exchangeAt first second k s ⌝ }
-{
-    let mut a = s.a;
-    let p = first * 4 + k;
-    let q = second * 4 + k;
-    let x = a[p];
-    let y = a[q];
-    a[p] = y;
-    a[q] = x;
-    let b = s.b;
-    System { a, b }
-}
-
-fn exchange_right(s: System, first: usize, second: usize) -> System
-    requires { ⌜ (first < 4) × (second < 4) ⌝ }
-    ensures { λ r. ⌜ r ≡ exchangeRight first second s ⌝ }
-{
-    let mut b = s.b;
-    let x = b[first];
-    let y = b[second];
-    b[first] = y;
-    b[second] = x;
-    let a = s.a;
-    System { a, b }
-}
-
+// Two rows change places, the right side with them.
 fn exchange_rows(size: usize, s: System, first: usize, second: usize) -> System
     requires { ⌜ (size ≤ 4) × (first < 4) × (second < 4) ⌝ }
     ensures { λ r. ⌜ r ≡ exchanged size first second s ⌝ }
 {
-    let mut t = s;
+    let mut b = s.b;
+    let bx = b[first];
+    let by = b[second];
+    b[first] = by;
+    b[second] = bx;
+    let mut a = s.a;
     let mut k = 0usize;
     while k < size {
-        t = exchange_at(t, first, second, k);
+        let x = a[first * 4 + k];
+        let y = a[second * 4 + k];
+        a[first * 4 + k] = y;
+        a[second * 4 + k] = x;
         k += 1;
     }
-    exchange_right(t, first, second)
-}
-
-// One entry less its multiple of the pivot row's.
-fn reduce_at(s: System, col: usize, row: usize, factor: f64, k: usize) -> System
-    requires { ⌜ (col < 4) × (row < 4) × (k < 4) ⌝ }
-    ensures { λ r. ⌜ r ≡ reduceAt col row factor k s ⌝ }
-{
-    let mut a = s.a;
-    let p = row * 4 + k;
-    let x = a[p];
-    let y = a[col * 4 + k];
-    a[p] = x - factor * y;
-    let b = s.b;
     System { a, b }
 }
 
-fn reduce_right(s: System, col: usize, row: usize, factor: f64) -> System
-    requires { ⌜ (col < 4) × (row < 4) ⌝ }
-    ensures { λ r. ⌜ r ≡ reduceRight col row factor s ⌝ }
-{
-    let mut b = s.b;
-    let x = b[row];
-    let y = b[col];
-    b[row] = x - factor * y;
-    let a = s.a;
-    System { a, b }
-}
-
+// A row less its multiple of the pivot row, from the pivot's column on.
 fn reduce_row(size: usize, col: usize, row: usize, s: System) -> System
     requires { ⌜ (size ≤ 4) × (col < 4) × (row < 4) ⌝ }
     ensures { λ r. ⌜ r ≡ reduceRow size col row s ⌝ }
 {
     let factor = entry_of(s, row, col) / entry_of(s, col, col);
-    let mut t = s;
+    let mut b = s.b;
+    let bx = b[row];
+    let by = b[col];
+    b[row] = bx - factor * by;
+    let mut a = s.a;
     let mut k = col;
     while k < size {
-        t = reduce_at(t, col, row, factor, k);
+        let x = a[row * 4 + k];
+        let y = a[col * 4 + k];
+        a[row * 4 + k] = x - factor * y;
         k += 1;
     }
-    reduce_right(t, col, row, factor)
+    System { a, b }
 }
 
 // Every row below the diagonal, reduced by the pivot row.

@@ -1,11 +1,11 @@
 -- Laws of biased offsets that the stages and their ranges rest on.
 -- Assumes nothing.
-use Prim.Native.Nat.{ℕ, zero, suc, _+_, _*_, _-_, _≤_}
-use mathlib.Core.Path.{_≡_, refl, sym, ap, _∙_}
+use Prim.Native.Nat.{ℕ, zero, suc, _+_, _*_}
+use mathlib.Core.Path.{_≡_, sym, ap, _∙_}
 use native.Mathlib.Omega.{arith}
 use lib.IntN.{ℤ, pos, negsuc, _+ℤ_, _*ℤ_, negℤ}
-use Rattle.cost.specs.Clamp.{offset}
-use Rattle.cost.proofs.Offset.{offset-cases, offset-pos, offset-neg, offset-add}
+use Rattle.pels.specs.Clamp.{offset}
+use Rattle.pels.proofs.Offset.{offset-cases, offset-pos, offset-neg, offset-add}
 
 -- two biased numbers stand for one offset
 pub offset-same : (a m b n : ℕ) → m + b ≡ n + a → offset a m ≡ offset b n

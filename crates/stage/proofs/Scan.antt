@@ -6,13 +6,14 @@ use mathlib.Core.Path.{_≡_, refl, sym, ap, _∙_}
 use native.Mathlib.Nat.{mul-le-mul-right, div-lt-iff-lt-mul, mod-lt}
 use native.Mathlib.Omega.{arith}
 use lib.Dec.{ltb, eqb}
-use lib.IntN.{ℤ, pos, _+ℤ_, +ℤ-idr}
+use lib.IntN.{ℤ, _+ℤ_, +ℤ-idr}
 use borrow.Author.Tests.{eq-eqb, ne-eqb}
 use Rattle.laws.specs.Loops.{run, turns}
 use Rattle.laws.specs.Refusal.{choose}
-use Rattle.cost.specs.Clamp.{offset}
-use Rattle.cost.proofs.Offset.{offset-add, offset-pos, offset-magnitude}
-use Rattle.cost.specs.Cost.{difference}
+use Rattle.laws.proofs.Loops.{again, done}
+use Rattle.pels.specs.Clamp.{offset}
+use Rattle.pels.proofs.Offset.{offset-add, offset-pos, offset-magnitude}
+use Rattle.pels.specs.Difference.{difference}
 use Rattle.stage.specs.declared.Best.{Best}
 use Rattle.stage.specs.Stage.{Found, priced, better, side, square, rowOffset, columnOffset, consider, scan, withOffset}
 use Rattle.stage.specs.Ready.{seen, replaced}
@@ -44,6 +45,20 @@ consider-other price reach step b cy cx k best y x cost n p q e =
 run-keeps : {S : Type 0} (f : ℕ → S → S) (P : S → Type 0) (n i k : ℕ) (s : S) → i + k ≡ n → ((j : ℕ) (t : S) → j < n → P t → P (f j t)) → P s → P (turns f k i s)
 run-keeps f P n i zero s e h p = p
 run-keeps f P n i (suc k) s e h p = run-keeps f P n (suc i) k (f i s) (omega arith) h (h i s (omega arith) p)
+
+-- the turns from the k-th on lead from `best` to where all n lead from `start`
+pub record Turns (f : ℕ → Found → Found) (n : ℕ) (start : Found) (k : ℕ) (best : Found) : Type 0 where
+  pub within : k ≤ n
+  pub left : run f k n best ≡ run f 0 n start
+
+pub begins : (f : ℕ → Found → Found) (n : ℕ) (start : Found) → Turns f n start 0 start
+begins f n start = record { within = omega arith; left = refl }
+
+pub goes-on : {f : ℕ → Found → Found} {n k : ℕ} {start best next : Found} → Turns f n start k best → k < n → next ≡ f k best → Turns f n start (k + 1) next
+goes-on {f} t l e = record { within = omega arith; left = again f l e (t .left) }
+
+pub ends : {f : ℕ → Found → Found} {n k : ℕ} {start best : Found} → Turns f n start k best → n ≤ k → best ≡ run f 0 n start
+ends {f} t l = done f l (t .left)
 
 -- z lies within n of c
 pub record Within (n : ℕ) (c z : ℤ) : Type 0 where
@@ -96,7 +111,15 @@ within-biased b c n y z e w =
     let f : s ≤ 2 * n = w .few in
     (omega arith, omega arith)
 
+-- both numbers of a best candidate
+pub biased : (b n cy cx : ℕ) (best : Best) {f : Found} → seen b best ≡ f → Inside n (offset b cy) (offset b cx) f →
+    ((cy ≤ best .y + n) × (best .y ≤ cy + n)) × ((cx ≤ best .x + n) × (best .x ≤ cx + n))
+biased b n cy cx best {f} e i = (
+  within-biased b cy n (best .y) (f .dy) (ap (λ (g : Found). g .dy) e) (i .0),
+  within-biased b cx n (best .x) (f .dx) (ap (λ (g : Found). g .dx) e) (i .1),
+)
+
 -- a cost by whole pels and two magnitudes
-pub with-offset : (price : ℤ → ℤ → ℕ) (b y x : ℕ) {s p q : ℕ} → s ≡ price (offset b y) (offset b x) → p ≡ difference y b → q ≡ difference x b →
-    s + p + q ≡ withOffset price (offset b y) (offset b x)
-with-offset price b y x e f g = rw (e, f, g, offset-magnitude b y, offset-magnitude b x)
+pub with-offset : (price : ℤ → ℤ → ℕ) (b y x : ℕ) {s t : ℕ} → s ≡ price (offset b y) (offset b x) → t ≡ s + difference y b + difference x b →
+    t ≡ withOffset price (offset b y) (offset b x)
+with-offset price b y x e f = rw (f, e, offset-magnitude b y, offset-magnitude b x)

@@ -4,7 +4,7 @@ use Prim.Native.Nat.{ℕ, _+_, _≤_, _<_}
 use mathlib.Core.Path.{_≡_}
 use lib.Dec.{ltb}
 use Rattle.laws.specs.Refusal.{choose}
-use Rattle.cost.specs.Clamp.{offset}
+use Rattle.pels.specs.Clamp.{offset}
 use Rattle.stage.specs.declared.Best.{Best}
 use Rattle.stage.specs.Stage.{Found}
 
@@ -40,3 +40,10 @@ pub record Roomy (n last cy cx : ℕ) : Type 0 where
   pub y-high : cy + n ≤ last
   pub x-low : n ≤ cx
   pub x-high : cx + n ≤ last
+
+-- a block's cost, and a biased offset that is small
+pub record Priceable (cost y x bias : ℕ) : Type 0 where
+  pub cost-small : cost ≤ 16776960
+  pub y-small : y ≤ 512
+  pub x-small : x ≤ 512
+  pub bias-small : bias ≤ 512

@@ -3,13 +3,15 @@
 // block; out comes the best motion with its cost. The code holds a motion as a natural number,
 // the signed one plus a bias: 12 in the coarse stage, 27 by full pels, 223 in eighths.
 ghost use mathlib.Core.Path.{_≡_};
-ghost use Prim.Native.Nat.{_≤_, _<_};
-ghost use Rattle.cost.specs.Clamp.{offset};
+ghost use Prim.Native.Nat.{_+_, _≤_, _<_};
+ghost use Rattle.pels.specs.Clamp.{offset};
 ghost use Rattle.cost.specs.Cost as costs;
-ghost use Rattle.cost.specs.Ready.{Is, Planes};
+ghost use Rattle.pels.specs.Difference.{difference};
+ghost use Rattle.pels.specs.Ready.{Is};
+ghost use Rattle.cost.specs.Ready.{Planes};
 ghost use Rattle.stage.specs.Stage as stages;
 ghost use Rattle.stage.specs.Stage.{consider, withOffset, fullPel, eighthsStep, refined};
-ghost use Rattle.stage.specs.Ready.{seen, replaced, Leads, Steps, Block, Roomy};
+ghost use Rattle.stage.specs.Ready.{seen, replaced, Leads, Steps, Block, Roomy, Priceable};
 use cost::eighths;
 use cost::whole;
 
@@ -59,13 +61,21 @@ fn better(best: Best, cost: u32, y: usize, x: usize) -> Best
 fn magnitude(n: usize, bias: usize) -> u32
     requires { ⌜ n ≤ 512 ⌝ }
     requires { ⌜ bias ≤ 512 ⌝ }
-    ensures { λ s. ⌜ Is (costs.difference n bias) 512 s ⌝ }
+    ensures { λ s. ⌜ Is (difference n bias) 512 s ⌝ }
 {
     if n < bias {
         (bias - n) as u32
     } else {
         (n - bias) as u32
     }
+}
+
+// A cost by whole pels, plus |dy| + |dx|.
+fn with_offset(cost: u32, y: usize, x: usize, bias: usize) -> u32
+    requires { ⌜ Priceable cost y x bias ⌝ }
+    ensures { λ s. ⌜ s ≡ cost + difference y bias + difference x bias ⌝ }
+{
+    cost + magnitude(y, bias) + magnitude(x, bias)
 }
 
 fn coarse_candidate(
@@ -88,10 +98,8 @@ fn coarse_candidate(
     }
     let y = k / COARSE_SIDE;
     let x = k % COARSE_SIDE;
-    let cost = whole::sad_half(input, reference, width, height, r, c, y, x)
-        + magnitude(y, COARSE_REACH)
-        + magnitude(x, COARSE_REACH);
-    better(best, cost, y, x)
+    let cost = whole::sad_half(input, reference, width, height, r, c, y, x);
+    better(best, with_offset(cost, y, x, COARSE_REACH), y, x)
 }
 
 // 8×8 on half planes, from (0, 0), all offsets within 12.
@@ -152,10 +160,8 @@ fn full_candidate(
     }
     let y = cy + k / FULL_SIDE - FULL_REACH;
     let x = cx + k % FULL_SIDE - FULL_REACH;
-    let cost = whole::sad_int(input, reference, width, height, r, c, y, x)
-        + magnitude(y, FULL_BIAS)
-        + magnitude(x, FULL_BIAS);
-    better(best, cost, y, x)
+    let cost = whole::sad_int(input, reference, width, height, r, c, y, x);
+    better(best, with_offset(cost, y, x, FULL_BIAS), y, x)
 }
 
 // 16×16 by full pels, from (cy, cx), the others within 3 of it.

@@ -1,17 +1,22 @@
 // Tries the two forms of `lent` against the core they stand over, on inputs from the generator: a bit,
-// a field and an ns code by a reader against the cursor, and the score of lent samples against that of
-// their words.
+// a field, an ns code and seven models by a reader against slice and position, and the score of lent
+// samples against that of their words.
 ghost use Prim.Native.Nat.{_≤_, _<_};
 use bits::BitCursor;
+use header_read::Models;
 use sample::MotionSample;
 
 const READS: u64 = 4000;
+
+const MODELS: u64 = 4000;
 
 const SCORES: u64 = 2000;
 
 const BYTES: usize = 24;
 
 const WORDS: usize = 64;
+
+const NUMBERS: usize = 42;
 
 // The upper half of a state.
 fn upper(state: u32) -> u32
@@ -79,6 +84,93 @@ fn params_from(seed: u32) -> [i32; 6] {
     [x, y, about_one(c), small(d), small(e), about_one(f)]
 }
 
+// A number of slot 0 or 1 of a prior, within 4,194,304 of nought.
+fn shift(state: u32) -> i32 {
+    let size = upper(state) * 64;
+    if state % 2 == 0 {
+        return replay::signed(size);
+    }
+    replay::signed(0xFFFF_FFFF - size)
+}
+
+fn prior_number(slot: usize, state: u32) -> i32 {
+    if slot < 2 {
+        return shift(state);
+    }
+    if slot == 3 {
+        return small(state);
+    }
+    if slot == 4 {
+        return small(state);
+    }
+    about_one(state)
+}
+
+fn prior_from(seed: u32) -> [i32; 42] {
+    let mut prior = [0i32; 42];
+    let mut state = seed;
+    let mut i = 0usize;
+    while i < NUMBERS {
+        state = replay::next_state(state);
+        prior[i] = prior_number(i % 6, state);
+        i += 1;
+    }
+    prior
+}
+
+fn types_agree(a: [u8; 7], b: [u8; 7]) -> bool {
+    let mut i = 0usize;
+    while i < 7 {
+        if a[i] != b[i] {
+            return false;
+        }
+        i += 1;
+    }
+    true
+}
+
+fn numbers_agree(a: [i32; 42], b: [i32; 42]) -> bool {
+    let mut i = 0usize;
+    while i < NUMBERS {
+        if a[i] != b[i] {
+            return false;
+        }
+        i += 1;
+    }
+    true
+}
+
+// The reader's models are those of slice and position, and where the bytes end first both say so.
+fn models_agree(lent: Models, core: Models) -> bool {
+    let types = lent.types;
+    let wanted_types = core.types;
+    let params = lent.params;
+    let wanted_params = core.params;
+    if lent.refusal != core.refusal {
+        return false;
+    }
+    if lent.bits != core.bits {
+        return false;
+    }
+    if !types_agree(types, wanted_types) {
+        return false;
+    }
+    numbers_agree(params, wanted_params)
+}
+
+fn models_case(case: u64) -> bool {
+    let seed = replay::next_state((case % 0x1_0000_0000) as u32);
+    let place = replay::next_state(seed);
+    let code = replay::next_state(place);
+    let at = (upper(place) % 200) as usize;
+    let flag = (upper(code) % 3) as u8;
+    let bytes = bytes_from(seed);
+    let prior = prior_from(code);
+    let lent = lent::read_models(&bytes, at, flag, &prior);
+    let core = header_read::read_global_motion_params(&bytes, at, flag, &prior);
+    models_agree(lent, core)
+}
+
 // The reader's answers are the cursor's, also past the end of the bytes.
 fn reads_agree(bytes: [u8; 24], at: usize, width: u32, symbols: u32) -> bool
     requires { ⌜ (at < 65536) × (width ≤ 32) × (0 < symbols) × (symbols ≤ 65536) ⌝ }
@@ -141,6 +233,16 @@ fn failed_read(case: u64) -> u64
     1
 }
 
+fn failed_model(case: u64) -> u64
+    ensures { λ r. ⌜ r ≤ 1 ⌝ }
+{
+    if models_case(case) {
+        return 0;
+    }
+    replay::print_failure(b"models", case);
+    1
+}
+
 fn failed_score(case: u64) -> u64
     ensures { λ r. ⌜ r ≤ 1 ⌝ }
 {
@@ -161,6 +263,16 @@ fn failed_reads(count: u64) -> u64 {
     failed
 }
 
+fn failed_models(count: u64) -> u64 {
+    let mut failed = 0u64;
+    let mut case = 0u64;
+    while case < count {
+        failed += failed_model(case);
+        case += 1;
+    }
+    failed
+}
+
 fn failed_scores(count: u64) -> u64 {
     let mut failed = 0u64;
     let mut case = 0u64;
@@ -173,5 +285,6 @@ fn failed_scores(count: u64) -> u64 {
 
 fn main() {
     replay::print_count(b"reads", READS, failed_reads(READS));
+    replay::print_count(b"models", MODELS, failed_models(MODELS));
     replay::print_count(b"scores", SCORES, failed_scores(SCORES));
 }

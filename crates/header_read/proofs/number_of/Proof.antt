@@ -4,7 +4,6 @@ use Rattle.header_read.proofs.number_of.Statement.{statement}
 use Rattle.header_read.proofs.number_of.Tie as tie
 use mir.Syntax.{w32}
 use Rattle.laws.proofs.Signed.{result-reads}
-use mir.Facts.{toZ-ofZ}
 use Prim.Native.Nat.{ℕ, _<_}
 use mathlib.Core.Path.{_≡_, ap, sym, subst, _∙_}
 use lib.IntN.{ℤ}

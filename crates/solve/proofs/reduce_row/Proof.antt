@@ -1,20 +1,22 @@
--- `solve::reduce_row` meets its contract: what is left to reduce, from here as from the pivot's column.
+-- `solve::reduce_row` meets its contract: what is left to reduce, from here as from the pivot's column; the right side goes before.
 -- Assumes nothing.
-use Rattle.laws.specs.Binary64.{_⊘_}
 use Prim.Native.Nat.{_-_}
+use mathlib.Core.Path.{_≡_, refl, sym, _∙_}
 use Rattle.laws.proofs.Loops.{again, done}
 use Rattle.laws.specs.Loops.{run}
-use mathlib.Core.Path.{_≡_, refl, _∙_, ap}
-use Rattle.solve.specs.Elimination.{reduceAt, reduceRight, reduceBy, reduceRow}
+use Rattle.laws.specs.Binary64.{_⊘_}
+use lib.Ieee.{Float}
+use Rattle.solve.specs.Elimination.{reduceAt, reduceRight, reduceRow}
+use Rattle.solve.proofs.Apart.{system, past-run}
 use borrow.Author.Needs.{needs}
 use Rattle.solve.proofs.reduce_row.Statement.{statement}
 use Rattle.solve.proofs.reduce_row.Tie as tie
 
 abbrev Inv-loop : tie.InvT-loop
-Inv-loop size col row factor t₀ k₀ t k = run (reduceAt col row factor) k size t ≡ run (reduceAt col row factor) k₀ size t₀
+Inv-loop size col row factor b bx by a₀ k₀ a k = run (reduceAt col row factor) k size (system a b) ≡ run (reduceAt col row factor) k₀ size (system a₀ b)
 
 abbrev μ-loop : tie.MeasureT-loop
-μ-loop size col row factor t₀ k₀ t k = size - k
+μ-loop size col row factor b bx by a₀ k₀ a k = size - k
 
 entry-of-requires : tie.Need-entry-of-requires Inv-loop μ-loop
 entry-of-requires c κs = search needs
@@ -22,11 +24,62 @@ entry-of-requires c κs = search needs
 entry-of-requires-2 : tie.Need-entry-of-requires-2 Inv-loop μ-loop
 entry-of-requires-2 c κs = search needs
 
+mul-bx : tie.Need-mul-bx Inv-loop μ-loop
+mul-bx c = search needs
+
+array-read-bx : tie.Need-array-read-bx Inv-loop μ-loop
+array-read-bx c = search needs
+
+mul-by : tie.Need-mul-by Inv-loop μ-loop
+mul-by c = search needs
+
+array-read-by : tie.Need-array-read-by Inv-loop μ-loop
+array-read-by c = search needs
+
+mul-b : tie.Need-mul-b Inv-loop μ-loop
+mul-b c = search needs
+
+array-write-b : tie.Need-array-write-b Inv-loop μ-loop
+array-write-b c = search needs
+
 loop-holds : tie.Need-loop-holds Inv-loop μ-loop
 loop-holds c = refl
 
-reduce-at-requires : tie.Need-reduce-at-requires Inv-loop μ-loop
-reduce-at-requires c κs = search needs
+mul-x : tie.Need-mul-x Inv-loop μ-loop
+mul-x c = search needs
+
+add-x : tie.Need-add-x Inv-loop μ-loop
+add-x c = search needs
+
+mul-x-2 : tie.Need-mul-x-2 Inv-loop μ-loop
+mul-x-2 c = search needs
+
+array-read-x : tie.Need-array-read-x Inv-loop μ-loop
+array-read-x c = search needs
+
+mul-y : tie.Need-mul-y Inv-loop μ-loop
+mul-y c = search needs
+
+add-y : tie.Need-add-y Inv-loop μ-loop
+add-y c = search needs
+
+mul-y-2 : tie.Need-mul-y-2 Inv-loop μ-loop
+mul-y-2 c = search needs
+
+array-read-y : tie.Need-array-read-y Inv-loop μ-loop
+array-read-y c = search needs
+
+mul-a : tie.Need-mul-a Inv-loop μ-loop
+mul-a c = search needs
+
+add-a : tie.Need-add-a Inv-loop μ-loop
+add-a c = search needs
+
+mul-a-2 : tie.Need-mul-a-2 Inv-loop μ-loop
+mul-a-2 c = search needs
+
+array-write-a : tie.Need-array-write-a Inv-loop μ-loop
+array-write-a c = search needs
 
 add-k : tie.Need-add-k Inv-loop μ-loop
 add-k c = search needs
@@ -35,14 +88,19 @@ loop-less : tie.Need-loop-less Inv-loop μ-loop
 loop-less c = search needs
 
 loop-again : tie.Need-loop-again Inv-loop μ-loop
-loop-again c = again (reduceAt (c .before .before .before .before .before .args .col) (c .before .before .before .before .before .args .row) (c .before .before .before .before .entry-of .result ⊘ c .before .before .before .entry-of2 .result)) (c .before .loop-test .taken) (c .reduce-at .ensures) (c .before .before .loop .inv)
-
-reduce-right-requires : tie.Need-reduce-right-requires Inv-loop μ-loop
-reduce-right-requires c κs = search needs
+loop-again c =
+    let e = c .before .before .before .before .before .before .args in
+    let factor : Float = c .before .before .before .before .before .entry-of .result ⊘ c .before .before .before .before .entry-of2 .result in
+    again (reduceAt (e .col) (e .row) factor) (c .loop-test .taken) refl (c .before .loop .inv)
 
 returns : tie.Need-returns Inv-loop μ-loop
 unfolding reduceRow
-returns c = rw (← c .before .before .before .before .entry-of .ensures, ← c .before .before .before .entry-of2 .ensures) (c .reduce-right .ensures ∙ ap (reduceRight (c .before .before .before .before .before .args .col) (c .before .before .before .before .before .args .row) (c .before .before .before .before .entry-of .result ⊘ c .before .before .before .entry-of2 .result)) (done (reduceAt (c .before .before .before .before .before .args .col) (c .before .before .before .before .before .args .row) (c .before .before .before .before .entry-of .result ⊘ c .before .before .before .entry-of2 .result)) (c .before .loop-test .left) (c .before .before .loop .inv)))
+returns c =
+    let e = c .before .before .before .before .before .before .args in
+    let factor : Float = c .before .before .before .before .before .entry-of .result ⊘ c .before .before .before .before .entry-of2 .result in
+    rw (← c .before .before .before .before .before .entry-of .ensures, ← c .before .before .before .before .entry-of2 .ensures)
+    (done (reduceAt (e .col) (e .row) factor) (c .loop-test .left) (c .before .loop .inv)
+    ∙ sym (past-run (reduceAt (e .col) (e .row) factor) (reduceRight (e .col) (e .row) factor) (λ i t. refl) (e .col) (e .size) (e .s)))
 
 pub reduce-row-spec : {M : Type 1} → statement M
 reduce-row-spec =
@@ -52,10 +110,26 @@ reduce-row-spec =
     μ-loop
     entry-of-requires
     entry-of-requires-2
+    mul-bx
+    array-read-bx
+    mul-by
+    array-read-by
+    mul-b
+    array-write-b
     loop-holds
-    reduce-at-requires
+    mul-x
+    add-x
+    mul-x-2
+    array-read-x
+    mul-y
+    add-y
+    mul-y-2
+    array-read-y
+    mul-a
+    add-a
+    mul-a-2
+    array-write-a
     add-k
     loop-less
     loop-again
-    reduce-right-requires
     returns)

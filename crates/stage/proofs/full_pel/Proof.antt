@@ -1,26 +1,19 @@
-use Prim.Native.Nat.{ℕ, _+_, _*_, _-_, _/_, _%_, _≤_, _<_}
-use mathlib.Core.Path.{_≡_, refl, sym, ap, _∙_}
-use native.Mathlib.Nat.{mul-le-mul-right, le-trans}
+use Prim.Native.Nat.{_-_}
+use mathlib.Core.Path.{_≡_, _∙_}
+use native.Mathlib.Nat.{le-trans}
 use native.Mathlib.Omega.{arith}
-use borrow.Author.Tests.{lt-ltb, le-ltb}
-use Rattle.laws.specs.Loops.{run}
-use Rattle.laws.proofs.Loops.{again, done}
-use Rattle.cost.specs.Clamp.{offset}
-use Rattle.cost.specs.Cost.{blockCost, eighthsCost}
-use Rattle.stage.specs.Stage.{Found, consider, withOffset, coarse, fullPel, eighthsStep}
+use Rattle.pels.specs.Clamp.{offset}
+use Rattle.cost.specs.Cost.{blockCost}
+use Rattle.stage.specs.Stage.{consider, withOffset, fullPel}
 use Rattle.stage.specs.Ready.{seen}
-use Rattle.stage.proofs.Scan.{consider-centre, consider-other, with-offset, within-biased}
-use Rattle.stage.proofs.Stages.{taken-back, coarse-is, coarse-inside, fullPel-is, fullPel-inside, eighthsStep-is, eighthsStep-inside}
+use Rattle.stage.proofs.Scan.{Turns, begins, goes-on, ends, biased}
+use Rattle.stage.proofs.Stages.{fullPel-is, fullPel-inside}
 use borrow.Author.Needs.{needs}
 use Rattle.stage.proofs.full_pel.Statement.{statement}
 use Rattle.stage.proofs.full_pel.Tie as tie
-use Rattle.stage.proofs.full_pel.Reads as reads
-use Rattle.stage.proofs.full_pel.Lts as lts
-use Rattle.cost.proofs.whole.sad_int.Reads as sad-int-reads
-use Rattle.stage.proofs.full_candidate.Reads as full-candidate-reads
 
 abbrev Inv-loop : tie.InvT-loop
-Inv-loop cy cx input reference width height r c best₀ k₀ best k = (k ≤ 49) × (run (consider (withOffset (blockCost 16 input reference width height r c)) 3 1 (offset 27 cy) (offset 27 cx)) k 49 (seen 27 best) ≡ run (consider (withOffset (blockCost 16 input reference width height r c)) 3 1 (offset 27 cy) (offset 27 cx)) 0 49 (seen 27 best₀))
+Inv-loop cy cx input reference width height r c best₀ k₀ best k = Turns (consider (withOffset (blockCost 16 input reference width height r c)) 3 1 (offset 27 cy) (offset 27 cx)) 49 (seen 27 best₀) k (seen 27 best)
 
 abbrev μ-loop : tie.MeasureT-loop
 μ-loop cy cx input reference width height r c best₀ k₀ best k = 49 - k
@@ -31,7 +24,7 @@ sad-int-requires c κs = search needs
 
 -- src/lib.rt:119:5
 loop-holds : tie.Need-loop-holds Inv-loop μ-loop
-loop-holds c = (omega arith, refl)
+loop-holds c = begins _ _ _
 
 -- src/lib.rt:120:9
 full-candidate-requires : tie.Need-full-candidate-requires Inv-loop μ-loop
@@ -47,17 +40,17 @@ loop-less c = omega arith
 
 -- src/lib.rt:119:5
 loop-again : tie.Need-loop-again Inv-loop μ-loop
-loop-again c = (omega arith, again (consider (withOffset (blockCost 16 (c .before .before .before .before .before .before .args .input .now) (c .before .before .before .before .before .before .args .reference .now) (c .before .before .before .before .before .before .args .width) (c .before .before .before .before .before .before .args .height) (c .before .before .before .before .before .before .args .r) (c .before .before .before .before .before .before .args .c))) 3 1 (offset 27 (c .before .before .before .before .before .before .args .cy)) (offset 27 (c .before .before .before .before .before .before .args .cx))) (omega arith) (c .full-candidate .ensures) (c .before .before .loop .inv .1))
+loop-again c = goes-on (c .before .before .loop .inv) (omega arith) (c .full-candidate .ensures)
 
 -- src/lib.rt:111:1
 returns : tie.Need-returns Inv-loop μ-loop
 returns c =
-    let e : seen 27 (c .before .loop .best) ≡ fullPel (c .before .before .before .before .before .args .input .now) (c .before .before .before .before .before .args .reference .now) (c .before .before .before .before .before .args .width) (c .before .before .before .before .before .args .height) (c .before .before .before .before .before .args .r) (c .before .before .before .before .before .args .c) (offset 27 (c .before .before .before .before .before .args .cy)) (offset 27 (c .before .before .before .before .before .args .cx)) = done (consider (withOffset (blockCost 16 (c .before .before .before .before .before .args .input .now) (c .before .before .before .before .before .args .reference .now) (c .before .before .before .before .before .args .width) (c .before .before .before .before .before .args .height) (c .before .before .before .before .before .args .r) (c .before .before .before .before .before .args .c))) 3 1 (offset 27 (c .before .before .before .before .before .args .cy)) (offset 27 (c .before .before .before .before .before .args .cx))) (omega arith) (c .before .loop .inv .1) ∙ fullPel-is (c .before .before .before .before .before .args .input .now) (c .before .before .before .before .before .args .reference .now) (c .before .before .before .before .before .args .width) (c .before .before .before .before .before .args .height) (c .before .before .before .before .before .args .r) (c .before .before .before .before .before .args .c) (offset 27 (c .before .before .before .before .before .args .cy)) (offset 27 (c .before .before .before .before .before .args .cx)) (c .before .before .sad-int .ensures .same) in
-    let i = fullPel-inside (c .before .before .before .before .before .args .input .now) (c .before .before .before .before .before .args .reference .now) (c .before .before .before .before .before .args .width) (c .before .before .before .before .before .args .height) (c .before .before .before .before .before .args .r) (c .before .before .before .before .before .args .c) (offset 27 (c .before .before .before .before .before .args .cy)) (offset 27 (c .before .before .before .before .before .args .cx)) in
+    let a = c .before .before .before .before .before .args in
     let room = c .before .before .before .before .before .pre .1 .1 in
-    let y = within-biased 27 (c .before .before .before .before .before .args .cy) 3 (c .before .loop .best .y) (fullPel (c .before .before .before .before .before .args .input .now) (c .before .before .before .before .before .args .reference .now) (c .before .before .before .before .before .args .width) (c .before .before .before .before .before .args .height) (c .before .before .before .before .before .args .r) (c .before .before .before .before .before .args .c) (offset 27 (c .before .before .before .before .before .args .cy)) (offset 27 (c .before .before .before .before .before .args .cx)) .dy) (ap (λ (f : Found). f .dy) e) (i .0) .1 in
-    let x = within-biased 27 (c .before .before .before .before .before .args .cx) 3 (c .before .loop .best .x) (fullPel (c .before .before .before .before .before .args .input .now) (c .before .before .before .before .before .args .reference .now) (c .before .before .before .before .before .args .width) (c .before .before .before .before .before .args .height) (c .before .before .before .before .before .args .r) (c .before .before .before .before .before .args .c) (offset 27 (c .before .before .before .before .before .args .cy)) (offset 27 (c .before .before .before .before .before .args .cx)) .dx) (ap (λ (f : Found). f .dx) e) (i .1) .1 in
-    record { same = e; y-last = le-trans y (room .y-high); x-last = le-trans x (room .x-high) }
+    let e : seen 27 (c .before .loop .best) ≡ fullPel (a .input .now) (a .reference .now) (a .width) (a .height) (a .r) (a .c) (offset 27 (a .cy)) (offset 27 (a .cx)) =
+    ends (c .before .loop .inv) (omega arith) ∙ fullPel-is (a .input .now) (a .reference .now) (a .width) (a .height) (a .r) (a .c) (offset 27 (a .cy)) (offset 27 (a .cx)) (c .before .before .sad-int .ensures .same) in
+    let i = biased 27 3 (a .cy) (a .cx) (c .before .loop .best) e (fullPel-inside (a .input .now) (a .reference .now) (a .width) (a .height) (a .r) (a .c) (offset 27 (a .cy)) (offset 27 (a .cx))) in
+    record { same = e; y-last = le-trans (i .0 .1) (room .y-high); x-last = le-trans (i .1 .1) (room .x-high) }
 
 pub full-pel-spec : {M : Type 1} → statement M
 full-pel-spec =

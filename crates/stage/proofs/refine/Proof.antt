@@ -1,13 +1,9 @@
 use native.Mathlib.Omega.{arith}
 use borrow.Author.Needs.{needs}
-use Rattle.cost.specs.Clamp.{offset}
+use Rattle.pels.specs.Clamp.{offset}
 use Rattle.stage.proofs.Stages.{refined-is}
 use Rattle.stage.proofs.refine.Statement.{statement}
 use Rattle.stage.proofs.refine.Tie as tie
-use Rattle.stage.proofs.refine.Reads as reads
-use Rattle.stage.proofs.refine.Lts as lts
-use Rattle.cost.proofs.eighths.sad_subpel.Reads as sad-subpel-reads
-use Rattle.stage.proofs.eighths_step.Reads as eighths-step-reads
 
 -- src/lib.rt:165:30
 sad-subpel-requires : tie.Need-sad-subpel-requires

@@ -4,9 +4,6 @@ use Rattle.cost.specs.Cost.{bilinear}
 use Rattle.cost.proofs.Bilinear.{weighted-le}
 use Rattle.cost.proofs.eighths.blend.Statement.{statement}
 use Rattle.cost.proofs.eighths.blend.Tie as tie
-use Rattle.cost.proofs.eighths.blend.Reads as reads
-use Rattle.cost.proofs.eighths.blend.Lts as lts
-use Rattle.cost.proofs.eighths.weighted.Reads as weighted-reads
 
 -- src/eighths.rt:30:9
 weighted-requires : tie.Need-weighted-requires

@@ -2,10 +2,6 @@ use borrow.Author.Needs.{needs}
 use Rattle.cost.specs.Cost.{predicted}
 use Rattle.cost.proofs.eighths.clamped_pel.Statement.{statement}
 use Rattle.cost.proofs.eighths.clamped_pel.Tie as tie
-use Rattle.cost.proofs.eighths.clamped_pel.Reads as reads
-use Rattle.cost.proofs.eighths.clamped_pel.Lts as lts
-use Rattle.cost.proofs.eighths.blend.Reads as blend-reads
-use Rattle.cost.proofs.pels.displaced.Reads as displaced-reads
 
 -- src/eighths.rt:60:9
 displaced-requires : tie.Need-displaced-requires

@@ -3,10 +3,6 @@ use borrow.Author.Needs.{needs}
 use Rattle.cost.proofs.Bilinear.{eighths-of-stored}
 use Rattle.cost.proofs.eighths.sad_subpel.Statement.{statement}
 use Rattle.cost.proofs.eighths.sad_subpel.Tie as tie
-use Rattle.cost.proofs.eighths.sad_subpel.Reads as reads
-use Rattle.cost.proofs.eighths.sad_subpel.Lts as lts
-use Rattle.cost.proofs.eighths.clamped_block.Reads as clamped-block-reads
-use Rattle.cost.proofs.eighths.inside_block.Reads as inside-block-reads
 
 -- src/eighths.rt:129:14
 add-y : tie.Need-add-y

@@ -3,8 +3,6 @@ use borrow.Author.Needs.{needs}
 use Rattle.cost.proofs.Bilinear.{weighted-le}
 use Rattle.cost.proofs.eighths.weighted.Statement.{statement}
 use Rattle.cost.proofs.eighths.weighted.Tie as tie
-use Rattle.cost.proofs.eighths.weighted.Reads as reads
-use Rattle.cost.proofs.eighths.weighted.Lts as lts
 
 -- src/eighths.rt:23:10
 sub-result : tie.Need-sub-result

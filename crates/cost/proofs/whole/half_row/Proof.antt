@@ -1,110 +1,70 @@
-use Prim.Native.Nat.{_+_, _*_, _-_}
+-- `half_row`: a row whose displaced columns lie inside is two parts of constant width.
+-- Assumes nothing.
 use mathlib.Core.Path.{_∙_}
-use native.Mathlib.Omega.{arith}
-use lib.ListN.{length}
-use borrow.Author.Needs.{needs}
-use Rattle.plane.proofs.Listing.{part-length}
-use Rattle.cost.proofs.Clamp.{row-end}
 use Rattle.cost.proofs.Rows.{row-inside}
+use borrow.Author.Needs.{needs}
 use Rattle.cost.proofs.whole.half_row.Statement.{statement}
 use Rattle.cost.proofs.whole.half_row.Tie as tie
-use Rattle.cost.proofs.whole.half_row.Reads as reads
-use Rattle.cost.proofs.whole.half_row.Lts as lts
-use Rattle.cost.proofs.pels.clamp.Reads as clamp-reads
-use Rattle.cost.proofs.whole.row_of_8.Reads as row-of-8-reads
 
--- src/whole.rt:51:13
-mul-a : tie.Need-mul-a
-mul-a c = omega (arith, row-end (c .before .before .args .width) (c .before .before .args .height) (c .before .before .args .r) (c .before .before .args .c) 8 (length (c .before .before .args .input .now)) (omega arith) (omega arith) (omega arith))
+row-start-requires : tie.Need-row-start-requires
+row-start-requires c κs = search needs
 
--- src/whole.rt:51:13
-add-a : tie.Need-add-a
-add-a c = omega (arith, row-end (c .before .before .args .width) (c .before .before .args .height) (c .before .before .args .r) (c .before .before .args .c) 8 (length (c .before .before .args .input .now)) (omega arith) (omega arith) (omega arith))
+displaced-start-requires : tie.Need-displaced-start-requires
+displaced-start-requires c κs = search needs
 
--- src/whole.rt:52:25
-add-clamp : tie.Need-add-clamp
-add-clamp c = search needs
-
--- src/whole.rt:52:13
-clamp-requires : tie.Need-clamp-requires
-clamp-requires c κs = search needs
-
--- src/whole.rt:52:13
-mul-b : tie.Need-mul-b
-mul-b c = omega (arith, row-end (c .before .before .before .args .width) (c .before .before .before .args .height) (c .clamp .result) (c .before .before .before .args .c + c .before .before .before .args .x - 12) 8 (length (c .before .before .before .args .reference .now)) (omega arith) (omega arith) (omega arith))
-
--- src/whole.rt:52:64
-add-b : tie.Need-add-b
-add-b c = omega (arith, row-end (c .before .before .before .args .width) (c .before .before .before .args .height) (c .clamp .result) (c .before .before .before .args .c + c .before .before .before .args .x - 12) 8 (length (c .before .before .before .args .reference .now)) (omega arith) (omega arith) (omega arith))
-
--- src/whole.rt:52:64
-sub-b : tie.Need-sub-b
-sub-b c = search needs
-
--- src/whole.rt:52:13
-add-b-2 : tie.Need-add-b-2
-add-b-2 c = omega (arith, row-end (c .before .before .before .args .width) (c .before .before .before .args .height) (c .clamp .result) (c .before .before .before .args .c + c .before .before .before .args .x - 12) 8 (length (c .before .before .before .args .reference .now)) (omega arith) (omega arith) (omega arith))
-
--- src/whole.rt:53:24
 add-row-of-8 : tie.Need-add-row-of-8
-add-row-of-8 c = omega (arith, row-end (c .before .before .before .args .width) (c .before .before .before .args .height) (c .before .before .before .args .r) (c .before .before .before .args .c) 8 (length (c .before .before .before .args .input .now)) (omega arith) (omega arith) (omega arith))
+add-row-of-8 c = search needs
 
--- src/whole.rt:53:14
 mul-row-of-8 : tie.Need-mul-row-of-8
-mul-row-of-8 c = omega (arith, row-end (c .before .before .before .args .width) (c .before .before .before .args .height) (c .before .before .before .args .r) (c .before .before .before .args .c) 8 (length (c .before .before .before .args .input .now)) (omega arith) (omega arith) (omega arith))
+mul-row-of-8 c = search needs
 
--- src/whole.rt:53:14
 sub-row-of-8 : tie.Need-sub-row-of-8
 sub-row-of-8 c = search needs
 
--- src/whole.rt:53:14
 part-row-of-8-start : tie.Need-part-row-of-8-start
 part-row-of-8-start c = search needs
 
--- src/whole.rt:53:14
 part-row-of-8-end : tie.Need-part-row-of-8-end
-part-row-of-8-end c = omega (arith, row-end (c .before .before .before .args .width) (c .before .before .before .args .height) (c .before .before .before .args .r) (c .before .before .before .args .c) 8 (length (c .before .before .before .args .input .now)) (omega arith) (omega arith) (omega arith))
+part-row-of-8-end c = search needs
 
--- src/whole.rt:53:55
 add-row-of-8-2 : tie.Need-add-row-of-8-2
-add-row-of-8-2 c = omega (arith, row-end (c .before .before .before .before .args .width) (c .before .before .before .before .args .height) (c .before .clamp .result) (c .before .before .before .before .args .c + c .before .before .before .before .args .x - 12) 8 (length (c .before .before .before .before .args .reference .now)) (omega arith) (omega arith) (omega arith))
+add-row-of-8-2 c = search needs
 
--- src/whole.rt:53:41
 mul-row-of-8-2 : tie.Need-mul-row-of-8-2
-mul-row-of-8-2 c = omega (arith, row-end (c .before .before .before .before .args .width) (c .before .before .before .before .args .height) (c .before .clamp .result) (c .before .before .before .before .args .c + c .before .before .before .before .args .x - 12) 8 (length (c .before .before .before .before .args .reference .now)) (omega arith) (omega arith) (omega arith))
+mul-row-of-8-2 c = search needs
 
--- src/whole.rt:53:41
 sub-row-of-8-2 : tie.Need-sub-row-of-8-2
 sub-row-of-8-2 c = search needs
 
--- src/whole.rt:53:41
 part-row-of-8-start-2 : tie.Need-part-row-of-8-start-2
 part-row-of-8-start-2 c = search needs
 
--- src/whole.rt:53:41
 part-row-of-8-end-2 : tie.Need-part-row-of-8-end-2
-part-row-of-8-end-2 c = omega (arith, row-end (c .before .before .before .before .args .width) (c .before .before .before .before .args .height) (c .before .clamp .result) (c .before .before .before .before .args .c + c .before .before .before .before .args .x - 12) 8 (length (c .before .before .before .before .args .reference .now)) (omega arith) (omega arith) (omega arith))
+part-row-of-8-end-2 c = search needs
 
--- src/whole.rt:53:5
 row-of-8-requires : tie.Need-row-of-8-requires
-row-of-8-requires c κs = record { first = part-length (c .before .before .before .before .before .args .r * c .before .before .before .before .before .args .width + c .before .before .before .before .before .args .c) 8 (c .before .before .before .before .before .args .input .now) (row-end (c .before .before .before .before .before .args .width) (c .before .before .before .before .before .args .height) (c .before .before .before .before .before .args .r) (c .before .before .before .before .before .args .c) 8 (length (c .before .before .before .before .before .args .input .now)) (omega arith) (omega arith) (omega arith)); second = part-length (c .before .before .clamp .result * c .before .before .before .before .before .args .width + (c .before .before .before .before .before .args .c + c .before .before .before .before .before .args .x - 12)) 8 (c .before .before .before .before .before .args .reference .now) (row-end (c .before .before .before .before .before .args .width) (c .before .before .before .before .before .args .height) (c .before .before .clamp .result) (c .before .before .before .before .before .args .c + c .before .before .before .before .before .args .x - 12) 8 (length (c .before .before .before .before .before .args .reference .now)) (omega arith) (omega arith) (omega arith)) }
+row-of-8-requires c κs = search needs
 
--- src/whole.rt:45:1
 returns : tie.Need-returns
-returns c = record { same = c .row-of-8 .ensures .same ∙ row-inside (c .before .before .before .before .before .before .args .input .now) (c .before .before .before .before .before .before .args .reference .now) (c .before .before .before .before .before .before .args .width) (c .before .before .before .before .before .before .args .height) (c .before .before .before .before .before .before .args .r) (c .before .before .before .before .before .before .args .c) 12 (c .before .before .before .before .before .before .args .y) (c .before .before .before .before .before .before .args .x) 8 (c .before .before .before .clamp .ensures) (omega arith) (omega arith); small = c .row-of-8 .ensures .small }
+returns c =
+    let a = c .before .before .before .before .before .before .before .args in
+    record {
+      same =
+          c .row-of-8 .ensures .same
+          ∙ row-inside (a .input .now) (a .reference .now) (a .width) (a .height) (a .r) (a .c) 12 (a .y) (a .x) 8
+          (c .before .before .before .before .row-start .ensures .same)
+          (c .before .before .before .displaced-start .ensures .same)
+          (c .before .before .before .before .before .before .before .pre .1 .1 .left)
+          (c .before .before .before .before .before .before .before .pre .1 .1 .right);
+      small = c .row-of-8 .ensures .small;
+    }
 
 pub half-row-spec : {M : Type 1} → statement M
 half-row-spec =
     tie.close
     (tie.spec
-    mul-a
-    add-a
-    add-clamp
-    clamp-requires
-    mul-b
-    add-b
-    sub-b
-    add-b-2
+    row-start-requires
+    displaced-start-requires
     add-row-of-8
     mul-row-of-8
     sub-row-of-8

@@ -1,74 +1,52 @@
-use Prim.Native.Nat.{ℕ, _+_, _*_, _-_, _≤_}
-use mathlib.Core.Path.{_≡_, refl}
+use Prim.Native.Nat.{_-_}
 use native.Mathlib.Omega.{arith}
-use lib.ListN.{length, getD}
+use lib.ListN.{getD}
 use borrow.Author.Needs.{needs}
-use Rattle.laws.specs.Loops.{sum}
-use Rattle.plane.specs.Plane.{pel}
-use Rattle.cost.specs.Clamp.{displaced, offset}
-use Rattle.cost.specs.Cost.{difference, bilinear, rowCost, blockCost, predicted, bilinearRowCost, bilinearCost}
-use Rattle.cost.specs.Ready.{rowDifference, bilinearDifference}
-use Rattle.cost.proofs.Sum.{sum-more, sum-all}
+use Rattle.pels.specs.Difference.{difference}
+use Rattle.cost.specs.Ready.{rowDifference}
+use Rattle.cost.proofs.Sum.{Adds, none, more, all}
 use Rattle.cost.proofs.whole.row_of_8.Statement.{statement}
 use Rattle.cost.proofs.whole.row_of_8.Tie as tie
-use Rattle.cost.proofs.whole.row_of_8.Reads as reads
-use Rattle.cost.proofs.whole.row_of_8.Lts as lts
-use Rattle.cost.proofs.pels.absolute_difference.Reads as absolute-difference-reads
 
 abbrev Inv-loop : tie.InvT-loop
-Inv-loop a b cost₀ j₀ cost j = (j ≤ 8) × (cost ≡ sum (λ k. difference (getD a k 0) (getD b k 0)) j) × (cost ≤ 65535 * j)
+Inv-loop a b cost₀ j₀ cost j = Adds (λ k. difference (getD a k 0) (getD b k 0)) 65535 8 j cost
 
 abbrev μ-loop : tie.MeasureT-loop
 μ-loop a b cost₀ j₀ cost j = 8 - j
 
--- src/whole.rt:25:5
 loop-holds : tie.Need-loop-holds Inv-loop μ-loop
-loop-holds c = (omega arith, refl, omega arith)
+loop-holds c = none _ _ _
 
--- src/whole.rt:26:43
 mul-absolute-difference : tie.Need-mul-absolute-difference Inv-loop μ-loop
 mul-absolute-difference c = search needs
 
--- src/whole.rt:26:43
 shared-slice-read-absolute-difference : tie.Need-shared-slice-read-absolute-difference Inv-loop μ-loop
 shared-slice-read-absolute-difference c = search needs
 
--- src/whole.rt:26:49
 mul-absolute-difference-2 : tie.Need-mul-absolute-difference-2 Inv-loop μ-loop
 mul-absolute-difference-2 c = search needs
 
--- src/whole.rt:26:49
 shared-slice-read-absolute-difference-2 : tie.Need-shared-slice-read-absolute-difference-2 Inv-loop μ-loop
 shared-slice-read-absolute-difference-2 c = search needs
 
--- src/whole.rt:26:17
 absolute-difference-requires : tie.Need-absolute-difference-requires Inv-loop μ-loop
 absolute-difference-requires c κs = search needs
 
--- src/whole.rt:26:9
 add-cost : tie.Need-add-cost Inv-loop μ-loop
 add-cost c = search needs
 
--- src/whole.rt:27:9
 add-j : tie.Need-add-j Inv-loop μ-loop
 add-j c = search needs
 
--- src/whole.rt:25:5
 loop-less : tie.Need-loop-less Inv-loop μ-loop
 loop-less c = search needs
 
--- src/whole.rt:25:5
 loop-again : tie.Need-loop-again Inv-loop μ-loop
-loop-again c = (
-  omega arith,
-  sum-more (λ k. difference (getD (c .before .before .before .before .before .before .before .args .a .now) k 0) (getD (c .before .before .before .before .before .before .before .args .b .now) k 0)) (c .before .before .before .before .loop .j) (c .before .before .before .before .loop .inv .1) (c .absolute-difference .ensures .same),
-  omega arith,
-)
+loop-again c = more (c .before .before .before .before .loop .inv) (omega arith) (c .absolute-difference .ensures .same) (c .absolute-difference .ensures .small)
 
--- src/whole.rt:19:1
 returns : tie.Need-returns Inv-loop μ-loop
 unfolding rowDifference
-returns c = record { same = sum-all (λ k. difference (getD (c .before .before .before .before .args .a .now) k 0) (getD (c .before .before .before .before .args .b .now) k 0)) (let e : c .before .loop .j ≡ 8 = omega arith in e) (c .before .loop .inv .1); small = omega arith }
+returns c = all _ (c .before .loop .inv) (omega arith) (omega arith)
 
 pub row-of-8-spec : {M : Type 1} → statement M
 row-of-8-spec =

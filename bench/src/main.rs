@@ -1,0 +1,126 @@
+//! Measures the proved library against the Rust that it ports, and writes the ratios.
+//!
+//!     bench FILE                  every case: a table on standard output, and a page in FILE
+//!     bench list                  the cases and their numbers
+//!     bench repeat CASE SIDE N    one side ('ours', 'rust' or 'ready') of a case N times, for a profiler
+
+mod belt;
+mod cases;
+mod frames;
+mod inputs;
+mod timing;
+
+use std::{env, fs};
+
+fn main() {
+    let words: Vec<String> = env::args().skip(1).collect();
+    let words: Vec<&str> = words.iter().map(String::as_str).collect();
+    match words[..] {
+        ["list"] => list(),
+        ["repeat", case, side, times] => repeat(case, side, times),
+        [file] => measure(file),
+        _ => panic!("usage: bench FILE | bench list | bench repeat CASE SIDE N"),
+    }
+}
+
+fn list() {
+    for (number, case) in cases::all().iter().enumerate() {
+        println!("{number} {case}");
+    }
+}
+
+fn repeat(case: &str, side: &str, times: &str) {
+    let case = cases::all()[case.parse::<usize>().expect("a case's number")];
+    let sides = case.sides();
+    let mut work = match side {
+        "ours" => sides.ours,
+        "rust" => sides.rust,
+        "ready" => sides.ready.expect("this case has no such side"),
+        _ => panic!("a side is 'ours', 'rust' or 'ready'"),
+    };
+    for _ in 0..times.parse::<u32>().expect("how often") {
+        work();
+    }
+}
+
+fn measure(file: &str) {
+    compare_the_rest();
+    let mut table = String::from(
+        "| call | input | ours / Rust | at most | ours / Rust, samples ready made |\n|---|---|---|---|---|\n",
+    );
+    print!("{table}");
+    for case in cases::all() {
+        let sides = case.sides();
+        let mut works = vec![sides.ours, sides.rust];
+        works.extend(sides.ready);
+        let best = timing::best(&mut works);
+        let most = case.most().map_or(String::new(), |most| format!("{most:.2}"));
+        let ready = best.get(2).map_or(String::new(), |rust| format!("{:.2}", best[0] / rust));
+        let line = format!("| {case} | {:.2} | {most} | {ready} |\n", best[0] / best[1]);
+        print!("{line}");
+        table += &line;
+    }
+    let page = format!("{}\n{table}", head());
+    fs::write(file, page).expect("the page's folder is there");
+}
+
+/// The calls that aren't measured give the Rust's answers too.
+fn compare_the_rest() {
+    for value in (-5_000_000..5_000_000).step_by(997).chain([i32::MIN, i32::MAX, 0, 65_535, 65_537]) {
+        for (kind, flag, slot) in [(0, 0, 0), (1, 0, 0), (1, 1, 1), (2, 1, 2), (3, 0, 3), (3, 1, 5)] {
+            let ours = belt::quantize_global_param(kind, flag, slot, value);
+            let rust = oracle::quantize_global_param(kind, flag == 1, usize::from(slot), value);
+            assert_eq!((ours.refusal, ours.value), (0, rust));
+        }
+    }
+    assert_eq!(belt::quantize_global_param(4, 0, 0, 1).refusal, 4);
+
+    let mut text = [0; 4096];
+    let mut blocks = oracle::blocks::write(7, &oracle::blocks::words(3, 300));
+    blocks[600] ^= 1;
+    blocks.truncate(2 * frames::BLOCK + 511);
+    for bytes in blocks.chunks(frames::BLOCK) {
+        let length = belt::list_block(bytes, &mut text);
+        assert_eq!(&text[..length], oracle::blocks::text(bytes).as_bytes());
+        let read = belt::judge_block(bytes);
+        let rust = oracle::blocks::judge_alone(bytes).map(|words| words.len());
+        assert_eq!((read.refusal, read.count), (rust.err().unwrap_or(0), rust.unwrap_or(0)));
+    }
+}
+
+/// The page's text before the table.
+fn head() -> String {
+    let flags = match env!("BENCH_RUSTFLAGS") {
+        "" => "no further flags",
+        flags => flags,
+    };
+    format!(
+        "# Speed\n\n\
+         The time of each call divided by the time of the Rust, by `bench/run`. Below 1 the proved library is faster.\n\n\
+         Processor: {}. Rust: {}, release build, opt-level {}, {flags}. Library: `rt staticlib belt`, {}. \
+         Both sides are compiled for plain x86-64 (SSE2).\n\n\
+         One driver calls both sides on the same input, compares their answers, and then times them in turns. \
+         Each number is the best processor time of ours divided by the best of the Rust, over {} rounds or more. \
+         'At most' is what is wanted.\n\n\
+         Searches, fits, scores and quantizations are measured against the Rust that is ported. \
+         Fits, scores and quantizations take sample words. The Rust has no such form: in the first ratio it makes its list of samples of the \
+         same words, in the last column it has that list ready made and ours still reads words. \
+         Blocks are measured against a plain Rust writing of document 01 over lent buffers (`bench/src/frames.rs`).\n\n\
+         No buffer is cleared before a call: the lent ones hold what the call before left there, and were touched before the first timing. \
+         The Rust's search makes its half planes and its list of samples in each call, and that is in its time.\n",
+        processor(),
+        env!("BENCH_RUSTC"),
+        env!("BENCH_OPT_LEVEL"),
+        env::var("BENCH_KIT").unwrap_or("an unnamed kit".into()),
+        timing::LEAST_ROUNDS,
+    )
+}
+
+fn processor() -> String {
+    let text = fs::read_to_string("/proc/cpuinfo").unwrap_or_default();
+    let field = |name: &str| {
+        let line = text.lines().find(|line| line.split(':').next().is_some_and(|key| key.trim() == name));
+        line.and_then(|line| line.split(':').nth(1)).unwrap_or("unknown").trim().to_string()
+    };
+    format!("{}, family {}, model {}", field("model name"), field("cpu family"), field("model"))
+}

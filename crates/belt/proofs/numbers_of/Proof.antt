@@ -1,0 +1,42 @@
+-- `belt::numbers_of` meets its contract: by cases on the fitted model.
+-- Assumes nothing.
+use borrow.Author.Needs.{needs}
+use Rattle.belt.proofs.numbers_of.Statement.{statement}
+use Rattle.belt.proofs.numbers_of.Tie as tie
+
+enum-known-fitted : tie.Need-enum-known-fitted
+enum-known-fitted c = search needs
+
+enum-known-fitted-2 : tie.Need-enum-known-fitted-2
+enum-known-fitted-2 c = search needs
+
+enum-known-fitted-3 : tie.Need-enum-known-fitted-3
+enum-known-fitted-3 c = search needs
+
+enum-known-fitted-4 : tie.Need-enum-known-fitted-4
+enum-known-fitted-4 c = search needs
+
+returns : tie.Need-returns
+returns c = rw (c .before .fitted .given .1)
+
+returns-2 : tie.Need-returns-2
+returns-2 c = rw (c .before .fitted2 .given .1)
+
+returns-3 : tie.Need-returns-3
+returns-3 c = rw (c .before .fitted3 .given .1)
+
+returns-4 : tie.Need-returns-4
+returns-4 c = rw (c .before .fitted4 .given .1)
+
+pub numbers-of-spec : {M : Type 1} → statement M
+numbers-of-spec =
+    tie.close
+    (tie.spec
+    enum-known-fitted
+    enum-known-fitted-2
+    enum-known-fitted-3
+    enum-known-fitted-4
+    returns
+    returns-2
+    returns-3
+    returns-4)

@@ -1,0 +1,11 @@
+pub mod Coefficient
+pub mod Composed
+pub mod References
+pub mod Rewritten
+pub mod Valid
+pub mod Shift
+pub mod Answers
+pub mod Count
+pub mod Cut
+pub mod RoundTrip
+pub mod Worked

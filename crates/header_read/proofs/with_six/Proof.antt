@@ -1,0 +1,73 @@
+-- `with_six` meets its contract: what is left to store, stored, gives what was to be stored.
+-- Assumes nothing.
+use Prim.Native.Nat.{ℕ, suc, _+_, _-_, _≤_, _<_}
+use mathlib.Core.List.{List}
+use mathlib.Core.Path.{_≡_, _∙_}
+use native.Mathlib.Numerals.{add-one}
+use native.Mathlib.Nat.{add-zero}
+use native.Mathlib.Omega.{arith}
+use borrow.Author.Needs.{needs}
+use lib.IntN.{ℤ, pos}
+use lib.ListN.{length, drop, getD, set, length-set, drop-of-length-le}
+use lib.Seq.{sets, drop-cons}
+use mir.Syntax.{w32}
+use Rattle.laws.proofs.Placed.{sets-placed}
+use Rattle.laws.proofs.Signed.{result-reads}
+use Rattle.header_read.proofs.with_six.Statement.{statement}
+use Rattle.header_read.proofs.with_six.Tie as tie
+
+stored : (out six t : List ℤ) (first i : ℕ) → i < length six → sets out (first + i) (drop i six) ≡ t → sets (set out (first + i) (getD six i (pos 0))) (first + (i + 1)) (drop (i + 1) six) ≡ t
+stored out six t first i h e =
+    let n : first + (i + 1) ≡ suc (first + i) = omega arith in
+    rw (n, add-one i) (rw (drop-cons six i (pos 0) h) at e)
+
+abbrev Inv-loop : tie.InvT-loop
+Inv-loop first six out₀ i₀ out i = (sets out (first + i) (drop i six) ≡ sets out₀ first six) × (length out ≡ 42) × (i ≤ 6)
+
+abbrev μ-loop : tie.MeasureT-loop
+μ-loop first six out₀ i₀ out i = 6 - i
+
+loop-holds : tie.Need-loop-holds Inv-loop μ-loop
+loop-holds c = (rw (add-zero (c .args .first)), search needs, omega arith)
+
+mul-out : tie.Need-mul-out Inv-loop μ-loop
+mul-out c = search needs
+
+array-copy-out-out : tie.Need-array-copy-out-out Inv-loop μ-loop
+array-copy-out-out c = search needs
+
+add-out : tie.Need-add-out Inv-loop μ-loop
+add-out c = search needs
+
+mul-out-2 : tie.Need-mul-out-2 Inv-loop μ-loop
+mul-out-2 c = search needs
+
+array-set-from-out : tie.Need-array-set-from-out Inv-loop μ-loop
+array-set-from-out c = search needs
+
+add-i : tie.Need-add-i Inv-loop μ-loop
+add-i c = search needs
+
+loop-less : tie.Need-loop-less Inv-loop μ-loop
+loop-less c = search needs
+
+loop-again : tie.Need-loop-again Inv-loop μ-loop
+loop-again c =
+    let l = c .before .before .loop in
+    let a = c .before .before .before .args in
+    let six : length (c .before .before .before .args .t3) ≡ 6 = search needs in
+    rw (result-reads w32 (getD (a .t3) (l .i) (pos 0)) (c .out .given))
+    (stored (l .out) (a .t3) _ (a .first) (l .i) (omega arith) (l .inv .0), length-set (l .out) (a .first + l .i) (getD (a .t3) (l .i) (pos 0)) ∙ l .inv .1, omega arith)
+
+returns : tie.Need-returns Inv-loop μ-loop
+returns c =
+    let l = c .before .loop in
+    let a = c .before .before .args in
+    let six : length (c .before .before .args .t3) ≡ 6 = search needs in
+    let forty : length (c .before .before .args .params) ≡ 42 = search needs in
+    let none : length (c .before .before .args .t3) ≤ c .before .loop .i = omega arith in
+    rw (drop-of-length-le (a .t3) none) at (l .inv .0)
+    ∙ sets-placed (a .first) (a .t3) (a .params) (omega (arith, c .before .before .pre))
+
+pub with-six-spec : {M : Type 1} → statement M
+with-six-spec = tie.close (tie.spec Inv-loop μ-loop loop-holds mul-out array-copy-out-out add-out mul-out-2 array-set-from-out add-i loop-less loop-again returns)

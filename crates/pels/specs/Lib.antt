@@ -1,0 +1,3 @@
+pub mod Clamp
+pub mod Difference
+pub mod Ready
