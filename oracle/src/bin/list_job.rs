@@ -1,0 +1,197 @@
+//! The list for `worked_job`: jobs, each answered by the composition of the Rust's own functions. The argument is the
+//! file to write. Frame pairs are remade from a seed; models, prior and answers are stored.
+//!
+//! A count, then for each case: seed, mask, width, height, kind, four numbers of the picture; frame number, type,
+//! reference, flag; six types and 36 numbers; the prior's 42; then the report (refusal, samples, seven types, 42
+//! numbers, score in two words, bits), the blocks' length in words and their words, the header's length in bytes and
+//! its bytes, zeros up to a whole word.
+
+use oracle::list::{Lcg, List};
+use oracle::Models;
+use std::{env, io};
+
+const SEED: u32 = 7;
+const IDENTITY: [i32; 6] = [0, 0, 65536, 0, 0, 65536];
+const BLOCK_SAMPLES: usize = 125;
+
+/// How the input plane comes from the reference: 0 on its own, 1 mapped, 2 mapped with the two planes exchanged.
+struct Picture {
+    seed: u32,
+    mask: u16,
+    width: usize,
+    height: usize,
+    kind: u32,
+    /// Row r, column c is the reference's r * (64 + zoom) / 64 + shift, and so for c; clamped.
+    zoom: [u32; 2],
+    shift: [u32; 2],
+}
+
+impl Picture {
+    /// Input and reference.
+    fn planes(&self) -> (Vec<u16>, Vec<u16>) {
+        let mut lcg = Lcg(self.seed);
+        let first = lcg.plane(self.width, self.height, self.mask);
+        if self.kind == 0 {
+            let second = lcg.plane(self.width, self.height, self.mask);
+            return (first, second);
+        }
+        let at = |i: usize, axis: usize, side: usize| {
+            (i * (64 + self.zoom[axis] as usize) / 64 + self.shift[axis] as usize).min(side - 1)
+        };
+        let mapped = (0..self.height)
+            .flat_map(|r| (0..self.width).map(move |c| (r, c)))
+            .map(|(r, c)| first[at(r, 0, self.height) * self.width + at(c, 1, self.width)])
+            .collect();
+        if self.kind == 1 { (mapped, first) } else { (first, mapped) }
+    }
+}
+
+fn main() -> io::Result<()> {
+    let path = env::args().nth(1).expect("the argument is the file to write");
+    let mut lcg = Lcg(SEED);
+    let mut list = List::default();
+    let pictures = pictures(&mut lcg);
+    list.push(3 * pictures.len() as u32);
+    for picture in &pictures {
+        for kind in 1..=3 {
+            push_case(&mut list, picture, kind, &mut lcg);
+        }
+    }
+    list.write(path)
+}
+
+/// The sizes about no sample, one, one row or column, and more than a block; then sides of every remainder.
+fn pictures(lcg: &mut Lcg) -> Vec<Picture> {
+    let mut sizes = vec![(0, 0), (15, 16), (16, 15), (16, 16), (33, 16), (16, 80), (80, 16), (192, 96), (192, 192)];
+    sizes.extend((0..39).map(|i| (16 + usize::from(lcg.below(65)), 16 + (i * 5) % 65)));
+    sizes
+        .into_iter()
+        .enumerate()
+        .map(|(i, (width, height))| Picture {
+            seed: lcg.word(),
+            mask: [0xffff, 0x03ff, 0x00ff, 0x0003, 0][i % 5],
+            width,
+            height,
+            kind: (i % 3) as u32,
+            zoom: [u32::from(lcg.below(5)), u32::from(lcg.below(5))],
+            shift: [u32::from(lcg.below(13)), u32::from(lcg.below(13))],
+        })
+        .collect()
+}
+
+fn push_case(list: &mut List, picture: &Picture, kind: u8, lcg: &mut Lcg) {
+    let frame = lcg.step();
+    let reference = 1 + usize::from(lcg.below(7));
+    let high = lcg.below(2) == 1;
+    let (mut types, mut params) = models(high, lcg);
+    let prior = prior(lcg);
+
+    for word in [picture.seed, u32::from(picture.mask), picture.width as u32, picture.height as u32, picture.kind] {
+        list.push(word);
+    }
+    picture.zoom.iter().chain(&picture.shift).for_each(|&n| list.push(n));
+    for word in [u32::from(frame), u32::from(kind), reference as u32, u32::from(high)] {
+        list.push(word);
+    }
+    let others = (0..7).filter(|&i| i != reference - 1);
+    others.clone().for_each(|i| list.push(u32::from(types[i])));
+    others.for_each(|i| params[i].iter().for_each(|&p| list.push_signed(p)));
+    prior.iter().flatten().for_each(|&p| list.push_signed(p));
+
+    let (input, plane) = picture.planes();
+    let count = oracle::sample_count(picture.width, picture.height);
+    let classes: Vec<u8> = (0..count).map(|i| (i % 4) as u8).collect();
+    let words = if count == 0 {
+        Vec::new()
+    } else {
+        oracle::sample_words(&input, &plane, picture.width, picture.height, &classes)
+    };
+    let samples: Vec<[f64; 4]> = words.iter().map(|&word| oracle::sample_of(word)).collect();
+    let Some(fitted) = oracle::fit(kind, &samples) else {
+        list.push(6);
+        (0..1 + 7 + 42 + 2 + 1 + 1 + 1).for_each(|_| list.push(0));
+        return;
+    };
+    let quantized = oracle::quantize_model(&fitted, kind, high, &samples);
+    let mut stored = quantized;
+    if kind == 1 {
+        stored.swap(0, 1);
+    }
+    types[reference - 1] = kind;
+    params[reference - 1] = stored;
+    let (header, bits) = oracle::write_header(&types, &params, high, &prior);
+
+    list.push(0);
+    list.push(words.len() as u32);
+    types.iter().for_each(|&t| list.push(u32::from(t)));
+    params.iter().flatten().for_each(|&p| list.push_signed(p));
+    list.push_float(oracle::score(&quantized, &samples));
+    list.push(bits as u32);
+    let blocks = blocks(frame, &words);
+    list.push(blocks.len() as u32);
+    blocks.iter().for_each(|&word| list.push(word));
+    list.push(header.len() as u32);
+    for bytes in header.chunks(4) {
+        let mut word = [0; 4];
+        word[..bytes.len()].copy_from_slice(bytes);
+        list.push(u32::from_be_bytes(word));
+    }
+}
+
+/// Seven models on the grid, of types drawn at random; the fitted one replaces one of them.
+fn models(high: bool, lcg: &mut Lcg) -> ([u8; 7], Models) {
+    let types = std::array::from_fn(|_| lcg.below(4) as u8);
+    let params = std::array::from_fn(|i| {
+        let mut model = IDENTITY;
+        let slots: &[usize] = match types[i] {
+            0 => &[],
+            1 => &[0, 1],
+            2 => &[0, 1, 2, 3],
+            _ => &[0, 1, 2, 3, 4, 5],
+        };
+        for &slot in slots {
+            let reach = if slot < 2 { 4_300_000 } else { 8_400 };
+            let value = IDENTITY[slot] + lcg.word() as i32 % reach;
+            model[slot] = oracle::quantize_global_param(types[i], high, slot, value);
+        }
+        if types[i] == 2 {
+            model[4] = -model[3];
+            model[5] = model[2];
+        }
+        model
+    });
+    (types, params)
+}
+
+/// A prior anywhere in range, its ends now and then.
+fn prior(lcg: &mut Lcg) -> Models {
+    std::array::from_fn(|_| {
+        std::array::from_fn(|slot| {
+            let reach: i32 = if slot < 2 { 4_194_304 } else { 8_192 };
+            let offset = match lcg.below(8) {
+                0 => reach,
+                1 => -reach,
+                2 => 0,
+                _ => lcg.word() as i32 % (reach + 1),
+            };
+            IDENTITY[slot] + offset
+        })
+    })
+}
+
+/// The words of a frame's blocks, written out from document 01.
+fn blocks(frame: u16, words: &[u32]) -> Vec<u32> {
+    let mut out = Vec::new();
+    for (ordinal, chunk) in words.chunks(BLOCK_SAMPLES).enumerate() {
+        let mut block = vec![
+            u32::from(frame) << 16 | 1 << 8 | chunk.len() as u32,
+            (words.len() as u32) << 16 | ordinal as u32,
+        ];
+        block.extend(chunk);
+        block.resize(127, 0);
+        let check = block.iter().fold(1u32, |sum, &word| sum.wrapping_add(word));
+        block.push(check);
+        out.extend(block);
+    }
+    out
+}
