@@ -28,6 +28,7 @@ const TRANSLATION: u8 = 1;
 const ROTZOOM: u8 = 2;
 
 // A row of the table of refusals (0: none), and the bits written.
+#[repr(C)]
 pub struct Written {
     pub refusal: u32,
     pub bits: usize,

@@ -42,6 +42,7 @@ const PRIOR_OUT: u32 = 8;
 const ENDS_FIRST: u32 = 9;
 
 // A row of the table of refusals (0: none), the seven types and models, and the bits consumed.
+#[repr(C)]
 pub struct Models {
     pub refusal: u32,
     pub types: [u8; 7],

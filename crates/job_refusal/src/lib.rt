@@ -31,6 +31,7 @@ const HEADER_BYTES: usize = 124;
 
 // The frame number of the blocks, the type to fit, the reference that the model is for, and the
 // flag of high precision.
+#[repr(C)]
 pub struct Settings {
     pub frame: u16,
     pub gm_type: u8,

@@ -1,0 +1,333 @@
+//! The static library's calls, and nothing else that is unsafe.
+//!
+//! Each function here is safe for every argument, for the same four reasons:
+//! - a slice passes as its own pointer and length, so the library may read all of it, and write all of it where it
+//!   is `&mut`; the pointer is never null and always aligned, for an empty slice too;
+//! - `&mut` arguments overlap no other argument, since the borrow checker lets no such call through;
+//! - no call has a condition on its arguments: each is proved for all lengths and all values, to write inside the
+//!   lent slices alone, to end, and to keep no pointer;
+//! - structs are `#[repr(C)]` here and there, with the same fields; every bit pattern of them is a value.
+//!
+//! The comment at each call says what is particular to it.
+
+/// The count of bytes that `list_block` may write.
+pub const TEXT_BYTES: usize = 4096;
+
+#[repr(C)]
+pub struct Searched {
+    pub refusal: u32,
+    pub samples: usize,
+}
+
+#[repr(C)]
+pub struct FitAnswer {
+    pub refusal: u32,
+    pub numbers: [f64; 6],
+}
+
+#[repr(C)]
+pub struct QuantizedModel {
+    pub refusal: u32,
+    pub params: [i32; 6],
+}
+
+#[repr(C)]
+pub struct QuantizedParam {
+    pub refusal: u32,
+    pub value: i32,
+}
+
+#[repr(C)]
+pub struct Score {
+    pub refusal: u32,
+    pub score: f64,
+}
+
+#[repr(C)]
+pub struct Stored {
+    pub refusal: u32,
+    pub blocks: usize,
+}
+
+#[repr(C)]
+pub struct FrameRead {
+    pub refusal: u32,
+    pub frame: u16,
+    pub samples: usize,
+}
+
+#[repr(C)]
+pub struct BlockRead {
+    pub refusal: u32,
+    pub frame: u16,
+    pub ordinal: usize,
+    pub count: usize,
+}
+
+#[repr(C)]
+pub struct Written {
+    pub refusal: u32,
+    pub bits: usize,
+}
+
+#[repr(C)]
+pub struct Models {
+    pub refusal: u32,
+    pub types: [u8; 7],
+    pub params: [i32; 42],
+    pub bits: usize,
+}
+
+#[repr(C)]
+pub struct Settings {
+    pub frame: u16,
+    pub gm_type: u8,
+    pub reference: u8,
+    pub flag: u8,
+}
+
+#[repr(C)]
+pub struct Report {
+    pub refusal: u32,
+    pub types: [u8; 7],
+    pub models: [i32; 42],
+    pub score: f64,
+    pub bits: usize,
+    pub samples: usize,
+}
+
+unsafe extern "C" {
+    fn belt_collect_motion_samples(
+        input_y: *const u16,
+        input_pels: usize,
+        ref_y: *const u16,
+        ref_pels: usize,
+        width: usize,
+        height: usize,
+        classes: *const u8,
+        class_count: usize,
+        input_half: *mut u16,
+        input_half_pels: usize,
+        ref_half: *mut u16,
+        ref_half_pels: usize,
+        words: *mut u32,
+        word_count: usize,
+    ) -> Searched;
+    fn belt_fit_translation(words: *const u32, count: usize) -> FitAnswer;
+    fn belt_fit_rotzoom(words: *const u32, count: usize) -> FitAnswer;
+    fn belt_fit_affine(words: *const u32, count: usize) -> FitAnswer;
+    fn belt_quantize_model(
+        kind: u8,
+        numbers: *const [f64; 6],
+        flag: u8,
+        words: *const u32,
+        count: usize,
+    ) -> QuantizedModel;
+    fn belt_mean_sq_residual(params: *const [i32; 6], words: *const u32, count: usize) -> Score;
+    fn belt_quantize_global_param(gm_type: u8, flag: u8, slot: u8, value: i32) -> QuantizedParam;
+    fn belt_write_frame(frame: u16, words: *const u32, count: usize, blocks: *mut u8, room: usize) -> Stored;
+    fn belt_read_frame(bytes: *const u8, length: usize, words: *mut u32, room: usize) -> FrameRead;
+    fn belt_judge_block(bytes: *const u8, length: usize) -> BlockRead;
+    fn belt_list_block(bytes: *const u8, length: usize, text: *mut [u8; TEXT_BYTES]) -> usize;
+    fn belt_encode_inter_global_motion(
+        types: *const u8,
+        type_count: usize,
+        params: *const i32,
+        param_count: usize,
+        flag: u8,
+        prior: *const i32,
+        prior_count: usize,
+        header: *mut u8,
+        room: usize,
+    ) -> Written;
+    fn belt_read_global_motion_params(
+        header: *const u8,
+        length: usize,
+        at: usize,
+        flag: u8,
+        prior: *const i32,
+        prior_count: usize,
+    ) -> Models;
+    fn belt_job(
+        input: *const u16,
+        input_pels: usize,
+        reference: *const u16,
+        reference_pels: usize,
+        width: usize,
+        height: usize,
+        settings: Settings,
+        classes: *const u8,
+        class_count: usize,
+        types: *const u8,
+        type_count: usize,
+        models: *const i32,
+        model_count: usize,
+        prior: *const i32,
+        prior_count: usize,
+        input_half: *mut u16,
+        input_half_pels: usize,
+        ref_half: *mut u16,
+        ref_half_pels: usize,
+        words: *mut u32,
+        word_count: usize,
+        blocks: *mut u8,
+        blocks_room: usize,
+        header: *mut u8,
+        header_room: usize,
+    ) -> Report;
+}
+
+#[allow(clippy::too_many_arguments)]
+pub fn collect_motion_samples(
+    input_y: &[u16],
+    ref_y: &[u16],
+    width: usize,
+    height: usize,
+    classes: &[u8],
+    input_half: &mut [u16],
+    ref_half: &mut [u16],
+    words: &mut [u32],
+) -> Searched {
+    // SAFETY: three slices are read, three written. Sides that don't match the planes' lengths are refused
+    // before a pel is read, and so are half planes and words that are too short before one is written.
+    unsafe {
+        belt_collect_motion_samples(
+            input_y.as_ptr(),
+            input_y.len(),
+            ref_y.as_ptr(),
+            ref_y.len(),
+            width,
+            height,
+            classes.as_ptr(),
+            classes.len(),
+            input_half.as_mut_ptr(),
+            input_half.len(),
+            ref_half.as_mut_ptr(),
+            ref_half.len(),
+            words.as_mut_ptr(),
+            words.len(),
+        )
+    }
+}
+
+pub fn fit_translation(words: &[u32]) -> FitAnswer {
+    // SAFETY: one slice is read.
+    unsafe { belt_fit_translation(words.as_ptr(), words.len()) }
+}
+
+pub fn fit_rotzoom(words: &[u32]) -> FitAnswer {
+    // SAFETY: one slice is read.
+    unsafe { belt_fit_rotzoom(words.as_ptr(), words.len()) }
+}
+
+pub fn fit_affine(words: &[u32]) -> FitAnswer {
+    // SAFETY: one slice is read.
+    unsafe { belt_fit_affine(words.as_ptr(), words.len()) }
+}
+
+pub fn quantize_model(kind: u8, numbers: &[f64; 6], flag: u8, words: &[u32]) -> QuantizedModel {
+    // SAFETY: the six numbers and one slice are read; the array's type holds its length.
+    unsafe { belt_quantize_model(kind, numbers, flag, words.as_ptr(), words.len()) }
+}
+
+pub fn mean_sq_residual(params: &[i32; 6], words: &[u32]) -> Score {
+    // SAFETY: the six numbers and one slice are read; the array's type holds its length.
+    unsafe { belt_mean_sq_residual(params, words.as_ptr(), words.len()) }
+}
+
+pub fn quantize_global_param(gm_type: u8, flag: u8, slot: u8, value: i32) -> QuantizedParam {
+    // SAFETY: numbers alone.
+    unsafe { belt_quantize_global_param(gm_type, flag, slot, value) }
+}
+
+pub fn write_frame(frame: u16, words: &[u32], blocks: &mut [u8]) -> Stored {
+    // SAFETY: one slice is read, one written; one that is too short is refused before a byte is written.
+    unsafe { belt_write_frame(frame, words.as_ptr(), words.len(), blocks.as_mut_ptr(), blocks.len()) }
+}
+
+pub fn read_frame(bytes: &[u8], words: &mut [u32]) -> FrameRead {
+    // SAFETY: one slice is read, one written; the count of words that the bytes claim is held against both.
+    unsafe { belt_read_frame(bytes.as_ptr(), bytes.len(), words.as_mut_ptr(), words.len()) }
+}
+
+pub fn judge_block(bytes: &[u8]) -> BlockRead {
+    // SAFETY: one slice is read.
+    unsafe { belt_judge_block(bytes.as_ptr(), bytes.len()) }
+}
+
+pub fn list_block(bytes: &[u8], text: &mut [u8; TEXT_BYTES]) -> usize {
+    // SAFETY: one slice is read; the buffer's type holds the length that the library takes for granted.
+    unsafe { belt_list_block(bytes.as_ptr(), bytes.len(), text) }
+}
+
+pub fn encode_inter_global_motion(types: &[u8], params: &[i32], flag: u8, prior: &[i32], header: &mut [u8]) -> Written {
+    // SAFETY: three slices are read, one written; other counts than 7, 42 and 42 are refused, and so is a header
+    // that is too short, before a byte is written.
+    unsafe {
+        belt_encode_inter_global_motion(
+            types.as_ptr(),
+            types.len(),
+            params.as_ptr(),
+            params.len(),
+            flag,
+            prior.as_ptr(),
+            prior.len(),
+            header.as_mut_ptr(),
+            header.len(),
+        )
+    }
+}
+
+pub fn read_global_motion_params(header: &[u8], at: usize, flag: u8, prior: &[i32]) -> Models {
+    // SAFETY: two slices are read; a position past the bytes, however large, is refused.
+    unsafe { belt_read_global_motion_params(header.as_ptr(), header.len(), at, flag, prior.as_ptr(), prior.len()) }
+}
+
+#[allow(clippy::too_many_arguments)]
+pub fn job(
+    input: &[u16],
+    reference: &[u16],
+    width: usize,
+    height: usize,
+    settings: Settings,
+    classes: &[u8],
+    types: &[u8],
+    models: &[i32],
+    prior: &[i32],
+    input_half: &mut [u16],
+    ref_half: &mut [u16],
+    words: &mut [u32],
+    blocks: &mut [u8],
+    header: &mut [u8],
+) -> Report {
+    // SAFETY: six slices are read, five written. All counts are judged before the first write.
+    unsafe {
+        belt_job(
+            input.as_ptr(),
+            input.len(),
+            reference.as_ptr(),
+            reference.len(),
+            width,
+            height,
+            settings,
+            classes.as_ptr(),
+            classes.len(),
+            types.as_ptr(),
+            types.len(),
+            models.as_ptr(),
+            models.len(),
+            prior.as_ptr(),
+            prior.len(),
+            input_half.as_mut_ptr(),
+            input_half.len(),
+            ref_half.as_mut_ptr(),
+            ref_half.len(),
+            words.as_mut_ptr(),
+            words.len(),
+            blocks.as_mut_ptr(),
+            blocks.len(),
+            header.as_mut_ptr(),
+            header.len(),
+        )
+    }
+}

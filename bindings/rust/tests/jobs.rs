@@ -1,0 +1,171 @@
+//! Jobs of the three types on made-up frames: what they report, what they leave, and that it reads back.
+
+mod frames;
+
+use belt::{BLOCK_BYTES, BLOCK_WORDS, Buffers, Fitted, Frame, Refusal, Report, TEXT_BYTES, sample_count};
+use frames::{Handed, guarded, moved, noisy_plane, smooth_plane};
+
+const STILL: [f64; 6] = [0.0, 0.0, 1.0, 0.0, 0.0, 1.0];
+
+/// Slots 0 and 1 of a translation exchanged, as a header stores them.
+fn stored(kind: u8, mut model: [i32; 6]) -> [i32; 6] {
+    if kind == 1 {
+        model.swap(0, 1);
+    }
+    model
+}
+
+fn fit(kind: u8, words: &[u32]) -> Result<Fitted, Refusal> {
+    [belt::fit_translation, belt::fit_rotzoom, belt::fit_affine][usize::from(kind) - 1](words)
+}
+
+/// Runs an accepted job and holds it against the single calls, what reads back, and the guards.
+fn run(handed: &Handed) -> (Report, Buffers) {
+    let (width, height) = (handed.width, handed.height);
+    let before = guarded(width, height);
+    let mut after = before.clone();
+    let report = belt::job(&handed.task(), &mut after.lend()).expect("no row refuses");
+    let settings = handed.settings;
+    let samples = sample_count(width, height);
+    assert_eq!(report.samples, samples);
+
+    // the search alone leaves the same half planes and words
+    let mut search = before.clone();
+    let found = belt::collect_motion_samples(
+        &handed.input,
+        &handed.reference,
+        width,
+        height,
+        &handed.classes,
+        &mut search.input_half,
+        &mut search.ref_half,
+        &mut search.words,
+    );
+    assert_eq!(found, Ok(samples));
+    assert_eq!(
+        (&search.input_half, &search.ref_half, &search.words),
+        (&after.input_half, &after.ref_half, &after.words)
+    );
+
+    // fit, grid and score are those of the single calls
+    let words = &after.words[..samples];
+    let fitted = fit(settings.gm_type, words).expect("the words have a fit");
+    let model = belt::quantize_model(&fitted, settings.flag, words).unwrap();
+    let place = usize::from(settings.reference) - 1;
+    assert_eq!(report.models[6 * place..6 * place + 6], stored(settings.gm_type, model));
+    assert_eq!(report.score, belt::mean_sq_residual(&model, words).unwrap());
+
+    // the six others keep their order
+    let mut types = handed.types.clone();
+    types.insert(place, settings.gm_type);
+    assert_eq!(report.types[..], types);
+    let others = [&report.models[..6 * place], &report.models[6 * place + 6..]].concat();
+    assert_eq!(others, handed.models);
+
+    // the header reads back as the report, and nothing behind its last byte is written
+    let read = belt::read_global_motion_params(&after.header, 0, settings.flag, &handed.prior).unwrap();
+    assert_eq!((read.types, read.params, read.bits), (report.types, report.models, report.bits));
+    let bytes = report.bits.div_ceil(8);
+    assert_eq!(after.header[bytes..], before.header[bytes..]);
+    let padding = 8 * bytes - report.bits;
+    assert_eq!(after.header[bytes - 1] & ((1u16 << padding) - 1) as u8, 0);
+    let mut again = vec![0x77; bytes + 2];
+    let wrote =
+        belt::encode_inter_global_motion(&report.types, &report.models, settings.flag, &handed.prior, &mut again);
+    assert_eq!(wrote, Ok(report.bits));
+    assert_eq!((&again[..bytes], &again[bytes..]), (&after.header[..bytes], &[0x77, 0x77][..]));
+
+    // the blocks read back as the words
+    let blocks = samples.div_ceil(BLOCK_WORDS);
+    let (own, behind) = after.blocks.split_at(blocks * BLOCK_BYTES);
+    assert_eq!(behind, &before.blocks[own.len()..]);
+    let mut back = vec![0; samples];
+    assert_eq!(belt::read_frame(own, &mut back), Ok(Frame { number: settings.frame, samples }));
+    assert_eq!(back, words);
+    for (ordinal, block) in own.chunks(BLOCK_BYTES).enumerate() {
+        let judged = belt::judge_block(block).unwrap();
+        let count = BLOCK_WORDS.min(samples - BLOCK_WORDS * ordinal);
+        assert_eq!((judged.frame, judged.ordinal, judged.count), (settings.frame, ordinal, count));
+        let mut text = [0; TEXT_BYTES];
+        let text = belt::list_block(block, &mut text);
+        let first = format!("frame {} block {ordinal} count {count}", settings.frame);
+        assert_eq!(text.lines().next(), Some(first.as_str()));
+        assert_eq!(text.lines().count(), 1 + count);
+    }
+    (report, after)
+}
+
+#[test]
+fn a_translation_by_whole_pels_is_found_exactly() {
+    for (dy, dx) in [(0, 0), (4, -6), (-8, 2), (2, 4)] {
+        let reference = noisy_plane(96, 80);
+        let input = moved(&reference, 96, 80, dy, dx);
+        let (report, left) = run(&Handed::new(input, reference, 96, 80, 1));
+        for (i, word) in left.words[..30].iter().enumerate() {
+            let (row, column, class) = (i as u32 / 6, i as u32 % 6, i as u32 % 4);
+            let (v, u) = ((8 * dy + 223) as u32, (8 * dx + 223) as u32);
+            assert_eq!(*word, row << 26 | column << 20 | v << 11 | u << 2 | class, "sample {i} of {dy}, {dx}");
+        }
+        let whole = |pels: i64| pels as i32 * 65536;
+        assert_eq!(report.models[12..18], [whole(dy), whole(dx), 65536, 0, 0, 65536]);
+        assert_eq!(report.score, 0.0);
+    }
+}
+
+#[test]
+fn rotation_zooms_and_affine_motions_read_back() {
+    for kind in 1..=3 {
+        for motion in [[3.0, -2.0, 1.01, 0.02, -0.02, 1.01], [-1.5, 2.25, 0.98, 0.01, 0.03, 1.02], STILL] {
+            for reference in [1, 4, 7] {
+                for flag in [0, 1] {
+                    let planes = (smooth_plane(112, 80, motion), smooth_plane(112, 80, STILL));
+                    let mut handed = Handed::new(planes.0, planes.1, 112, 80, kind);
+                    handed.settings.reference = reference;
+                    handed.settings.flag = flag;
+                    run(&handed);
+                }
+            }
+        }
+    }
+}
+
+#[test]
+fn a_zoom_is_near_what_was_drawn() {
+    let planes = (smooth_plane(208, 208, [0.0, 0.0, 1.02, 0.0, 0.0, 1.02]), smooth_plane(208, 208, STILL));
+    let (report, _) = run(&Handed::new(planes.0, planes.1, 208, 208, 2));
+    let zoom = f64::from(report.models[14]) / 65536.0;
+    assert!((zoom - 1.02).abs() < 0.005, "{zoom}");
+    assert_eq!((report.models[16], report.models[17]), (-report.models[15], report.models[14]));
+}
+
+#[test]
+fn other_models_and_priors_are_carried() {
+    let planes = (smooth_plane(64, 64, [1.0, 1.0, 1.0, 0.0, 0.0, 1.0]), smooth_plane(64, 64, STILL));
+    let mut handed = Handed::new(planes.0, planes.1, 64, 64, 3);
+    handed.types = vec![3, 2, 1, 0, 1, 3];
+    let affine = [1024, -2048, 65538, 2, -4, 65534];
+    let rotzoom = [-1024, 2048, 65546, -6, 6, 65546];
+    let translation = [8192, -16384, 65536, 0, 0, 65536];
+    handed.models = [affine, rotzoom, translation, belt::IDENTITY, translation, affine].concat();
+    handed.prior = (0..42).map(|i| belt::IDENTITY[i % 6] + [4_000_000, -77, 8192, -8192, 5, -8192][i % 6]).collect();
+    run(&handed);
+}
+
+#[test]
+fn more_than_one_block() {
+    let planes = (smooth_plane(192, 176, [0.5, 0.0, 1.0, 0.01, -0.01, 1.0]), smooth_plane(192, 176, STILL));
+    let (report, _) = run(&Handed::new(planes.0, planes.1, 192, 176, 2));
+    assert_eq!(report.samples, 132);
+}
+
+#[test]
+fn a_plane_without_a_whole_block_touches_no_working_memory() {
+    let handed = Handed::new(noisy_plane(15, 40), noisy_plane(15, 40), 15, 40, 1);
+    let before = guarded(15, 40);
+    let mut after = before.clone();
+    let report = belt::job(&handed.task(), &mut after.lend()).unwrap();
+    assert_eq!((report.samples, report.score), (0, 0.0));
+    assert_eq!(Buffers { header: before.header.clone(), ..after.clone() }, before);
+    let read = belt::read_global_motion_params(&after.header, 0, 1, &handed.prior).unwrap();
+    assert_eq!((read.types, read.params, read.bits), (report.types, report.models, report.bits));
+}

@@ -1,0 +1,311 @@
+//! Every row that each call has, its order among the rows, and that a refused call leaves what it was lent.
+
+mod frames;
+
+use belt::Refusal::{self, *};
+use belt::{Buffers, Fitted, IDENTITIES, IDENTITY};
+use frames::{Handed, guarded, noisy_plane};
+
+/// Words that rise, at zero motion.
+fn words(count: usize) -> Vec<u32> {
+    (0..count as u32).map(|i| i << 20 | 223 << 11 | 223 << 2).collect()
+}
+
+#[test]
+fn the_table_is_document_01_s() {
+    let numbers = Refusal::TABLE.map(Refusal::number);
+    assert_eq!(numbers, [1, 2, 4, 5, 7, 8, 12, 3, 6, 9, 10, 11]);
+    for row in Refusal::TABLE {
+        assert_eq!(Refusal::of_number(row.number()), Some(row));
+        assert_eq!(row.to_string(), format!("{}: {}", row.number(), row.condition()));
+    }
+    assert_eq!((Refusal::of_number(0), Refusal::of_number(13)), (None, None));
+}
+
+/// A job, its room, and a change of either.
+type Change = fn(&mut Handed, &mut Buffers);
+
+fn room(buffers: &mut Buffers) {
+    let needed = Buffers::new(48, 32);
+    buffers.input_half.truncate(needed.input_half.len());
+    buffers.ref_half.truncate(needed.ref_half.len());
+    buffers.words.truncate(needed.words.len());
+    buffers.blocks.truncate(needed.blocks.len());
+    buffers.header.truncate(needed.header.len());
+}
+
+#[test]
+fn job() {
+    let changes: &[(Refusal, Change)] = &[
+        (TooLarge, |h, _| h.width = 1025),
+        (TooLarge, |h, _| h.height = 1025),
+        (TooLarge, |h, _| (h.width, h.height) = (usize::MAX, usize::MAX)),
+        (WrongLength, |h, _| h.width = 47),
+        (WrongLength, |h, _| h.input.truncate(48 * 32 - 1)),
+        (WrongLength, |h, _| h.input.push(0)),
+        (WrongLength, |h, _| h.reference.truncate(48 * 32 - 1)),
+        (WrongLength, |h, _| h.reference.clear()),
+        (WrongLength, |h, _| h.classes.truncate(5)),
+        (WrongLength, |h, _| h.classes.push(0)),
+        (WrongLength, |h, _| h.types.truncate(5)),
+        (WrongLength, |h, _| h.types.push(0)),
+        (WrongLength, |h, _| h.models.truncate(35)),
+        (WrongLength, |h, _| h.prior.truncate(41)),
+        (NoSuchCode, |h, _| h.classes[5] = 4),
+        (NoSuchCode, |h, _| h.settings.gm_type = 0),
+        (NoSuchCode, |h, _| h.settings.gm_type = 4),
+        (NoSuchCode, |h, _| h.settings.flag = 2),
+        (NoSuchCode, |h, _| h.settings.flag = 255),
+        (NoSuchCode, |h, _| h.types[5] = 4),
+        (NoSuchSlot, |h, _| h.settings.reference = 0),
+        (NoSuchSlot, |h, _| h.settings.reference = 8),
+        (OffGrid, |h, _| h.models[0] = 1),
+        (OffGrid, |h, _| h.models[35] = 65538),
+        (OffGrid, |h, _| (h.types[1], h.models[8]) = (3, 65537)),
+        (OffGrid, |h, _| (h.types[1], h.models[9]) = (2, 2)),
+        (PriorOut, |h, _| h.prior[3] = 8193),
+        (PriorOut, |h, _| h.prior[4] = -8193),
+        (PriorOut, |h, _| h.prior[36] = 4_194_305),
+        (PriorOut, |h, _| h.prior[37] = i32::MIN),
+        (PriorOut, |h, _| h.prior[2] = 65536 + 8193),
+        (PriorOut, |h, _| h.prior[5] = 65536 - 8193),
+        (TooShort, |_, b| b.input_half.truncate(383)),
+        (TooShort, |_, b| b.ref_half.truncate(383)),
+        (TooShort, |_, b| b.words.truncate(5)),
+        (TooShort, |_, b| b.blocks.truncate(511)),
+        (TooShort, |_, b| b.header.truncate(123)),
+        (TooShort, |_, b| b.header.clear()),
+    ];
+    let handed = Handed::new(noisy_plane(48, 32), noisy_plane(48, 32), 48, 32, 1);
+    let mut exact = guarded(48, 32);
+    room(&mut exact);
+    assert!(belt::job(&handed.task(), &mut exact.clone().lend()).is_ok(), "the unchanged job is accepted");
+    for (i, (row, change)) in changes.iter().enumerate() {
+        let (mut handed, mut before) = (handed.clone(), exact.clone());
+        change(&mut handed, &mut before);
+        let mut after = before.clone();
+        assert_eq!(belt::job(&handed.task(), &mut after.lend()), Err(*row), "change {i}");
+        assert_eq!(after, before, "change {i} leaves the buffers");
+    }
+    // of two rows that both hold, the earlier in the table
+    for (i, (first, change)) in changes.iter().enumerate() {
+        for (second, other) in changes[i..].iter().filter(|(second, _)| second != first) {
+            let (mut handed, mut before) = (handed.clone(), exact.clone());
+            other(&mut handed, &mut before);
+            change(&mut handed, &mut before);
+            let mut after = before.clone();
+            assert_eq!(belt::job(&handed.task(), &mut after.lend()), Err(*first), "change {i} and then {second}");
+            assert_eq!(after, before);
+        }
+    }
+}
+
+#[test]
+fn a_singular_job_leaves_the_search_alone_behind() {
+    for kind in [2, 3] {
+        let handed = Handed::new(noisy_plane(16, 16), noisy_plane(16, 16), 16, 16, kind);
+        let before = guarded(16, 16);
+        let mut after = before.clone();
+        assert_eq!(belt::job(&handed.task(), &mut after.lend()), Err(Singular));
+        let mut search = before.clone();
+        let found = belt::collect_motion_samples(
+            &handed.input,
+            &handed.reference,
+            16,
+            16,
+            &handed.classes,
+            &mut search.input_half,
+            &mut search.ref_half,
+            &mut search.words,
+        );
+        assert_eq!(found, Ok(1));
+        assert_ne!(search, before);
+        assert_eq!(after, search);
+        // with no samples row 6 touches nothing
+        let handed = Handed::new(noisy_plane(15, 16), noisy_plane(15, 16), 15, 16, kind);
+        let mut after = before.clone();
+        assert_eq!(belt::job(&handed.task(), &mut after.lend()), Err(Singular));
+        assert_eq!(after, before);
+    }
+}
+
+#[test]
+fn search() {
+    let plane = noisy_plane(48, 32);
+    let call = |width, pels: usize, ref_pels: usize, classes: &[u8], rooms: [usize; 3], row| {
+        let (mut halves, mut words) = ([vec![9u16; rooms[0]], vec![8; rooms[1]]], vec![7u32; rooms[2]]);
+        let [input_half, ref_half] = &mut halves;
+        let (input, reference) = (&plane[..pels], &plane[..ref_pels]);
+        let found =
+            belt::collect_motion_samples(input, reference, width, 32, classes, input_half, ref_half, &mut words);
+        assert_eq!(found, row);
+        if row.is_err() {
+            assert_eq!((halves, words), ([vec![9; rooms[0]], vec![8; rooms[1]]], vec![7; rooms[2]]));
+        }
+    };
+    let enough = [384, 384, 6];
+    call(48, 1536, 1536, &[3; 6], enough, Ok(6));
+    call(1025, 1536, 1536, &[0; 6], enough, Err(TooLarge));
+    call(48, 1535, 1536, &[0; 6], enough, Err(WrongLength));
+    call(48, 1536, 1535, &[0; 6], enough, Err(WrongLength));
+    call(48, 1536, 1536, &[0; 5], enough, Err(WrongLength));
+    call(48, 1536, 1536, &[0, 0, 0, 0, 0, 4], enough, Err(NoSuchCode));
+    call(48, 1536, 1536, &[0; 6], [383, 384, 6], Err(TooShort));
+    call(48, 1536, 1536, &[0; 6], [384, 383, 6], Err(TooShort));
+    call(48, 1536, 1536, &[0; 6], [384, 384, 5], Err(TooShort));
+}
+
+#[test]
+fn fits_and_scores() {
+    let many = words(4097);
+    for fit in [belt::fit_translation, belt::fit_rotzoom, belt::fit_affine] {
+        assert_eq!(fit(&many), Err(TooLarge));
+        assert!(fit(&many[..4096]).is_ok());
+    }
+    let none = belt::fit_translation(&[]).unwrap();
+    assert!(none.numbers[0].is_nan() && none.numbers[1].is_nan());
+    for few in [&[][..], &many[..1]] {
+        assert_eq!(belt::fit_rotzoom(few), Err(Singular));
+        assert_eq!(belt::fit_affine(few), Err(Singular));
+    }
+    assert_eq!(belt::mean_sq_residual(&IDENTITY, &many), Err(TooLarge));
+    assert_eq!(belt::mean_sq_residual(&IDENTITY, &[]), Ok(0.0));
+    assert_eq!(belt::mean_sq_residual(&[65536, 0, 65536, 0, 0, 65536], &many[..3]), Ok(1.0));
+
+    let fitted = |kind| Fitted { kind, numbers: [0.0, 0.0, 1.0, 0.0, 0.0, 1.0] };
+    assert_eq!(belt::quantize_model(&fitted(3), 1, &many), Err(TooLarge));
+    assert_eq!(belt::quantize_model(&fitted(0), 1, &many[..9]), Err(NoSuchCode));
+    assert_eq!(belt::quantize_model(&fitted(4), 1, &many[..9]), Err(NoSuchCode));
+    assert_eq!(belt::quantize_model(&fitted(3), 2, &many[..9]), Err(NoSuchCode));
+    assert_eq!(belt::quantize_model(&fitted(4), 2, &many), Err(TooLarge));
+    for kind in 1..=3 {
+        assert_eq!(belt::quantize_model(&fitted(kind), 1, &many[..9]), Ok(IDENTITY));
+    }
+}
+
+#[test]
+fn quantize_global_param() {
+    assert_eq!(belt::quantize_global_param(4, 0, 0, 0), Err(NoSuchCode));
+    assert_eq!(belt::quantize_global_param(0, 2, 0, 0), Err(NoSuchCode));
+    assert_eq!(belt::quantize_global_param(3, 1, 6, 0), Err(NoSuchSlot));
+    assert_eq!(belt::quantize_global_param(4, 1, 6, 0), Err(NoSuchCode));
+    for (flag, slot, value, answer) in [
+        (1, 0, 4095, 0),
+        (1, 0, 4096, 8192),
+        (1, 1, -4096, -8192),
+        (1, 0, 4_198_400, 4_194_304),
+        (0, 0, 8191, 0),
+        (0, 1, 8192, 16384),
+        (0, 2, 73729, 73728),
+        (0, 5, i32::MIN, 57344),
+    ] {
+        assert_eq!(belt::quantize_global_param(1, flag, slot, value), Ok(answer));
+    }
+}
+
+#[test]
+fn frames_stored_and_read() {
+    let good = words(126);
+    let store = |words: &[u32], room: usize, row: Result<usize, Refusal>| {
+        let mut blocks = vec![0xEE; room];
+        assert_eq!(belt::write_frame(7, words, &mut blocks), row);
+        if row.is_err() {
+            assert_eq!(blocks, vec![0xEE; room]);
+        }
+        blocks
+    };
+    store(&words(4097), 40_000, Err(TooLarge));
+    store(&[447 << 11], 512, Err(NotRising));
+    store(&[447 << 2], 512, Err(NotRising));
+    store(&[good[1], good[0]], 512, Err(NotRising));
+    store(&[good[1], good[1]], 512, Err(NotRising));
+    store(&[good[1], good[1]], 0, Err(NotRising));
+    store(&good, 1023, Err(TooShort));
+    store(&good[..1], 511, Err(TooShort));
+    store(&[], 0, Ok(0));
+    let blocks = store(&good, 1024, Ok(2));
+
+    let read = |bytes: &[u8], room: usize, row| {
+        let mut words = vec![0xEEEE_EEEE; room];
+        assert_eq!(belt::read_frame(bytes, &mut words).map(|frame| frame.samples), row);
+        if row.is_err() {
+            assert_eq!(words, vec![0xEEEE_EEEE; room]);
+        }
+        words
+    };
+    assert_eq!(read(&blocks, 127, Ok(126))[..126], good);
+    assert_eq!(read(&blocks, 127, Ok(126))[126], 0xEEEE_EEEE);
+    read(&blocks, 125, Err(TooShort));
+    read(&blocks[..1023], 126, Err(EndsFirst));
+    read(&blocks[..512], 126, Err(EndsFirst));
+    read(&[0; 511], 126, Err(EndsFirst));
+    read(&[0; 512], 126, Err(WrongCheck));
+    read(&[&blocks[..512], &[0; 512]].concat(), 126, Err(WrongCheck));
+    read(&[&blocks[..512], &blocks[..512]].concat(), 126, Err(WrongBlock));
+    read(&[], 0, Ok(0));
+
+    let judge = |bytes: &[u8]| belt::judge_block(bytes).map(|block| (block.frame, block.ordinal, block.count));
+    assert_eq!(judge(&blocks), Ok((7, 0, 125)));
+    assert_eq!(judge(&blocks[512..]), Ok((7, 1, 1)));
+    assert_eq!(judge(&blocks[513..]), Err(EndsFirst));
+    assert_eq!(judge(&[0; 512]), Err(WrongCheck));
+    // form 0, check right
+    let mut form = blocks[512..].to_vec();
+    form[2] = 0;
+    let check = u32::from_be_bytes(form[508..].try_into().unwrap()) - 0x0100;
+    form[508..].copy_from_slice(&check.to_be_bytes());
+    assert_eq!(judge(&form), Err(WrongBlock));
+
+    let mut text = [0xEE; belt::TEXT_BYTES];
+    assert_eq!(belt::list_block(&form, &mut text), "refused 11\n");
+    assert_eq!(text[11..], [0xEE; belt::TEXT_BYTES - 11]);
+    assert_eq!(belt::list_block(&[0; 512], &mut text), "refused 10\n");
+    assert_eq!(belt::list_block(&[], &mut text), "refused 9\n");
+}
+
+#[test]
+fn headers_written_and_read() {
+    let mut params = IDENTITIES;
+    params[..2].copy_from_slice(&[8192, -8192]);
+    let types = [1, 0, 0, 0, 0, 0, 0];
+    let write = |types: &[u8], params: &[i32], flag, prior: &[i32], room: usize, row: Result<usize, Refusal>| {
+        let mut header = vec![0xEE; room];
+        assert_eq!(belt::encode_inter_global_motion(types, params, flag, prior, &mut header), row);
+        if row.is_err() {
+            assert_eq!(header, vec![0xEE; room]);
+        }
+        header
+    };
+    let changed = |at: usize, value: i32| {
+        let mut numbers = IDENTITIES;
+        numbers[at] = value;
+        numbers
+    };
+    assert_eq!(write(&types, &params, 1, &IDENTITIES, 5, Ok(17)), [0xA4, 0x20, 0x00, 0xEE, 0xEE]);
+    write(&types[..6], &params, 1, &IDENTITIES, 3, Err(WrongLength));
+    write(&types, &params[..41], 1, &IDENTITIES, 3, Err(WrongLength));
+    write(&types, &params, 1, &IDENTITIES[..41], 3, Err(WrongLength));
+    write(&[1, 0, 0, 0, 0, 0, 4], &params, 1, &IDENTITIES, 3, Err(NoSuchCode));
+    write(&types, &params, 2, &IDENTITIES, 3, Err(NoSuchCode));
+    write(&[3, 0, 0, 0, 0, 0, 0], &changed(2, 65537), 1, &IDENTITIES, 30, Err(OffGrid));
+    write(&[0; 7], &params, 1, &IDENTITIES, 3, Err(OffGrid));
+    write(&[2, 0, 0, 0, 0, 0, 0], &changed(3, 2), 1, &IDENTITIES, 30, Err(OffGrid));
+    write(&types, &params, 1, &changed(3, 8193), 3, Err(PriorOut));
+    write(&types, &params, 1, &IDENTITIES, 2, Err(TooShort));
+    write(&types, &params, 1, &IDENTITIES, 0, Err(TooShort));
+
+    let read = |header: &[u8], at, flag, prior: &[i32]| belt::read_global_motion_params(header, at, flag, prior);
+    let header = [0xA4, 0x20, 0x00];
+    let back = read(&header, 0, 1, &IDENTITIES).unwrap();
+    assert_eq!((back.types, back.params, back.bits), (types, params, 17));
+    // the same bits from another position on
+    let shifted = [0xFF, 0xF4, 0x84, 0x00];
+    assert_eq!(read(&shifted, 11, 1, &IDENTITIES), Ok(back));
+    assert_eq!(read(&header, 0, 1, &IDENTITIES[..41]), Err(WrongLength));
+    assert_eq!(read(&header, 0, 2, &IDENTITIES), Err(NoSuchCode));
+    assert_eq!(read(&header, 0, 1, &changed(4, 8193)), Err(PriorOut));
+    assert_eq!(read(&header[..2], 0, 1, &IDENTITIES), Err(EndsFirst));
+    assert_eq!(read(&[], 0, 1, &IDENTITIES), Err(EndsFirst));
+    assert_eq!(read(&header, 24, 1, &IDENTITIES), Err(EndsFirst));
+    assert_eq!(read(&header, usize::MAX, 1, &IDENTITIES), Err(EndsFirst));
+}
