@@ -182,9 +182,10 @@ fn rotzoom_sums(words: &[u32]) -> RotZoomSums
         su: 0.0,
         sv: 0.0,
     };
+    let centres = sample::centres();
     let mut i = 0usize;
     while i < words.len() {
-        t = rotzoom_step(t, sample::sample_of(words[i]));
+        t = rotzoom_step(t, sample::sample_by(&centres, words[i]));
         i += 1;
     }
     t
@@ -206,9 +207,10 @@ fn affine_sums(words: &[u32]) -> AffineSums
         syv: 0.0,
         sv: 0.0,
     };
+    let centres = sample::centres();
     let mut i = 0usize;
     while i < words.len() {
-        t = affine_step(t, sample::sample_of(words[i]));
+        t = affine_step(t, sample::sample_by(&centres, words[i]));
         i += 1;
     }
     t

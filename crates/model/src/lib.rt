@@ -91,9 +91,10 @@ fn residual_sum(m: ContinuousModel, words: &[u32]) -> f64
     ensures { λ r. ⌜ r ≡ residualSum m (now (words .entry)) ⌝ }
 {
     let mut acc = 0.0;
+    let centres = sample::centres();
     let mut i = 0usize;
     while i < words.len() {
-        acc = score_step(m, acc, sample::sample_of(words[i]));
+        acc = score_step(m, acc, sample::sample_by(&centres, words[i]));
         i += 1;
     }
     acc

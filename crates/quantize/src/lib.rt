@@ -138,9 +138,10 @@ fn refit_sums(m: ContinuousModel, words: &[u32]) -> TranslationSums
     ensures { λ r. ⌜ r ≡ refitSums m (now (words .entry)) ⌝ }
 {
     let mut t = TranslationSums { su: 0.0, sv: 0.0 };
+    let centres = sample::centres();
     let mut i = 0usize;
     while i < words.len() {
-        t = refit_step(m, t, sample::sample_of(words[i]));
+        t = refit_step(m, t, sample::sample_by(&centres, words[i]));
         i += 1;
     }
     t

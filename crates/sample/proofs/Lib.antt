@@ -1,3 +1,4 @@
 pub mod Word
 pub mod Motion
 pub mod Storable
+pub mod Filled

@@ -4,7 +4,7 @@
 ghost use mathlib.Core.Path.{_≡_};
 ghost use Prim.Native.Nat.{_<_};
 ghost use Rattle.sample.specs.Word.{rowOf, colOf, vOf, uOf, classOf, wordOf, Held, inRange, placeOf, motions};
-ghost use Rattle.sample.specs.Sample.{sampleOf, centreOf, pelsOf};
+ghost use Rattle.sample.specs.Sample.{sampleOf, centreOf, pelsOf, Centres};
 
 const ROW_UNIT: u32 = 67108864;
 
@@ -113,6 +113,34 @@ pub fn sample_of(word: u32) -> MotionSample
     MotionSample {
         x: centre_of(col_of(word)),
         y: centre_of(row_of(word)),
+        u: pels_of(u_of(word)),
+        v: pels_of(v_of(word)),
+    }
+}
+
+// The centres of all rows or columns of blocks, which a long list of words looks up.
+pub fn centres() -> [f64; 64]
+    ensures { λ r. ⌜ Centres r ⌝ }
+{
+    let mut table = [0.0f64; 64];
+    let mut place = 0u32;
+    while place < SIDES {
+        table[place as usize] = centre_of(place);
+        place += 1;
+    }
+    table
+}
+
+// The sample of a word, its centre looked up.
+pub fn sample_by(centres: &[f64; 64], word: u32) -> MotionSample
+    requires { ⌜ Centres (now centres) ⌝ }
+    ensures { λ r. ⌜ r ≡ sampleOf word ⌝ }
+{
+    let row = row_of(word) as usize;
+    let col = col_of(word) as usize;
+    MotionSample {
+        x: centres[col],
+        y: centres[row],
         u: pels_of(u_of(word)),
         v: pels_of(v_of(word)),
     }

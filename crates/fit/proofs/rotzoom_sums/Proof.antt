@@ -13,22 +13,25 @@ use Rattle.fit.proofs.rotzoom_sums.Statement.{statement}
 use Rattle.fit.proofs.rotzoom_sums.Tie as tie
 
 abbrev Inv-loop : tie.InvT-loop
-Inv-loop words t₀ i₀ t i = fold (reading rotZoomStep sampleOf) (drop i words) t ≡ fold (reading rotZoomStep sampleOf) words t₀
+Inv-loop words t₀ centres i₀ t i = fold (reading rotZoomStep sampleOf) (drop i words) t ≡ fold (reading rotZoomStep sampleOf) words t₀
 
 abbrev μ-loop : tie.MeasureT-loop
-μ-loop words t₀ i₀ t i = length words - i
+μ-loop words t₀ centres i₀ t i = length words - i
 
 loop-holds : tie.Need-loop-holds Inv-loop μ-loop
 loop-holds c = refl
 
-mul-sample-of : tie.Need-mul-sample-of Inv-loop μ-loop
-mul-sample-of c = search needs
+centres-requires : tie.Need-centres-requires Inv-loop μ-loop
+centres-requires c κs = search needs
 
-shared-slice-read-sample-of : tie.Need-shared-slice-read-sample-of Inv-loop μ-loop
-shared-slice-read-sample-of c = search needs
+mul-sample-by : tie.Need-mul-sample-by Inv-loop μ-loop
+mul-sample-by c = search needs
 
-sample-of-requires : tie.Need-sample-of-requires Inv-loop μ-loop
-sample-of-requires c κs = search needs
+shared-slice-read-sample-by : tie.Need-shared-slice-read-sample-by Inv-loop μ-loop
+shared-slice-read-sample-by c = search needs
+
+sample-by-requires : tie.Need-sample-by-requires Inv-loop μ-loop
+sample-by-requires c κs = c .before .before .before .before .centres .ensures
 
 rotzoom-step-requires : tie.Need-rotzoom-step-requires Inv-loop μ-loop
 rotzoom-step-requires c κs = search needs
@@ -40,11 +43,11 @@ loop-less : tie.Need-loop-less Inv-loop μ-loop
 loop-less c = search needs
 
 loop-again : tie.Need-loop-again Inv-loop μ-loop
-loop-again c = fold-again (reading rotZoomStep sampleOf) (c .before .before .before .before .before .before .args .words .now) (c .before .before .before .before .loop .i) 0
-    (c .before .before .before .loop-test .taken) (c .rotzoom-step .ensures ∙ ap (rotZoomStep (c .before .before .before .before .loop .t)) (c .before .sample-of .ensures)) (c .before .before .before .before .loop .inv)
+loop-again c = fold-again (reading rotZoomStep sampleOf) (c .before .before .before .before .before .before .before .before .args .words .now) (c .before .before .before .before .before .loop .i) 0
+    (c .before .before .before .before .loop-test .taken) (c .rotzoom-step .ensures ∙ ap (rotZoomStep (c .before .before .before .before .before .loop .t)) (c .before .sample-by .ensures)) (c .before .before .before .before .before .loop .inv)
 
 returns : tie.Need-returns Inv-loop μ-loop
-returns c = fold-done (reading rotZoomStep sampleOf) (c .before .before .before .args .words .now) (c .before .loop .i) (c .loop-test .left) (c .before .loop .inv) ∙ rotZoom-sums (c .before .before .before .args .words .now)
+returns c = fold-done (reading rotZoomStep sampleOf) (c .before .before .before .before .args .words .now) (c .before .loop .i) (c .loop-test .left) (c .before .loop .inv) ∙ rotZoom-sums (c .before .before .before .before .args .words .now)
 
 pub rotzoom-sums-spec : {M : Type 1} → statement M
 rotzoom-sums-spec =
@@ -52,10 +55,11 @@ rotzoom-sums-spec =
     (tie.spec
     Inv-loop
     μ-loop
+    centres-requires
     loop-holds
-    mul-sample-of
-    shared-slice-read-sample-of
-    sample-of-requires
+    mul-sample-by
+    shared-slice-read-sample-by
+    sample-by-requires
     rotzoom-step-requires
     add-i
     loop-less
