@@ -1,33 +1,25 @@
 -- A writing call is refused by no row exactly where the header can be written and there is room for it.
 -- Assumes nothing.
 use Prim.Native.Nat.{ℕ, _≤_}
-use mathlib.Core.Bool.{Bool, true, false, not}
+use mathlib.Core.Bool.{false, not}
 use mathlib.Core.List.{List}
-use mathlib.Core.Path.{_≡_, refl}
-use borrow.Author.Tests.{eqb-true, ne-eqb, ltb-false, le-ltb, not-false}
+use mathlib.Core.Path.{_≡_}
+use borrow.Author.Tests.{ne-eqb, ltb-false, le-ltb}
 use lib.Dec.{eqb}
 use lib.IntN.{ℤ}
 use lib.ListN.{length}
 use Rattle.laws.specs.Refusal.{either}
-use Rattle.laws.proofs.Refusal.{quiet}
+use Rattle.laws.proofs.Refusal.{neither, length-is, quiet}
 use Rattle.legal.specs.Models.{typesOver, modelsWrong, priorsOut}
 use Rattle.header.specs.Contracts.{HeaderReady}
 use Rattle.header.specs.Writing.{headerBits, lengthsWrong, bytesFor, placed, writeRows, writeRefusal, written, headerAfter}
 use Rattle.header.proofs.RoundTrip.{Writable}
 
-neither : (a b : Bool) → either a b ≡ false → (a ≡ false) × (b ≡ false)
-neither true true e = (e, e)
-neither true false e = (e, refl)
-neither false b e = (refl, e)
-
-same : (a b : ℕ) → not (eqb a b) ≡ false → a ≡ b
-same a b e = eqb-true a b (not-false (eqb a b) e)
-
 pub lengths-right : (a b c : ℕ) → lengthsWrong a b c ≡ false → (a ≡ 7) × (b ≡ 42) × (c ≡ 42)
 lengths-right a b c e =
     let p = neither (not (eqb a 7)) (either (not (eqb b 42)) (not (eqb c 42))) e in
     let q = neither (not (eqb b 42)) (not (eqb c 42)) (p .1) in
-    (same a 7 (p .0), same b 42 (q .0), same c 42 (q .1))
+    (length-is a 7 (p .0), length-is b 42 (q .0), length-is c 42 (q .1))
 
 pub lengths-known : (a b c : ℕ) → a ≡ 7 → b ≡ 42 → c ≡ 42 → lengthsWrong a b c ≡ false
 lengths-known a b c ea eb ec = rw (ea, eb, ec)

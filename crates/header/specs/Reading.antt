@@ -9,6 +9,12 @@ use Rattle.bits.specs.Bits.{bitAt}
 use Rattle.header.specs.Coefficient.{ReadNumber, coefficient}
 use Rattle.header.specs.Writing.{slotOf}
 
+-- the slots that a type carries, in the order of reading: 2, 3, for AFFINE 4, 5, then 0, 1
+abbrev pub slotsOf : ℕ → List ℕ
+slotsOf gmType =
+    choose (eqb gmType 0) []
+    (choose (eqb gmType 1) (0 ∷ 1 ∷ []) (choose (eqb gmType 2) (2 ∷ 3 ∷ 0 ∷ 1 ∷ []) (2 ∷ 3 ∷ 4 ∷ 5 ∷ 0 ∷ 1 ∷ [])))
+
 -- a type, six numbers, and how many bits were taken
 pub record ReadModel : Type 0 where
   pub gmType : ℕ

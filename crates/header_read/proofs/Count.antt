@@ -13,11 +13,11 @@ use Rattle.laws.specs.Refusal.{choose}
 use Rattle.legal.specs.Models.{priorsOut}
 use Rattle.grid.specs.Grid.{absBits}
 use Rattle.header.specs.Coefficient.{coefficientBits}
-use Rattle.header.specs.Reading.{modelsRead}
+use Rattle.header.specs.Reading.{slotsOf, modelsRead}
 use Rattle.header.specs.Writing.{slotOf, typeBits, pairBits, modelBits, referenceBits, referencesBits, headerBits}
 use Rattle.header.proofs.Coefficient.{at-most-its-bits}
 use Rattle.header.proofs.RoundTrip.{at-most-987-bits}
-use Rattle.header_read.specs.Count.{slotsOf, total, slotCount, modelCount, headerCount}
+use Rattle.header_read.specs.Count.{total, slotCount, modelCount, headerCount}
 use Rattle.header_read.proofs.Rewritten.{rewritten}
 use Rattle.header_read.proofs.Valid.{all-priors}
 

@@ -3,19 +3,12 @@
 -- Assumes nothing.
 use Prim.Native.Nat.{ℕ, _+_, _*_}
 use mathlib.Core.List.{List, [], _∷_}
-use lib.Dec.{eqb}
 use lib.IntN.{ℤ}
 use lib.ListN.{length, getD}
 use Rattle.laws.specs.Loops.{sum}
-use Rattle.laws.specs.Refusal.{choose}
 use Rattle.header.specs.Coefficient.{coefficientBits}
+use Rattle.header.specs.Reading.{slotsOf}
 use Rattle.header.specs.Writing.{slotOf, typeBits}
-
--- the slots that a type carries: 2, 3, for AFFINE 4, 5, then 0, 1
-abbrev pub slotsOf : ℕ → List ℕ
-slotsOf gmType =
-    choose (eqb gmType 0) []
-    (choose (eqb gmType 1) (0 ∷ 1 ∷ []) (choose (eqb gmType 2) (2 ∷ 3 ∷ 0 ∷ 1 ∷ []) (2 ∷ 3 ∷ 4 ∷ 5 ∷ 0 ∷ 1 ∷ [])))
 
 abbrev pub total : (ℕ → ℕ) → List ℕ → ℕ
 total f [] = 0

@@ -19,9 +19,9 @@ use Rattle.legal.specs.Models.{priorsOut}
 use Rattle.subexp.specs.Coefficient.{symbol, symbolBits}
 use Rattle.subexp.proofs.Coefficient.{symbol-all, twice-absBits-less-one-at-most}
 use Rattle.header.specs.Coefficient.{ReadNumber, place, coefficient}
-use Rattle.header.specs.Reading.{ReadModel, ReadModels, ReadPair, pairRead, typeRead, typeLength, translationRead, rotzoomRead, affineRead, modelRead, referenceRead, referencesRead, modelsRead}
+use Rattle.header.specs.Reading.{slotsOf, ReadModel, ReadModels, ReadPair, pairRead, typeRead, typeLength, translationRead, rotzoomRead, affineRead, modelRead, referenceRead, referencesRead, modelsRead}
 use Rattle.header.proofs.RoundTrip.{valid-prior}
-use Rattle.job_laws.specs.Count.{slotsOf, coefficientLength, coefficientsLength, typeBits, referenceLength, referencesLength}
+use Rattle.job_laws.specs.Count.{coefficientLength, coefficientsLength, typeBits, referenceLength, referencesLength}
 
 module _ (g : ℕ → ℕ) (flag : ℕ) (prior : List ℤ) where
   abbrev pairLength : ℕ → ℕ → ℕ → ℕ → ℕ

@@ -2,18 +2,10 @@
 -- Assumes nothing.
 use Prim.Native.Nat.{ℕ, zero, suc, _+_, _*_}
 use mathlib.Core.List.{List, [], _∷_}
-use lib.Dec.{eqb}
 use lib.IntN.{ℤ, pos}
 use lib.ListN.{getD}
-use Rattle.laws.specs.Refusal.{choose}
 use Rattle.header.specs.Coefficient.{ReadNumber, coefficient}
-use Rattle.header.specs.Reading.{typeRead, typeLength}
-
--- the slots that a type carries, in the order of reading: 2, 3, for AFFINE 4, 5, then 0, 1
-abbrev pub slotsOf : ℕ → List ℕ
-slotsOf gmType =
-    choose (eqb gmType 0) []
-    (choose (eqb gmType 1) (0 ∷ 1 ∷ []) (choose (eqb gmType 2) (2 ∷ 3 ∷ 0 ∷ 1 ∷ []) (2 ∷ 3 ∷ 4 ∷ 5 ∷ 0 ∷ 1 ∷ [])))
+use Rattle.header.specs.Reading.{slotsOf, typeRead, typeLength}
 
 module _ (g : ℕ → ℕ) (flag : ℕ) (prior : List ℤ) where
   -- the bits of the coefficient of a slot that is read at position p, of the model whose six priors begin at `first`

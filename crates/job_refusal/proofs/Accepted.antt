@@ -9,7 +9,7 @@ use borrow.Author.Tests.{ltb-false, eqb-true, eqb-false, not-false}
 use lib.Dec.{ltb, eqb}
 use lib.ListN.{length, getD}
 use Rattle.laws.specs.Refusal.{Row, row, judge, either}
-use Rattle.laws.proofs.Refusal.{quiet}
+use Rattle.laws.proofs.Refusal.{neither, length-is, quiet}
 use Rattle.search.specs.Search.{sampleCount}
 use Rattle.search.specs.Refusal as search
 use Rattle.search.proofs.Rows as search-rows
@@ -21,14 +21,6 @@ use Rattle.job_refusal.specs.declared.Settings.{Settings}
 use Rattle.job_refusal.specs.Task.{Task, Lent, Room, roomOf, searchTask, searchLent}
 use Rattle.job_refusal.specs.Rows.{wrongLengths, badCodes, noReference, tooLittle, rowsThen, early}
 use Rattle.job_refusal.specs.Ready.{Fits, Sound, Ready}
-
-pub neither : (a b : Bool) → either a b ≡ false → (a ≡ false) × (b ≡ false)
-neither true b e = absurd (let z : _≡_ {A = ℕ} 0 1 = cc in omega arith)
-neither false b e = (refl, e)
-
--- a length that row 2 lets pass
-length-is : (n m : ℕ) → not (eqb n m) ≡ false → n ≡ m
-length-is n m e = eqb-true n m (not-false (eqb n m) e)
 
 -- six numbers for each of the other types
 pub numbers-there : (w h input ref classes types models prior : ℕ) → wrongLengths w h input ref classes types models prior ≡ false → 6 * types ≤ models

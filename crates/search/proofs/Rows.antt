@@ -14,7 +14,7 @@ use borrow.Author.Tests.{ltb-true, ltb-false, eqb-true, not-false, lt-ltb}
 use Rattle.laws.specs.Refusal.{any, either, both}
 use Rattle.laws.specs.Buffer.{onto}
 use Rattle.laws.proofs.Buffer.{onto-front}
-use Rattle.laws.proofs.Refusal.{quiet}
+use Rattle.laws.proofs.Refusal.{neither, quiet}
 use Rattle.plane.specs.Plane.{halfPlane}
 use Rattle.plane.proofs.Halves.{length-halfPlane}
 use Rattle.search.specs.Search.{sampleCount}
@@ -43,16 +43,12 @@ module _ (p : ℕ → Bool) (l : List ℕ) (k : ℕ) where
   pub any-never : length l ≤ k → any p (drop k l) ≡ any p l → false ≡ any p l
   any-never h e = rw (drop-of-length-le l {i = k} h) at e
 
-either-false : (a b : Bool) → either a b ≡ false → (a ≡ false) × (b ≡ false)
-either-false true b e = absurd (let z : _≡_ {A = ℕ} 0 1 = cc in omega arith)
-either-false false b e = (refl, e)
-
 both-false : (a b : Bool) → both a b ≡ false → a ≡ true → b ≡ false
 both-false a b e t = rw t at e
 
 -- sides that row 1 lets pass
 pub small : (w h : ℕ) → tooLarge w h ≡ false → Small w h
-small w h e = record { narrow = ltb-false 1024 w (either-false (ltb 1024 w) (ltb 1024 h) e .0); low = ltb-false 1024 h (either-false (ltb 1024 w) (ltb 1024 h) e .1) }
+small w h e = record { narrow = ltb-false 1024 w (neither (ltb 1024 w) (ltb 1024 h) e .0); low = ltb-false 1024 h (neither (ltb 1024 w) (ltb 1024 h) e .1) }
 
 -- a number below a product
 pub factor-pos : (a b k : ℕ) → k < a * b → 0 < b
@@ -62,8 +58,8 @@ factor-pos a (suc b) k h = omega arith
 -- no element passes
 any-none : (p : ℕ → Bool) (l : List ℕ) → any p l ≡ false → p 0 ≡ false → (k : ℕ) → p (getD l k 0) ≡ false
 any-none p [] e z k = z
-any-none p (x ∷ l) e z zero = either-false (p x) (any p l) e .0
-any-none p (x ∷ l) e z (suc k) = any-none p l (either-false (p x) (any p l) e .1) z k
+any-none p (x ∷ l) e z zero = neither (p x) (any p l) e .0
+any-none p (x ∷ l) e z (suc k) = any-none p l (neither (p x) (any p l) e .1) z k
 
 -- an accepted call has small sides
 pub small-sides : (w h input ref : ℕ) (classes : List ℕ) (input-half ref-half words : ℕ) →
@@ -79,11 +75,11 @@ pub ready : (input ref : List ℕ) (w h : ℕ) (classes input-half ref-half word
 unfolding verdict badClass
 ready input ref w h classes input-half ref-half words e s =
     let q = quiet (table w h (length input) (length ref) classes (length input-half) (length ref-half) (length words)) tt e in
-    let large = either-false _ _ (q .0) in
-    let two = either-false _ _ (q .1 .0) in
-    let three = either-false _ _ (two .1) in
-    let short = either-false _ _ (both-false _ _ (q .1 .1 .1 .0) (lt-is (sampleCount w h) s)) in
-    let words-short = either-false _ _ (short .1) in
+    let large = neither _ _ (q .0) in
+    let two = neither _ _ (q .1 .0) in
+    let three = neither _ _ (two .1) in
+    let short = neither _ _ (both-false _ _ (q .1 .1 .1 .0) (lt-is (sampleCount w h) s)) in
+    let words-short = neither _ _ (short .1) in
     record {
       narrow = ltb-false 1024 w (large .0);
       low = ltb-false 1024 h (large .1);
