@@ -78,6 +78,12 @@ module _ (j : Task) (s : Sound j) (fits : refusalOf (fitIn j) ≡ 0) where
     room-enough : bytesFor 0 (length (bits j)) ≤ length old
     room-enough = omega (arith, at-most-124-bytes flag (types j) (models j) (j .prior))
 
+    pub header-back : modelsRead (placed 0 (bits j) old) 0 flag (j .prior) ≡ record { types = types j; params = models j; bits = length (bits j) }
+    header-back = round-trip (types j) (models j) flag (j .prior) writable 0 old room-enough
+
+    pub bits-end : length (bits j) ≤ 8 * length (placed 0 (bits j) old)
+    bits-end = rw (length-putBits old 0 _) (omega (arith, room-enough))
+
     pub write-accepted : writeRefusal (types j) (models j) flag (j .prior) (length old) ≡ 0
     unfolding writeRefusal
     write-accepted =
@@ -91,9 +97,3 @@ module _ (j : Task) (s : Sound j) (fits : refusalOf (fitIn j) ≡ 0) where
     pub bits-written : written (types j) (models j) flag (j .prior) (length old) ≡ record { refusal = 0; bits = length (bits j) }
     unfolding written
     bits-written = rw write-accepted
-
-    pub header-back : modelsRead (placed 0 (bits j) old) 0 flag (j .prior) ≡ record { types = types j; params = models j; bits = length (bits j) }
-    header-back = round-trip (types j) (models j) flag (j .prior) writable 0 old room-enough
-
-    pub bits-end : length (bits j) ≤ 8 * length (placed 0 (bits j) old)
-    bits-end = rw (length-putBits old 0 _) (omega (arith, room-enough))
