@@ -1,0 +1,227 @@
+//! Inputs for every kind: planes, words, numbers, models and priors.
+
+use crate::random::Random;
+use oracle::IDENTITY;
+
+pub const MOST_SIDE: usize = 1024;
+pub const MOST_SAMPLES: usize = 4096;
+pub const STILL: u32 = 223 << 11 | 223 << 2;
+
+/// Sides of a plane: most hold a few blocks, some none, and a few are long.
+pub fn sides(random: &mut Random) -> (usize, usize) {
+    match random.below(1000) {
+        0 => (MOST_SIDE - random.below(40), MOST_SIDE - random.below(40)),
+        1..=4 => (random.below(MOST_SIDE + 1), random.below(160)),
+        5..=8 => (random.below(160), random.below(MOST_SIDE + 1)),
+        9..=90 => (random.below(24), random.below(200)),
+        91..=170 => (random.below(200), random.below(24)),
+        171..=400 => (64 + random.below(192), 64 + random.below(192)),
+        _ => (16 + random.below(64), 16 + random.below(64)),
+    }
+}
+
+/// Values over places that follow on for ever, and how the input's place follows from the reference's.
+#[derive(Debug)]
+pub struct Scene {
+    seed: u64,
+    texture: Texture,
+    motion: Motion,
+}
+
+#[derive(Clone, Copy, Debug)]
+enum Texture {
+    /// Noise with some bits kept, some set, and a period.
+    Noise { kept: u16, set: u16, period: i64 },
+    /// Waves of four lengths.
+    Waves { height: f64 },
+}
+
+#[derive(Clone, Copy, Debug)]
+enum Motion {
+    /// Two scenes that have nothing to do with each other.
+    Unrelated,
+    /// Whole pels; the edges repeat or the scene goes on.
+    Moved { dy: i64, dx: i64, edges: bool },
+    /// Six numbers, x first.
+    Affine { m: [f64; 6] },
+}
+
+impl Scene {
+    pub fn random(random: &mut Random) -> Self {
+        let noise = |kept, set, period| Texture::Noise { kept, set, period };
+        let texture = match random.below(12) {
+            0 => noise(0xffff, 0, i64::MAX),
+            1 => noise(1, 0, i64::MAX),
+            2 => noise(0, random.bits() as u16, i64::MAX),
+            3 => noise(0x8000, 0x7fff, i64::MAX),
+            4 => noise(0x03ff, 0, random.between(1, 20)),
+            5 => noise(3, 500, random.between(1, 9)),
+            6..=8 => noise(0x00ff, 0, i64::MAX),
+            _ => Texture::Waves { height: random.pick(&[3.0, 60.0, 900.0, 16_000.0]) },
+        };
+        let motion = match random.below(6) {
+            0 => Motion::Unrelated,
+            1 => Motion::Moved { dy: random.between(-30, 30), dx: random.between(-30, 30), edges: false },
+            2 => Motion::Moved { dy: random.between(-30, 30), dx: random.between(-30, 30), edges: true },
+            3 => Motion::Moved { dy: random.between(-4, 4), dx: random.between(-4, 4), edges: true },
+            _ => {
+                let mut near = |middle: f64, by: f64| middle + by * random.between(-1000, 1000) as f64 / 1000.0;
+                let m =
+                    [near(0.0, 9.0), near(0.0, 9.0), near(1.0, 0.1), near(0.0, 0.1), near(0.0, 0.1), near(1.0, 0.1)];
+                Motion::Affine { m }
+            }
+        };
+        Self { seed: random.bits(), texture, motion }
+    }
+
+    fn noise(&self, y: i64, x: i64) -> u16 {
+        let mut at = Random::new(self.seed ^ (y as u64) << 32 ^ x as u32 as u64);
+        at.bits() as u16
+    }
+
+    fn value(&self, y: f64, x: f64) -> u16 {
+        match self.texture {
+            Texture::Noise { kept, set, period } => {
+                let whole = |place: f64| (place.round() as i64).rem_euclid(period);
+                self.noise(whole(y), whole(x)) & kept | set
+            }
+            Texture::Waves { height } => {
+                let start = (self.seed % 1000) as f64;
+                let waves = (x * 0.21 + start).sin()
+                    + (y * 0.17).sin()
+                    + (0.11 * x + 0.13 * y).sin()
+                    + (0.31 * x - 0.23 * y).cos();
+                (32_000.0 + height * waves / 2.0) as u16
+            }
+        }
+    }
+
+    /// The input and the reference.
+    pub fn planes(&self, width: usize, height: usize) -> (Vec<u16>, Vec<u16>) {
+        let places = (0..width * height).map(|i| ((i / width) as f64, (i % width) as f64));
+        let reference = places.clone().map(|(y, x)| self.value(y, x)).collect();
+        let held = |place: f64, side: usize| place.clamp(0.0, side as f64 - 1.0);
+        let input = places.map(|(y, x)| match self.motion {
+            Motion::Unrelated => self.value(y + 5000.0, x - 7000.0),
+            Motion::Moved { dy, dx, edges: false } => self.value(y + dy as f64, x + dx as f64),
+            Motion::Moved { dy, dx, edges: true } => {
+                self.value(held(y + dy as f64, height), held(x + dx as f64, width))
+            }
+            Motion::Affine { m } => self.value(m[1] + m[4] * x + m[5] * y, m[0] + m[2] * x + m[3] * y),
+        });
+        (input.collect(), reference)
+    }
+}
+
+/// A class for each sample.
+pub fn classes(random: &mut Random, count: usize) -> Vec<u8> {
+    (0..count).map(|_| random.below(4) as u8).collect()
+}
+
+/// Up to 4,096 words of any field value, with fields that are all alike, near each other or free.
+pub fn words(random: &mut Random) -> Vec<u32> {
+    let count = match random.below(24) {
+        0 => 0,
+        1..=8 => random.below(9),
+        9..=18 => random.below(65),
+        19..=22 => random.below(700),
+        _ => random.below(MOST_SAMPLES + 1),
+    };
+    let (mut mask, mut fixed) = (3, 0);
+    for (bits, shift) in [(6, 26), (6, 20), (9, 11), (9, 2)] {
+        let all = (1u32 << bits) - 1;
+        let (kept, set) = match random.below(6) {
+            0 => (0, random.bits() as u32 & all),
+            1 => (1, random.bits() as u32 & all & !1),
+            2 if bits == 9 => (15, 216),
+            3 => (7, random.bits() as u32 & all & !7),
+            _ => (all, 0),
+        };
+        mask |= kept << shift;
+        fixed |= set << shift;
+    }
+    let line = random.one_in(8);
+    let word = |_| {
+        let word = random.bits() as u32 & mask | fixed;
+        // blocks on a diagonal: no fit of six numbers
+        if line { word & !(63 << 20) | (word >> 26) << 20 } else { word }
+    };
+    (0..count).map(word).collect()
+}
+
+/// Words that rise by place, in range.
+pub fn rising_words(random: &mut Random) -> Vec<u32> {
+    let most = random.pick(&[1, 3, 130, 130, 300, 300, MOST_SAMPLES]);
+    let chance = random.pick(&[1, 2, 30]);
+    let places = (0..MOST_SAMPLES as u32).filter(|_| random.one_in(chance)).collect::<Vec<_>>();
+    let word = |place| {
+        let motion = |random: &mut Random| random.below(447) as u32;
+        place << 20 | motion(random) << 11 | motion(random) << 2 | random.below(4) as u32
+    };
+    places.into_iter().take(most).map(word).collect()
+}
+
+/// A binary64: about one, large, any bits, or special.
+pub fn float(random: &mut Random) -> f64 {
+    let special =
+        [f64::NAN, f64::INFINITY, f64::NEG_INFINITY, 0.0, -0.0, 1e300, -32768.0, 32767.99999, f64::MIN_POSITIVE];
+    let small = random.between(-65_536 * 4, 65_536 * 4) as f64;
+    match random.below(6) {
+        0 => f64::from_bits(random.bits()),
+        1 => random.pick(&special),
+        // halves of a step, so that rounding has ties
+        2 => small / 131_072.0,
+        3 => small * 16.0,
+        4 => 1.0 + small / 65_536.0 / 64.0,
+        _ => small / 65_536.0,
+    }
+}
+
+/// Any i32, with a share of small ones, ends, and halves of the grid's steps.
+pub fn number(random: &mut Random) -> i32 {
+    let centre = random.pick(&[0, 0, 65_536]);
+    let ordinal = match random.below(4) {
+        0 => random.between(-3, 3),
+        1 => random.pick(&[-4096, -512, -256, 256, 512, 4096]) + random.between(-2, 2),
+        _ => random.between(-4200, 4200),
+    };
+    match random.below(6) {
+        0 => random.bits() as i32,
+        1 => random.pick(&[i32::MIN, i32::MIN + 1, i32::MAX - 1, i32::MAX, 0, 1, -1, 65_535, 65_536, 65_537]),
+        2 => centre + random.between(-20, 20) as i32,
+        _ => {
+            let step = random.pick(&[2, 1024, 8192, 16_384]);
+            (ordinal * step + step / 2 * random.between(0, 1) + random.between(-1, 1)) as i32 + centre
+        }
+    }
+}
+
+/// A model of a type as a header stores it: carried slots on the grid, the others as the type has them.
+pub fn stored_model(random: &mut Random, kind: u8, high: bool) -> [i32; 6] {
+    let carried: &[usize] = [&[][..], &[0, 1], &[0, 1, 2, 3], &[0, 1, 2, 3, 4, 5]][usize::from(kind)];
+    let mut model = IDENTITY;
+    for &slot in carried {
+        model[slot] = oracle::quantize_global_param(kind, high, slot, number(random));
+    }
+    if kind == 2 {
+        (model[4], model[5]) = (-model[3], model[2]);
+    }
+    model
+}
+
+/// A prior in range, about the model, at an end, at the identity or anywhere.
+pub fn prior(random: &mut Random, model: &[i32; 6]) -> [i32; 6] {
+    let far = random.below(5);
+    std::array::from_fn(|slot| {
+        let reach = if slot < 2 { 4_194_304 } else { 8_192 };
+        let (low, high) = (IDENTITY[slot] - reach, IDENTITY[slot] + reach);
+        let number = match far {
+            0 => IDENTITY[slot],
+            1 => random.pick(&[low, low + 1, high - 1, high]),
+            2 => model[slot] + random.between(-9, 9) as i32,
+            3 => model[slot] + random.between(-70_000, 70_000) as i32,
+            _ => random.between(i64::from(low), i64::from(high)) as i32,
+        };
+        number.clamp(low, high)
+    })
+}

@@ -1,0 +1,477 @@
+//! The kinds of input, and how each is compared. The library's answer stands first in every comparison.
+
+use crate::inputs::{self, Scene, float, number, prior, sides, stored_model};
+use crate::random::Random;
+use belt::{Buffers, Fitted, Frame, Lent, Refusal, Report, Settings, Task};
+use oracle::{Models, blocks};
+use std::fmt::{Debug, Write};
+
+/// An input that is being made, in words for the one that shows a difference.
+pub struct Case {
+    pub random: Random,
+    pub input: String,
+    /// Whether the library accepted it.
+    pub accepted: bool,
+}
+
+impl Case {
+    fn note(&mut self, name: &str, value: impl Debug) {
+        writeln!(self.input, "{name}: {value:?}").expect("a string takes text");
+    }
+}
+
+pub struct Kind {
+    pub name: &'static str,
+    pub share: usize,
+    pub compare: fn(&mut Case) -> Result<(), String>,
+}
+
+pub const KINDS: [Kind; 12] = [
+    Kind { name: "search", share: 4, compare: search },
+    Kind { name: "fit translation", share: 4, compare: |case| fit(case, 1) },
+    Kind { name: "fit rotation-zoom", share: 4, compare: |case| fit(case, 2) },
+    Kind { name: "fit affine", share: 4, compare: |case| fit(case, 3) },
+    Kind { name: "quantized model", share: 6, compare: quantized_model },
+    Kind { name: "score", share: 4, compare: score },
+    Kind { name: "quantize_global_param", share: 8, compare: grid },
+    Kind { name: "header written", share: 8, compare: header_written },
+    Kind { name: "header read", share: 6, compare: header_read },
+    Kind { name: "header read, damaged", share: 8, compare: header_damaged },
+    Kind { name: "job", share: 6, compare: job },
+    Kind { name: "blocks, by document 01", share: 4, compare: stored_frame },
+];
+
+fn same<T: PartialEq + Debug>(what: &str, library: T, rust: T) -> Result<(), String> {
+    if library == rust {
+        return Ok(());
+    }
+    Err(format!("{what}, of the library: {library:?}\n{what}, of the Rust: {rust:?}"))
+}
+
+/// The bits of a number, all not-a-numbers being equal.
+fn bits(value: f64) -> u64 {
+    oracle::canonical(value).to_bits()
+}
+
+fn samples(words: &[u32]) -> Vec<[f64; 4]> {
+    words.iter().map(|&word| oracle::sample_of(word)).collect()
+}
+
+fn flat(models: &Models) -> [i32; 42] {
+    std::array::from_fn(|i| models[i / 6][i % 6])
+}
+
+/// A job's buffers full of a pattern: just long enough, or longer.
+fn buffers(random: &mut Random, width: usize, height: usize) -> Buffers {
+    let needed = Buffers::new(width, height);
+    let mut behind = || if random.one_in(2) { 0 } else { random.below(40) };
+    Buffers {
+        input_half: vec![0xA55A; needed.input_half.len() + behind()],
+        ref_half: vec![0x5AA5; needed.ref_half.len() + behind()],
+        words: vec![0xA5A5_5A5A; needed.words.len() + behind()],
+        blocks: vec![0xA5; needed.blocks.len() + behind()],
+        header: vec![0x5A; needed.header.len() + behind()],
+    }
+}
+
+/// A frame pair with a class for each sample.
+struct Pair {
+    width: usize,
+    height: usize,
+    input: Vec<u16>,
+    reference: Vec<u16>,
+    classes: Vec<u8>,
+}
+
+fn pair(case: &mut Case) -> Pair {
+    let (width, height) = sides(&mut case.random);
+    let scene = Scene::random(&mut case.random);
+    let (input, reference) = scene.planes(width, height);
+    let classes = inputs::classes(&mut case.random, oracle::sample_count(width, height));
+    case.note("sides", (width, height));
+    case.note("scene", &scene);
+    if width * height <= 1024 {
+        case.note("input", &input);
+        case.note("reference", &reference);
+    }
+    case.note("classes", &classes);
+    Pair { width, height, input, reference, classes }
+}
+
+/// What the search of a pair leaves in the buffers.
+fn searched(pair: &Pair, left: &mut Buffers) -> Vec<u32> {
+    let Pair { width, height, input, reference, classes } = pair;
+    let words = oracle::sample_words(input, reference, *width, *height, classes);
+    if !words.is_empty() {
+        let halves = [input, reference].map(|plane| oracle::half_plane(plane, *width, *height));
+        left.input_half[..halves[0].len()].copy_from_slice(&halves[0]);
+        left.ref_half[..halves[1].len()].copy_from_slice(&halves[1]);
+        left.words[..words.len()].copy_from_slice(&words);
+    }
+    words
+}
+
+fn search(case: &mut Case) -> Result<(), String> {
+    let pair = pair(case);
+    let mut ours = buffers(&mut case.random, pair.width, pair.height);
+    let mut theirs = ours.clone();
+    let Lent { input_half, ref_half, words, .. } = ours.lend();
+    let (width, height) = (pair.width, pair.height);
+    let found = belt::collect_motion_samples(
+        &pair.input,
+        &pair.reference,
+        width,
+        height,
+        &pair.classes,
+        input_half,
+        ref_half,
+        words,
+    );
+    let words = searched(&pair, &mut theirs);
+    same("samples", found, Ok(words.len()))?;
+    same("half plane of the input", ours.input_half, theirs.input_half)?;
+    same("half plane of the reference", ours.ref_half, theirs.ref_half)?;
+    same("words", ours.words, theirs.words)
+}
+
+fn library_fit(kind: u8, words: &[u32]) -> Result<Fitted, Refusal> {
+    match kind {
+        1 => belt::fit_translation(words),
+        2 => belt::fit_rotzoom(words),
+        _ => belt::fit_affine(words),
+    }
+}
+
+/// The bits of the numbers that a model of a type carries, zeros after them.
+fn carried(kind: u8, numbers: [f64; 6]) -> [u64; 6] {
+    let count = 2 * usize::from(kind);
+    std::array::from_fn(|i| if i < count { bits(numbers[i]) } else { 0 })
+}
+
+fn fit(case: &mut Case, kind: u8) -> Result<(), String> {
+    let words = inputs::words(&mut case.random);
+    case.note("words", &words);
+    let ours = library_fit(kind, &words).map(|fitted| (fitted.kind, fitted.numbers.map(bits)));
+    case.accepted = ours.is_ok();
+    let theirs = oracle::fit(kind, &samples(&words)).map(|numbers| (kind, carried(kind, numbers)));
+    same("bits of the numbers", ours, theirs.ok_or(Refusal::Singular))
+}
+
+fn quantized_model(case: &mut Case) -> Result<(), String> {
+    let random = &mut case.random;
+    let (kind, flag) = (1 + random.below(3) as u8, random.below(2) as u8);
+    let words = inputs::words(random);
+    let mut numbers: [f64; 6] = std::array::from_fn(|_| float(random));
+    let own = random.one_in(2);
+    if let (true, Some(fitted)) = (own, oracle::fit(kind, &samples(&words))) {
+        numbers = fitted;
+    }
+    case.note("type, flag", (kind, flag));
+    case.note("numbers", numbers);
+    case.note("words", &words);
+    let ours = belt::quantize_model(&Fitted { kind, numbers }, flag, &words);
+    if kind == 2 {
+        (numbers[4], numbers[5]) = (-numbers[3], numbers[2]);
+    }
+    same("model", ours, Ok(oracle::quantize_model(&numbers, kind, flag == 1, &samples(&words))))
+}
+
+fn score(case: &mut Case) -> Result<(), String> {
+    let random = &mut case.random;
+    let words = inputs::words(random);
+    let near = random.one_in(2);
+    let params: [i32; 6] = std::array::from_fn(|slot| match near {
+        true => oracle::IDENTITY[slot] + random.between(-9000, 9000) as i32,
+        false => number(random),
+    });
+    case.note("model", params);
+    case.note("words", &words);
+    let ours = belt::mean_sq_residual(&params, &words).map(bits);
+    same("bits of the score", ours, Ok(bits(oracle::score(&params, &samples(&words)))))
+}
+
+fn grid(case: &mut Case) -> Result<(), String> {
+    let random = &mut case.random;
+    let (kind, flag, slot) = (random.below(4) as u8, random.below(2) as u8, random.below(6) as u8);
+    let value = number(random);
+    case.note("type, flag, slot, value", (kind, flag, slot, value));
+    let ours = belt::quantize_global_param(kind, flag, slot, value);
+    same("number", ours, Ok(oracle::quantize_global_param(kind, flag == 1, usize::from(slot), value)))
+}
+
+/// Seven types and models as stored, the flag and a prior.
+struct Header {
+    types: [u8; 7],
+    params: Models,
+    flag: u8,
+    prior: Models,
+}
+
+fn header(case: &mut Case) -> Header {
+    let random = &mut case.random;
+    let flag = random.below(2) as u8;
+    let few = random.one_in(3);
+    let kind = |random: &mut Random| if few && !random.one_in(4) { 0 } else { random.below(4) as u8 };
+    let types: [u8; 7] = std::array::from_fn(|_| kind(random));
+    let params = types.map(|kind| stored_model(random, kind, flag == 1));
+    let prior = params.map(|model| prior(random, &model));
+    case.note("flag", flag);
+    case.note("types", types);
+    case.note("models", params);
+    case.note("prior", prior);
+    Header { types, params, flag, prior }
+}
+
+impl Header {
+    fn write(&self, room: &mut [u8]) -> Result<usize, Refusal> {
+        belt::encode_inter_global_motion(&self.types, &flat(&self.params), self.flag, &flat(&self.prior), room)
+    }
+
+    /// The Rust's bytes and bits.
+    fn written(&self) -> (Vec<u8>, usize) {
+        oracle::write_header(&self.types, &self.params, self.flag == 1, &self.prior)
+    }
+}
+
+fn header_written(case: &mut Case) -> Result<(), String> {
+    let header = header(case);
+    let (bytes, count) = header.written();
+    let room = match case.random.below(4) {
+        0 => case.random.below(bytes.len()),
+        1 => bytes.len(),
+        2 => bytes.len() + case.random.below(8),
+        _ => 124 + case.random.below(8),
+    };
+    case.note("room", room);
+    let before = case.random.bytes(room);
+    let mut after = before.clone();
+    let ours = header.write(&mut after);
+    case.accepted = ours.is_ok();
+    if room < bytes.len() {
+        same("bits", ours, Err(Refusal::TooShort))?;
+        return same("bytes", after, before);
+    }
+    same("bits", ours, Ok(count))?;
+    same("bytes", after, [&bytes, &before[bytes.len()..]].concat())
+}
+
+/// Both readings of some bytes from a bit on.
+fn read(case: &mut Case, bytes: &[u8], at: usize, flag: u8, prior: &Models) -> Result<(), String> {
+    case.note("bytes", bytes);
+    case.note("from bit", at);
+    let ours = belt::read_global_motion_params(bytes, at, flag, &flat(prior));
+    case.accepted = ours.is_ok();
+    let ours = ours.map(|read| (read.types, read.params, read.bits));
+    let theirs = oracle::read_header(bytes, at, flag == 1, prior);
+    let theirs = theirs.map(|(types, params, bits)| (types, flat(&params), bits)).ok_or(Refusal::EndsFirst);
+    same("types, models and bits", ours, theirs)
+}
+
+/// The Rust's header from a bit on, with other bits before and behind it.
+fn header_read(case: &mut Case) -> Result<(), String> {
+    let header = header(case);
+    let (bytes, count) = header.written();
+    let at = if case.random.one_in(3) { 0 } else { case.random.below(70) };
+    let room = (at + count).div_ceil(8) + case.random.below(4);
+    let mut all = case.random.bytes(room);
+    for i in 0..count {
+        let bit = bytes[i / 8] >> (7 - i % 8) & 1;
+        let (byte, shift) = ((at + i) / 8, 7 - (at + i) % 8);
+        all[byte] = all[byte] & !(1 << shift) | bit << shift;
+    }
+    read(case, &all, at, header.flag, &header.prior)?;
+    let back = belt::read_global_motion_params(&all, at, header.flag, &flat(&header.prior));
+    let back = back.map(|read| (read.types, read.params, read.bits));
+    same("what was written", back, Ok((header.types, flat(&header.params), count)))
+}
+
+/// A header that is cut, has bits flipped, is read with another flag or prior, or is no header at all.
+fn header_damaged(case: &mut Case) -> Result<(), String> {
+    let header = header(case);
+    let (mut bytes, _) = header.written();
+    let (mut at, mut flag, mut prior) = (0, header.flag, header.prior);
+    let random = &mut case.random;
+    match random.below(6) {
+        0 => bytes.truncate(random.below(bytes.len())),
+        1 | 2 => {
+            for _ in 0..1 + random.below(4) {
+                let bit = random.below(8 * bytes.len());
+                bytes[bit / 8] ^= 1 << (bit % 8);
+            }
+            if random.one_in(3) {
+                bytes.extend(random.bytes(130));
+            }
+        }
+        3 => {
+            let count = random.pick(&[0, 1, 3, 30, 123, 124, 140]);
+            bytes = random.bytes(count);
+        }
+        4 => {
+            bytes.fill(0xff);
+            bytes.resize(random.below(140), 0xff);
+        }
+        _ => {
+            flag = 1 - flag;
+            let any = inputs::prior(random, &oracle::IDENTITY);
+            prior[random.below(7)] = any;
+            bytes.extend(random.bytes(9));
+        }
+    }
+    if random.one_in(3) {
+        at = random.below(8 * bytes.len() + 20);
+    }
+    if random.one_in(100) {
+        at = usize::MAX - random.below(70);
+    }
+    case.note("damaged: flag", flag);
+    case.note("damaged: prior", prior);
+    read(case, &bytes, at, flag, &prior)
+}
+
+/// Slots 0 and 1 of a translation exchanged: the row first.
+fn row_first(kind: u8, mut model: [i32; 6]) -> [i32; 6] {
+    if kind == 1 {
+        model.swap(0, 1);
+    }
+    model
+}
+
+/// The composition of the Rust's answers: what a job reports and leaves.
+fn job_of_the_rust(pair: &Pair, settings: Settings, header: &Header, left: &mut Buffers) -> Result<Report, Refusal> {
+    let Settings { frame, gm_type, reference, flag } = settings;
+    let words = searched(pair, left);
+    let samples = samples(&words);
+    let fitted = oracle::fit(gm_type, &samples).ok_or(Refusal::Singular)?;
+    let model = oracle::quantize_model(&fitted, gm_type, flag == 1, &samples);
+    let score = oracle::score(&model, &samples);
+    let place = usize::from(reference) - 1;
+    let mut full = Header { flag, ..*header };
+    full.types[place] = gm_type;
+    full.params[place] = row_first(gm_type, model);
+    let (bytes, bits) = full.written();
+    left.header[..bytes.len()].copy_from_slice(&bytes);
+    let stored = blocks::write(frame, &words);
+    left.blocks[..stored.len()].copy_from_slice(&stored);
+    Ok(Report { types: full.types, models: flat(&full.params), score, bits, samples: words.len() })
+}
+
+fn job(case: &mut Case) -> Result<(), String> {
+    let pair = pair(case);
+    let header = header(case);
+    let random = &mut case.random;
+    let settings = Settings {
+        frame: random.bits() as u16,
+        gm_type: 1 + random.below(3) as u8,
+        reference: 1 + random.below(7) as u8,
+        flag: header.flag,
+    };
+    let mut ours = buffers(random, pair.width, pair.height);
+    let mut theirs = ours.clone();
+    case.note("settings", settings);
+    let place = usize::from(settings.reference) - 1;
+    let others = |i: &usize| *i != place;
+    let types: Vec<u8> = (0..7).filter(others).map(|i| header.types[i]).collect();
+    let models: Vec<i32> = (0..7).filter(others).flat_map(|i| header.params[i]).collect();
+    let task = Task {
+        input: &pair.input,
+        reference: &pair.reference,
+        width: pair.width,
+        height: pair.height,
+        settings,
+        classes: &pair.classes,
+        types: &types,
+        models: &models,
+        prior: &flat(&header.prior),
+    };
+    let report = belt::job(&task, &mut ours.lend());
+    case.accepted = report.is_ok();
+    let parts = |report: Report| (report.types, report.models, bits(report.score), report.bits, report.samples);
+    let rust = job_of_the_rust(&pair, settings, &header, &mut theirs);
+    same("types, models, bits of the score, header bits, samples", report.map(parts), rust.map(parts))?;
+    same("half plane of the input", ours.input_half, theirs.input_half)?;
+    same("half plane of the reference", ours.ref_half, theirs.ref_half)?;
+    same("words", ours.words, theirs.words)?;
+    same("blocks", ours.blocks, theirs.blocks)?;
+    same("header", ours.header, theirs.header)
+}
+
+/// A frame's words, some of them not to be stored; its blocks, some damaged, read back, judged and listed.
+fn stored_frame(case: &mut Case) -> Result<(), String> {
+    let random = &mut case.random;
+    let mut words = inputs::rising_words(random);
+    let frame = random.bits() as u16;
+    if random.one_in(6) && words.len() > 1 {
+        let (i, j) = (random.below(words.len()), random.below(words.len()));
+        match random.below(3) {
+            0 => words.swap(i, j),
+            1 => words[i] = words[j],
+            _ => words[i] = random.bits() as u32,
+        }
+    }
+    if random.one_in(40) {
+        words.resize(inputs::MOST_SAMPLES + 1, inputs::STILL);
+    }
+    let needed = 512 * words.len().div_ceil(125);
+    let room = if random.one_in(8) { random.below(needed + 1) } else { needed + random.below(700) };
+    let before = random.bytes(room);
+    case.note("frame", frame);
+    case.note("words", &words);
+    case.note("room", room);
+    let mut after = before.clone();
+    let ours = belt::write_frame(frame, &words, &mut after);
+    case.accepted = ours.is_ok();
+    let row = blocks::store_refusal(&words, room);
+    if row != 0 {
+        same("blocks", ours, Err(Refusal::of_number(row).expect("a row")))?;
+        return same("bytes", after, before);
+    }
+    same("blocks", ours, Ok(needed / 512))?;
+    let stored = blocks::write(frame, &words);
+    same("bytes", &after, &[&stored, &before[needed..]].concat())?;
+    frame_read(case, after)
+}
+
+fn frame_read(case: &mut Case, mut bytes: Vec<u8>) -> Result<(), String> {
+    let random = &mut case.random;
+    if random.one_in(3) && !bytes.is_empty() {
+        for _ in 0..1 + random.below(2) {
+            let whole = 512 * (bytes.len() / 512).max(1);
+            let at = random.below(whole.min(bytes.len()));
+            // the heads and the first words of blocks more often than the rest
+            let at = if random.one_in(2) { at } else { at / 512 * 512 + random.below(16).min(bytes.len() - 1) };
+            let at = at.min(bytes.len() - 1);
+            bytes[at] ^= 1 << random.below(8);
+            if random.one_in(2) && at / 512 * 512 + 512 <= bytes.len() {
+                blocks::mend(&mut bytes, at);
+            }
+        }
+    }
+    if random.one_in(10) {
+        bytes.truncate(random.below(bytes.len() + 1));
+    }
+    let room = if random.one_in(5) { random.pick(&[0, 1, 125, 126, 300]) } else { 4096 + random.below(5) };
+    case.note("room for words", room);
+    case.note("bytes to read", &bytes);
+    let before = vec![0xA5A5_5A5Au32; room];
+    let mut words = before.clone();
+    let ours = belt::read_frame(&bytes, &mut words);
+    case.accepted = ours.is_ok();
+    let mut left = before;
+    let theirs = match blocks::read(&bytes, room) {
+        Err(row) => Err(Refusal::of_number(row).expect("a row")),
+        Ok((number, read)) => {
+            left[..read.len()].copy_from_slice(&read);
+            Ok(Frame { number, samples: read.len() })
+        }
+    };
+    same("frame", ours, theirs)?;
+    same("words", words, left)?;
+    for block in bytes.chunks(512) {
+        let ours = belt::judge_block(block).map(|block| block.count);
+        let theirs = blocks::judge_alone(block).map(|words| words.len());
+        same("count of a block", ours, theirs.map_err(|row| Refusal::of_number(row).expect("a row")))?;
+        let mut text = [0xA5; belt::TEXT_BYTES];
+        same("text of a block", belt::list_block(block, &mut text).to_owned(), blocks::text(block))?;
+    }
+    Ok(())
+}
