@@ -120,6 +120,9 @@ pub fn classes(random: &mut Random, count: usize) -> Vec<u8> {
 
 /// Up to 4,096 words of any field value, with fields that are all alike, near each other or free.
 pub fn words(random: &mut Random) -> Vec<u32> {
+    if random.one_in(12) {
+        return words_of_a_tie(random);
+    }
     let count = match random.below(24) {
         0 => 0,
         1..=8 => random.below(9),
@@ -147,6 +150,21 @@ pub fn words(random: &mut Random) -> Vec<u32> {
         if line { word & !(63 << 20) | (word >> 26) << 20 } else { word }
     };
     (0..count).map(word).collect()
+}
+
+/// Words whose sums of x·x and x·y are equal, so that an affine fit has two pivots of one magnitude to choose from:
+/// a block left of the diagonal, one right of it, as often as makes up for it, and blocks on the diagonal.
+fn words_of_a_tie(random: &mut Random) -> Vec<u32> {
+    let (left, right) = (random.below(6), 1 + random.below(6));
+    let weight = |column: usize| 32 * column + 15;
+    let mut places = vec![(left + 1, left); weight(right)];
+    places.extend(vec![(right - 1, right); weight(left)]);
+    for _ in 0..random.below(40) {
+        let place = random.below(64);
+        places.push((place, place));
+    }
+    let word = |(row, column): (usize, usize)| (row << 26 | column << 20) as u32 | random.bits() as u32 & 0x000f_ffff;
+    places.into_iter().map(word).collect()
 }
 
 /// Words that rise by place, in range.
