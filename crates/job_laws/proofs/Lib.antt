@@ -6,4 +6,5 @@ pub mod Seven
 pub mod Count
 pub mod Written
 pub mod Refused
+pub mod Six
 pub mod Demand3
