@@ -48,6 +48,15 @@ fn same<T: PartialEq + Debug>(what: &str, library: T, rust: T) -> Result<(), Str
     Err(format!("{what}, of the library: {library:?}\n{what}, of the Rust: {rust:?}"))
 }
 
+/// Two lists, by the first place where they differ.
+fn same_list<T: PartialEq + Debug>(what: &str, library: &[T], rust: &[T]) -> Result<(), String> {
+    same(&format!("length of {what}"), library.len(), rust.len())?;
+    match library.iter().zip(rust).position(|(ours, theirs)| ours != theirs) {
+        None => Ok(()),
+        Some(place) => same(&format!("{what} at {place}"), &library[place], &rust[place]),
+    }
+}
+
 /// The bits of a number, all not-a-numbers being equal.
 fn bits(value: f64) -> u64 {
     oracle::canonical(value).to_bits()
@@ -129,9 +138,9 @@ fn search(case: &mut Case) -> Result<(), String> {
     );
     let words = searched(&pair, &mut theirs);
     same("samples", found, Ok(words.len()))?;
-    same("half plane of the input", ours.input_half, theirs.input_half)?;
-    same("half plane of the reference", ours.ref_half, theirs.ref_half)?;
-    same("words", ours.words, theirs.words)
+    same_list("half plane of the input", &ours.input_half, &theirs.input_half)?;
+    same_list("half plane of the reference", &ours.ref_half, &theirs.ref_half)?;
+    same_list("words", &ours.words, &theirs.words)
 }
 
 fn library_fit(kind: u8, words: &[u32]) -> Result<Fitted, Refusal> {
@@ -249,10 +258,10 @@ fn header_written(case: &mut Case) -> Result<(), String> {
     case.accepted = ours.is_ok();
     if room < bytes.len() {
         same("bits", ours, Err(Refusal::TooShort))?;
-        return same("bytes", after, before);
+        return same_list("bytes", &after, &before);
     }
     same("bits", ours, Ok(count))?;
-    same("bytes", after, [&bytes, &before[bytes.len()..]].concat())
+    same_list("bytes", &after, &[&bytes, &before[bytes.len()..]].concat())
 }
 
 /// Both readings of some bytes from a bit on.
@@ -388,11 +397,11 @@ fn job(case: &mut Case) -> Result<(), String> {
     let parts = |report: Report| (report.types, report.models, bits(report.score), report.bits, report.samples);
     let rust = job_of_the_rust(&pair, settings, &header, &mut theirs);
     same("types, models, bits of the score, header bits, samples", report.map(parts), rust.map(parts))?;
-    same("half plane of the input", ours.input_half, theirs.input_half)?;
-    same("half plane of the reference", ours.ref_half, theirs.ref_half)?;
-    same("words", ours.words, theirs.words)?;
-    same("blocks", ours.blocks, theirs.blocks)?;
-    same("header", ours.header, theirs.header)
+    same_list("half plane of the input", &ours.input_half, &theirs.input_half)?;
+    same_list("half plane of the reference", &ours.ref_half, &theirs.ref_half)?;
+    same_list("words", &ours.words, &theirs.words)?;
+    same_list("blocks", &ours.blocks, &theirs.blocks)?;
+    same_list("header", &ours.header, &theirs.header)
 }
 
 /// A frame's words, some of them not to be stored; its blocks, some damaged, read back, judged and listed.
@@ -423,11 +432,11 @@ fn stored_frame(case: &mut Case) -> Result<(), String> {
     let row = blocks::store_refusal(&words, room);
     if row != 0 {
         same("blocks", ours, Err(Refusal::of_number(row).expect("a row")))?;
-        return same("bytes", after, before);
+        return same_list("bytes", &after, &before);
     }
     same("blocks", ours, Ok(needed / 512))?;
     let stored = blocks::write(frame, &words);
-    same("bytes", &after, &[&stored, &before[needed..]].concat())?;
+    same_list("bytes", &after, &[&stored, &before[needed..]].concat())?;
     frame_read(case, after)
 }
 
@@ -465,7 +474,7 @@ fn frame_read(case: &mut Case, mut bytes: Vec<u8>) -> Result<(), String> {
         }
     };
     same("frame", ours, theirs)?;
-    same("words", words, left)?;
+    same_list("words", &words, &left)?;
     for block in bytes.chunks(512) {
         let ours = belt::judge_block(block).map(|block| block.count);
         let theirs = blocks::judge_alone(block).map(|words| words.len());
