@@ -7,11 +7,10 @@
 //! its bytes, zeros up to a whole word.
 
 use oracle::list::{Lcg, List};
-use oracle::Models;
+use oracle::{IDENTITY, Models};
 use std::{env, io};
 
 const SEED: u32 = 7;
-const IDENTITY: [i32; 6] = [0, 0, 65536, 0, 0, 65536];
 const BLOCK_SAMPLES: usize = 125;
 
 /// How the input plane comes from the reference: 0 on its own, 1 mapped, 2 mapped with the two planes exchanged.
