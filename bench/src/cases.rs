@@ -3,19 +3,18 @@
 use std::fmt;
 use std::hint::black_box;
 
+use belt::{Buffers, Fitted, Frame, Lent, Refusal};
 use oracle::Samples;
 
-use crate::belt::{self, Lent, Searched, Stored};
 use crate::frames;
-use crate::inputs::{PARAMS, Scene};
+use crate::header::{Distance, Header};
+use crate::inputs::{self, AFFINE, FRAME, HIGH_PRECISION, IDENTITY, PARAMS, ROTZOOM, Scene, TRANSLATION, carried};
+use crate::job::Job;
 
 /// What a ratio is held to.
 const LARGE_SEARCH: f64 = 0.30;
 const NO_SLOWER: f64 = 1.0;
 const SUMS: f64 = 1.1;
-
-const HIGH_PRECISION: u8 = 1;
-const FRAME: u16 = 5;
 
 #[derive(Clone, Copy)]
 pub enum Case {
@@ -25,6 +24,9 @@ pub enum Case {
     QuantizeModel(u8, usize),
     WriteFrame(usize),
     ReadFrame(usize),
+    WriteHeader(u8, Distance),
+    ReadHeader(u8, Distance),
+    WholeJob(u8, usize, usize),
 }
 
 use Case::*;
@@ -41,7 +43,9 @@ pub struct Sides {
 pub fn all() -> Vec<Case> {
     let sides = [(16, 16), (33, 17), (1024, 16), (64, 64), (640, 480), (1024, 1024)];
     let counts = [16, 1024, 4096];
-    let kinds = [1, 2, 3];
+    let kinds = [TRANSLATION, ROTZOOM, AFFINE];
+    let header_kinds = [IDENTITY, TRANSLATION, AFFINE];
+    let job_sides = [(64, 64), (640, 480), (1024, 1024)];
     let mut cases = Vec::new();
     cases.extend(Scene::ALL.iter().flat_map(|&scene| sides.map(|(width, height)| Search(scene, width, height))));
     cases.extend(kinds.iter().flat_map(|&kind| counts.map(|n| Fit(kind, n))));
@@ -49,6 +53,9 @@ pub fn all() -> Vec<Case> {
     cases.extend(kinds.iter().flat_map(|&kind| counts.map(|n| QuantizeModel(kind, n))));
     cases.extend(counts.map(WriteFrame));
     cases.extend(counts.map(ReadFrame));
+    cases.extend(header_kinds.iter().flat_map(|&kind| Distance::ALL.map(|prior| WriteHeader(kind, prior))));
+    cases.extend(header_kinds.iter().flat_map(|&kind| Distance::ALL.map(|prior| ReadHeader(kind, prior))));
+    cases.extend(kinds.iter().flat_map(|&kind| job_sides.map(|(width, height)| WholeJob(kind, width, height))));
     cases
 }
 
@@ -65,6 +72,9 @@ impl fmt::Display for Case {
             QuantizeModel(kind, n) => write!(f, "quantize_model | {}, {n} words", type_name(kind)),
             WriteFrame(n) => write!(f, "write_frame | {n} words"),
             ReadFrame(n) => write!(f, "read_frame | {n} words"),
+            WriteHeader(kind, prior) => write!(f, "header write | seven {}, prior {}", type_name(kind), prior.name()),
+            ReadHeader(kind, prior) => write!(f, "header read | seven {}, prior {}", type_name(kind), prior.name()),
+            WholeJob(kind, width, height) => write!(f, "job | {}, textured {width}×{height}", type_name(kind)),
         }
     }
 }
@@ -89,19 +99,33 @@ impl Case {
             QuantizeModel(kind, n) => quantize_model(kind, n),
             WriteFrame(n) => write_frame(n),
             ReadFrame(n) => read_frame(n),
+            WriteHeader(kind, prior) => write_header(kind, prior),
+            ReadHeader(kind, prior) => read_header(kind, prior),
+            WholeJob(kind, width, height) => whole_job(kind, width, height),
         }
     }
 }
 
+/// A search into the buffers of a job.
+fn searched(
+    input: &[u16],
+    reference: &[u16],
+    width: usize,
+    height: usize,
+    classes: &[u8],
+    lent: &mut Buffers,
+) -> Result<usize, Refusal> {
+    let Lent { input_half, ref_half, words, .. } = lent.lend();
+    belt::collect_motion_samples(input, reference, width, height, classes, input_half, ref_half, words)
+}
+
 fn search(scene: Scene, width: usize, height: usize) -> Sides {
     let (input, reference) = scene.pair(width, height);
-    let samples = oracle::sample_count(width, height);
-    let classes: Vec<u8> = (0..samples).map(|i| (i % 4) as u8).collect();
-    let half = (width / 2) * (height / 2);
-    let mut lent = Lent { input_half: vec![0; half], ref_half: vec![0; half], words: vec![0; samples] };
+    let classes = inputs::classes(oracle::sample_count(width, height));
+    let mut lent = Buffers::new(width, height);
 
-    let answer = belt::search(&input, &reference, width, height, &classes, &mut lent);
-    assert_eq!(answer, Searched { refusal: 0, samples });
+    let answer = searched(&input, &reference, width, height, &classes, &mut lent);
+    assert_eq!(answer, Ok(classes.len()));
     assert_eq!(lent.words, oracle::sample_words(&input, &reference, width, height, &classes));
     assert_eq!(lent.input_half, oracle::half_plane(&input, width, height));
     assert_eq!(lent.ref_half, oracle::half_plane(&reference, width, height));
@@ -109,7 +133,8 @@ fn search(scene: Scene, width: usize, height: usize) -> Sides {
     let (rust_input, rust_reference) = (input.clone(), reference.clone());
     Sides {
         ours: Box::new(move || {
-            black_box(belt::search(black_box(&input), &reference, width, height, &classes, black_box(&mut lent)));
+            let answer = searched(black_box(&input), &reference, width, height, &classes, black_box(&mut lent));
+            black_box(answer.ok());
         }),
         rust: Box::new(move || {
             black_box(oracle::search(black_box(&rust_input), &rust_reference, width, height));
@@ -138,21 +163,31 @@ fn same(ours: f64, rust: f64) -> bool {
     oracle::canonical(ours).to_bits() == oracle::canonical(rust).to_bits()
 }
 
-/// How many numbers a fitted model of this type carries.
-fn carried(kind: u8) -> usize {
-    2 * usize::from(kind)
+/// The library's fit of type 1, 2 or 3.
+fn library_fit(kind: u8, words: &[u32]) -> Result<Fitted, Refusal> {
+    match kind {
+        TRANSLATION => belt::fit_translation(words),
+        ROTZOOM => belt::fit_rotzoom(words),
+        AFFINE => belt::fit_affine(words),
+        _ => panic!("type {kind} has no fit"),
+    }
+}
+
+/// Both sides' fits to the same words: the same bits.
+fn fits(kind: u8, words: &[u32]) -> (Fitted, [f64; 6]) {
+    let ours = library_fit(kind, words).expect("this elimination doesn't refuse");
+    let rust = Samples::of_words(words).fit(kind).expect("this elimination doesn't refuse");
+    assert!((0..carried(kind)).all(|i| same(ours.numbers[i], rust[i])), "{ours:?} {rust:?}");
+    (ours, rust)
 }
 
 fn fit(kind: u8, n: usize) -> Sides {
     let words = oracle::blocks::words(n as u32, n);
-    let ours = belt::fit(kind, &words);
-    let rust = Samples::of_words(&words).fit(kind).expect("this elimination doesn't refuse");
-    assert_eq!(ours.refusal, 0);
-    assert!((0..carried(kind)).all(|i| same(ours.numbers[i], rust[i])), "{ours:?} {rust:?}");
+    fits(kind, &words);
     on_words(
         words,
         move |words| {
-            black_box(belt::fit(kind, words));
+            black_box(library_fit(kind, words).ok());
         },
         move |samples| {
             black_box(samples.fit(kind));
@@ -162,12 +197,12 @@ fn fit(kind: u8, n: usize) -> Sides {
 
 fn score(n: usize) -> Sides {
     let words = oracle::blocks::words(n as u32, n);
-    let ours = belt::score(&PARAMS, &words);
-    assert!(ours.refusal == 0 && same(ours.score, Samples::of_words(&words).score(&PARAMS)));
+    let ours = belt::mean_sq_residual(&PARAMS, &words).expect("not too many words");
+    assert!(same(ours, Samples::of_words(&words).score(&PARAMS)));
     on_words(
         words,
         |words| {
-            black_box(belt::score(black_box(&PARAMS), words));
+            black_box(belt::mean_sq_residual(black_box(&PARAMS), words).ok());
         },
         |samples| {
             black_box(samples.score(black_box(&PARAMS)));
@@ -177,15 +212,13 @@ fn score(n: usize) -> Sides {
 
 fn quantize_model(kind: u8, n: usize) -> Sides {
     let words = oracle::blocks::words(n as u32, n);
-    let samples = Samples::of_words(&words);
-    let numbers = belt::fit(kind, &words).numbers;
-    let model = samples.fit(kind).expect("this elimination doesn't refuse");
-    let ours = belt::quantize_model(kind, &numbers, HIGH_PRECISION, &words);
-    assert_eq!((ours.refusal, ours.params), (0, samples.quantize_model(&model, kind, true)));
+    let (fitted, model) = fits(kind, &words);
+    let rust = Samples::of_words(&words).quantize_model(&model, kind, true);
+    assert_eq!(belt::quantize_model(&fitted, HIGH_PRECISION, &words), Ok(rust));
     on_words(
         words,
         move |words| {
-            black_box(belt::quantize_model(kind, black_box(&numbers), HIGH_PRECISION, words));
+            black_box(belt::quantize_model(black_box(&fitted), HIGH_PRECISION, words).ok());
         },
         move |samples| {
             black_box(samples.quantize_model(black_box(&model), kind, true));
@@ -198,14 +231,14 @@ fn write_frame(n: usize) -> Sides {
     let count = frames::block_count(n);
     let mut ours = vec![0; frames::BLOCK * count];
     let mut rust = ours.clone();
-    assert_eq!(belt::write_frame(FRAME, &words, &mut ours), Stored { refusal: 0, blocks: count });
+    assert_eq!(belt::write_frame(FRAME, &words, &mut ours), Ok(count));
     assert_eq!(frames::write(FRAME, &words, &mut rust), Ok(count));
     assert!(ours == rust && ours == oracle::blocks::write(FRAME, &words));
 
     let rust_words = words.clone();
     Sides {
         ours: Box::new(move || {
-            black_box(belt::write_frame(FRAME, black_box(&words), black_box(&mut ours)));
+            black_box(belt::write_frame(FRAME, black_box(&words), black_box(&mut ours)).ok());
         }),
         rust: Box::new(move || {
             black_box(frames::write(FRAME, black_box(&rust_words), black_box(&mut rust)).ok());
@@ -219,18 +252,76 @@ fn read_frame(n: usize) -> Sides {
     let blocks = oracle::blocks::write(FRAME, &words);
     let mut ours = vec![0; n];
     let mut rust = ours.clone();
-    let read = belt::read_frame(&blocks, &mut ours);
-    assert_eq!((read.refusal, read.frame, read.samples), (0, FRAME, n));
+    assert_eq!(belt::read_frame(&blocks, &mut ours), Ok(Frame { number: FRAME, samples: n }));
     assert_eq!(frames::read(&blocks, &mut rust), Ok((FRAME, n)));
     assert!(ours == words && rust == words);
 
     let rust_blocks = blocks.clone();
     Sides {
         ours: Box::new(move || {
-            black_box(belt::read_frame(black_box(&blocks), black_box(&mut ours)));
+            black_box(belt::read_frame(black_box(&blocks), black_box(&mut ours)).ok());
         }),
         rust: Box::new(move || {
             black_box(frames::read(black_box(&rust_blocks), black_box(&mut rust)).ok());
+        }),
+        ready: None,
+    }
+}
+
+fn write_header(kind: u8, distance: Distance) -> Sides {
+    let header = Header::new(kind, distance);
+    let mut room = [0; belt::HEADER_BYTES];
+    let (bytes, bits) = header.rust_write();
+    assert_eq!(header.write(&mut room), Ok(bits));
+    assert_eq!(room[..bytes.len()], bytes);
+
+    Sides {
+        ours: Box::new(move || {
+            black_box(black_box(&header).write(black_box(&mut room)).ok());
+        }),
+        rust: Box::new(move || {
+            black_box(black_box(&header).rust_write());
+        }),
+        ready: None,
+    }
+}
+
+fn read_header(kind: u8, distance: Distance) -> Sides {
+    let header = Header::new(kind, distance);
+    let (bytes, bits) = header.rust_write();
+    let ours = header.read(&bytes).expect("a whole header");
+    assert_eq!(header.rust_read(&bytes), Some((header.types, header.models, bits)));
+    assert_eq!((ours.types, &ours.params[..], ours.bits), (header.types, header.models.as_flattened(), bits));
+
+    let rust_bytes = bytes.clone();
+    Sides {
+        ours: Box::new(move || {
+            black_box(black_box(&header).read(black_box(&bytes)).ok());
+        }),
+        rust: Box::new(move || {
+            black_box(black_box(&header).rust_read(black_box(&rust_bytes)));
+        }),
+        ready: None,
+    }
+}
+
+fn whole_job(kind: u8, width: usize, height: usize) -> Sides {
+    let job = Job::new(kind, width, height);
+    let mut lent = Buffers::new(width, height);
+    let mut left = lent.clone();
+    let ours = job.run(&mut lent).expect("a job that isn't refused");
+    let rust = job.rust_run(&mut left).expect("a job that isn't refused");
+    job.rust_halves(&mut left);
+    assert!(ours == rust && same(ours.score, rust.score), "{ours:?} {rust:?}");
+    assert!(lent == left, "the buffers differ");
+
+    let rust_job = job.clone();
+    Sides {
+        ours: Box::new(move || {
+            black_box(black_box(&job).run(black_box(&mut lent)).ok());
+        }),
+        rust: Box::new(move || {
+            black_box(black_box(&rust_job).rust_run(black_box(&mut left)));
         }),
         ready: None,
     }

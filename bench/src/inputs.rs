@@ -70,3 +70,22 @@ fn texture(width: usize, height: usize, dx: i32, dy: i32, noise: u16) -> Vec<u16
 
 /// A stored model near the identity.
 pub const PARAMS: [i32; 6] = [12_288, -20_480, 65_570, -130, 118, 65_502];
+
+/// The types of a model.
+pub const IDENTITY: u8 = 0;
+pub const TRANSLATION: u8 = 1;
+pub const ROTZOOM: u8 = 2;
+pub const AFFINE: u8 = 3;
+
+pub const HIGH_PRECISION: u8 = 1;
+pub const FRAME: u16 = 5;
+
+/// Each class in its turn.
+pub fn classes(samples: usize) -> Vec<u8> {
+    (0..samples).map(|i| (i % 4) as u8).collect()
+}
+
+/// How many numbers a model of this type carries.
+pub fn carried(kind: u8) -> usize {
+    2 * usize::from(kind)
+}

@@ -4,13 +4,16 @@
 //!     bench list                  the cases and their numbers
 //!     bench repeat CASE SIDE N    one side ('ours', 'rust' or 'ready') of a case N times, for a profiler
 
-mod belt;
 mod cases;
 mod frames;
+mod header;
 mod inputs;
+mod job;
 mod timing;
 
 use std::{env, fs};
+
+use belt::Refusal;
 
 fn main() {
     let words: Vec<String> = env::args().skip(1).collect();
@@ -68,23 +71,20 @@ fn measure(file: &str) {
 fn compare_the_rest() {
     for value in (-5_000_000..5_000_000).step_by(997).chain([i32::MIN, i32::MAX, 0, 65_535, 65_537]) {
         for (kind, flag, slot) in [(0, 0, 0), (1, 0, 0), (1, 1, 1), (2, 1, 2), (3, 0, 3), (3, 1, 5)] {
-            let ours = belt::quantize_global_param(kind, flag, slot, value);
             let rust = oracle::quantize_global_param(kind, flag == 1, usize::from(slot), value);
-            assert_eq!((ours.refusal, ours.value), (0, rust));
+            assert_eq!(belt::quantize_global_param(kind, flag, slot, value), Ok(rust));
         }
     }
-    assert_eq!(belt::quantize_global_param(4, 0, 0, 1).refusal, 4);
+    assert_eq!(belt::quantize_global_param(4, 0, 0, 1), Err(Refusal::NoSuchCode));
 
-    let mut text = [0; 4096];
+    let mut text = [0; belt::TEXT_BYTES];
     let mut blocks = oracle::blocks::write(7, &oracle::blocks::words(3, 300));
     blocks[600] ^= 1;
     blocks.truncate(2 * frames::BLOCK + 511);
     for bytes in blocks.chunks(frames::BLOCK) {
-        let length = belt::list_block(bytes, &mut text);
-        assert_eq!(&text[..length], oracle::blocks::text(bytes).as_bytes());
-        let read = belt::judge_block(bytes);
-        let rust = oracle::blocks::judge_alone(bytes).map(|words| words.len());
-        assert_eq!((read.refusal, read.count), (rust.err().unwrap_or(0), rust.unwrap_or(0)));
+        assert_eq!(belt::list_block(bytes, &mut text), oracle::blocks::text(bytes));
+        let ours = belt::judge_block(bytes).map(|block| block.count).map_err(Refusal::number);
+        assert_eq!(ours, oracle::blocks::judge_alone(bytes).map(|words| words.len()));
     }
 }
 
@@ -99,15 +99,22 @@ fn head() -> String {
          The time of each call divided by the time of the Rust, by `bench/run`. Below 1 the proved library is faster.\n\n\
          Processor: {}. Rust: {}, release build, opt-level {}, {flags}. Library: `rt staticlib belt`, {}. \
          Both sides are compiled for plain x86-64 (SSE2).\n\n\
-         One driver calls both sides on the same input, compares their answers, and then times them in turns. \
+         One driver calls both sides on the same input, ours through `bindings/rust`, compares their answers, and then times them in turns. \
          Each number is the best processor time of ours divided by the best of the Rust, over {} rounds or more. \
-         'At most' is what is wanted.\n\n\
-         Searches, fits, scores and quantizations are measured against the Rust that is ported. \
+         'At most' is the ratio that is wanted; calls without one are only reported.\n\n\
+         Searches, fits, scores, quantizations and headers are measured against the Rust that is ported. \
          Fits, scores and quantizations take sample words. The Rust has no such form: in the first ratio it makes its list of samples of the \
          same words, in the last column it has that list ready made and ours still reads words. \
          Blocks are measured against a plain Rust writing of document 01 over lent buffers (`bench/src/frames.rs`).\n\n\
+         A header has seven models of one type at high precision. A near prior is up to three steps of the grid from the models and gives short codes, \
+         a far one is at the other end of the range and gives long codes; seven identities have no codes, and ours only judges their prior. \
+         Ours judges models, prior and room before it writes, and the Rust doesn't. \
+         The Rust reads bits by the stand-in of `oracle/src/stand_ins.rs`, one at a time, since its own bit reader isn't published.\n\n\
+         A job is measured against the composition of the Rust's parts: search, words, fit, quantization, score, \
+         blocks by `bench/src/frames.rs`, and header. Its fit takes the samples of its search as they are. \
+         The six references beside the fitted one have affine models and near priors.\n\n\
          No buffer is cleared before a call: the lent ones hold what the call before left there, and were touched before the first timing. \
-         The Rust's search makes its half planes and its list of samples in each call, and that is in its time.\n",
+         The Rust's search makes its half planes and its list of samples in each call, its header writer makes its bytes, and that is in its time.\n",
         processor(),
         env!("BENCH_RUSTC"),
         env!("BENCH_OPT_LEVEL"),

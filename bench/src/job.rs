@@ -1,0 +1,88 @@
+//! A whole job: by the proved library, and composed of the Rust's parts with the blocks of `frames`.
+
+use belt::{Buffers, Refusal, Report, Settings, Task};
+use oracle::Samples;
+
+use crate::frames;
+use crate::header::{Distance, Header};
+use crate::inputs::{self, AFFINE, FRAME, HIGH_PRECISION, Scene, TRANSLATION};
+
+/// The reference that the fitted model is for: the first of seven.
+const REFERENCE: u8 = 1;
+
+#[derive(Clone)]
+pub struct Job {
+    width: usize,
+    height: usize,
+    input: Vec<u16>,
+    reference: Vec<u16>,
+    classes: Vec<u8>,
+    settings: Settings,
+    header: Header,
+}
+
+impl Job {
+    /// A textured scene with a fit of this type; the six other references have affine models.
+    pub fn new(kind: u8, width: usize, height: usize) -> Self {
+        let (input, reference) = Scene::Textured.pair(width, height);
+        Self {
+            width,
+            height,
+            input,
+            reference,
+            classes: inputs::classes(oracle::sample_count(width, height)),
+            settings: Settings { frame: FRAME, gm_type: kind, reference: REFERENCE, flag: HIGH_PRECISION },
+            header: Header::new(AFFINE, Distance::Near),
+        }
+    }
+
+    pub fn run(&self, lent: &mut Buffers) -> Result<Report, Refusal> {
+        let task = Task {
+            input: &self.input,
+            reference: &self.reference,
+            width: self.width,
+            height: self.height,
+            settings: self.settings,
+            classes: &self.classes,
+            types: &self.header.types[1..],
+            models: self.header.models[1..].as_flattened(),
+            prior: self.header.prior.as_flattened(),
+        };
+        belt::job(&task, &mut lent.lend())
+    }
+
+    /// Words, blocks and header go to the buffers.
+    pub fn rust_run(&self, left: &mut Buffers) -> Option<Report> {
+        let Settings { frame, gm_type, .. } = self.settings;
+        let found = oracle::search(&self.input, &self.reference, self.width, self.height);
+        for ((word, sample), &class) in left.words.iter_mut().zip(&found).zip(&self.classes) {
+            *word = oracle::word_of(sample, class);
+        }
+        let samples = Samples::new(&found);
+        let model = samples.quantize_model(&samples.fit(gm_type)?, gm_type, true);
+        let score = samples.score(&model);
+
+        let mut header = self.header;
+        header.types[0] = gm_type;
+        header.models[0] = stored(gm_type, model);
+        let (bytes, bits) = header.rust_write();
+        left.header[..bytes.len()].copy_from_slice(&bytes);
+        frames::write(frame, &left.words, &mut left.blocks).ok()?;
+        let models = std::array::from_fn(|i| header.models[i / 6][i % 6]);
+        Some(Report { types: header.types, models, score, bits, samples: found.len() })
+    }
+
+    /// The half planes of the Rust, which its search keeps to itself.
+    pub fn rust_halves(&self, left: &mut Buffers) {
+        left.input_half = oracle::half_plane(&self.input, self.width, self.height);
+        left.ref_half = oracle::half_plane(&self.reference, self.width, self.height);
+    }
+}
+
+/// A model as the header stores it: a translation has the row first.
+fn stored(kind: u8, mut model: [i32; 6]) -> [i32; 6] {
+    if kind == TRANSLATION {
+        model.swap(0, 1);
+    }
+    model
+}
