@@ -1,3 +1,5 @@
+-- `job::finish` meets its contract.
+-- Assumes nothing.
 use Rattle.job.proofs.Ending.{finish-refused, finish-written}
 use mathlib.Core.Path.{_≡_, refl, sym, ap, _∙_}
 use borrow.Author.Needs.{needs}
@@ -9,31 +11,24 @@ use Rattle.job.proofs.refused.Reads as refused-reads
 use Rattle.job.proofs.write_out.Reads as write-out-reads
 use Rattle.job_model.proofs.models_of.Reads as models-of-reads
 
--- src/lib.rt:82:9
 models-of-requires : tie.Need-models-of-requires
 models-of-requires c κs = search needs
 
--- src/lib.rt:91:9
 refused-requires : tie.Need-refused-requires
 refused-requires c κs = search needs
 
--- src/lib.rt:91:9
 returns : tie.Need-returns
 returns c = finish-refused (c .before .before .before .before .before .before .before .before .args .settings) (c .before .before .before .before .before .before .before .before .args .types .now) (c .before .before .before .before .before .before .before .before .args .models .now) (c .before .before .before .before .before .before .before .before .args .prior .now) (c .before .before .before .before .before .before .before .before .args .words .now) (c .before .before .before .before .before .before .before .before .args .blocks .now) (c .before .before .before .before .before .before .before .before .args .header .now) (c .before .before .before .models-of .ensures) (c .before .if1 .taken) (c .refused .ensures)
 
--- src/lib.rt:93:5
 write-out-requires : tie.Need-write-out-requires
 write-out-requires c κs = search needs
 
--- src/lib.rt:68:1
 same-length : tie.Need-same-length
 same-length c = search needs
 
--- src/lib.rt:68:1
 same-length-2 : tie.Need-same-length-2
 same-length-2 c = search needs
 
--- src/lib.rt:68:1
 returns-2 : tie.Need-returns-2
 returns-2 c = finish-written (c .before .before .before .before .before .before .before .before .before .before .before .before .before .before .args .settings) (c .before .before .before .before .before .before .before .before .before .before .before .before .before .before .args .types .now) (c .before .before .before .before .before .before .before .before .before .before .before .before .before .before .args .models .now) (c .before .before .before .before .before .before .before .before .before .before .before .before .before .before .args .prior .now) (c .before .before .before .before .before .before .before .before .before .before .before .before .before .before .args .words .now) (c .before .before .before .before .before .before .before .before .before .before .before .before .before .before .args .blocks .now) (c .before .before .before .before .before .before .before .before .before .before .before .before .before .before .args .header .now) (c .before .before .before .before .before .before .before .before .before .models-of .ensures) (c .before .before .before .before .before .before .before .if1 .left) (c .before .before .before .before .write-out .ensures .0) (c .before .before .before .before .write-out .ensures .1 .0) (c .before .before .before .before .write-out .ensures .1 .1)
 

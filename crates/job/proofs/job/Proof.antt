@@ -1,3 +1,5 @@
+-- `job::job` meets its contract.
+-- Assumes nothing.
 use Rattle.job.proofs.Ending.{done-refused, done-run}
 use Rattle.job_refusal.specs.Task.{task, lend}
 use mathlib.Core.Path.{_≡_, refl, sym, ap, _∙_}
@@ -10,43 +12,33 @@ use Rattle.job.proofs.refused.Reads as refused-reads
 use Rattle.job.proofs.run.Reads as run-reads
 use Rattle.job_refusal.proofs.refusal_of.Reads as refusal-of-reads
 
--- src/lib.rt:162:9
 refusal-of-requires : tie.Need-refusal-of-requires
 refusal-of-requires c κs = search needs
 
--- src/lib.rt:179:9
 refused-requires : tie.Need-refused-requires
 refused-requires c κs = search needs
 
--- src/lib.rt:179:9
 returns : tie.Need-returns
 returns c = let e = c .before .before .before .before .before .before .before .before .before .before .before .before in done-refused (task (e .args .input .now) (e .args .reference .now) (e .args .width) (e .args .height) (e .args .settings) (e .args .classes .now) (e .args .types .now) (e .args .models .now) (e .args .prior .now)) (lend (e .args .input-half .now) (e .args .ref-half .now) (e .args .words .now) (e .args .blocks .now) (e .args .header .now)) (c .before .before .refusal-of .ensures) (c .before .if1 .taken) (c .refused .ensures)
 
--- src/lib.rt:181:5
 run-requires : tie.Need-run-requires
 run-requires c κs = sym (c .before .before .before .before .before .before .refusal-of .ensures) ∙ c .before .before .before .before .before .if1 .left
 
--- src/lib.rt:144:1
 same-length : tie.Need-same-length
 same-length c = search needs
 
--- src/lib.rt:144:1
 same-length-2 : tie.Need-same-length-2
 same-length-2 c = search needs
 
--- src/lib.rt:144:1
 same-length-3 : tie.Need-same-length-3
 same-length-3 c = search needs
 
--- src/lib.rt:144:1
 same-length-4 : tie.Need-same-length-4
 same-length-4 c = search needs
 
--- src/lib.rt:144:1
 same-length-5 : tie.Need-same-length-5
 same-length-5 c = search needs
 
--- src/lib.rt:144:1
 returns-2 : tie.Need-returns-2
 returns-2 c = let e = c .before .before .before .before .before .before .before .before .before .before .before .before .before .before .before .before .before .before .before .before .before .before .before .before .before .before .before in done-run (task (e .args .input .now) (e .args .reference .now) (e .args .width) (e .args .height) (e .args .settings) (e .args .classes .now) (e .args .types .now) (e .args .models .now) (e .args .prior .now)) (lend (e .args .input-half .now) (e .args .ref-half .now) (e .args .words .now) (e .args .blocks .now) (e .args .header .now)) (c .before .before .before .before .before .before .before .before .before .before .run .ensures)
 

@@ -1,3 +1,5 @@
+-- `job::write_out` meets its contract.
+-- Assumes nothing.
 use Rattle.job.specs.Finished.{reportOf}
 use Rattle.header.specs.declared.Written.{Written}
 use lib.ListN.{length}
@@ -10,32 +12,25 @@ use Rattle.job.proofs.write_out.Lts as lts
 use Rattle.block.proofs.write_frame.Reads as write-frame-reads
 use Rattle.header.proofs.encode_inter_global_motion.Reads as encode-inter-global-motion-reads
 
--- src/lib.rt:49:5
 write-frame-requires : tie.Need-write-frame-requires
 write-frame-requires c κs = search needs
 
--- src/lib.rt:51:9
 slice-aggregate-encode-inter-global-motion : tie.Need-slice-aggregate-encode-inter-global-motion
 slice-aggregate-encode-inter-global-motion c = search needs
 
--- src/lib.rt:52:9
 slice-aggregate-encode-inter-global-motion-2 :
     tie.Need-slice-aggregate-encode-inter-global-motion-2
 slice-aggregate-encode-inter-global-motion-2 c = search needs
 
--- src/lib.rt:50:9
 encode-inter-global-motion-requires : tie.Need-encode-inter-global-motion-requires
 encode-inter-global-motion-requires c κs = search needs
 
--- src/lib.rt:35:1
 same-length : tie.Need-same-length
 same-length c = search needs
 
--- src/lib.rt:35:1
 same-length-2 : tie.Need-same-length-2
 same-length-2 c = search needs
 
--- src/lib.rt:35:1
 returns : tie.Need-returns
 returns c = (ap (λ (w : Written). reportOf (c .before .before .before .before .before .before .before .before .before .before .before .before .before .before .before .args .m) (w .bits) (length (c .before .before .before .before .before .before .before .before .before .before .before .before .before .before .before .args .words .now))) (c .before .before .encode-inter-global-motion .ensures .0), (c .before .before .before .before .before .before .before .before .write-frame .ensures .1, c .before .before .encode-inter-global-motion .ensures .1))
 

@@ -1,3 +1,5 @@
+-- `job_model::models_of` meets its contract.
+-- Assumes nothing.
 use mathlib.Core.Path.{_≡_, _∙_}
 use Rattle.job_model.proofs.Composed.{refused-as, with-fit, accepted-as}
 use borrow.Author.Needs.{needs}
@@ -10,27 +12,21 @@ use Rattle.job_model.proofs.not_modelled.Reads as not-modelled-reads
 use Rattle.job_model.proofs.refusal_of.Reads as refusal-of-reads
 use Rattle.job_model.proofs.with_model.Reads as with-model-reads
 
--- src/lib.rt:92:9
 fit-model-requires : tie.Need-fit-model-requires
 fit-model-requires c κs = search needs
 
--- src/lib.rt:93:9
 refusal-of-requires : tie.Need-refusal-of-requires
 refusal-of-requires c κs = search needs
 
--- src/lib.rt:95:9
 not-modelled-requires : tie.Need-not-modelled-requires
 not-modelled-requires c κs = search needs
 
--- src/lib.rt:95:9
 returns : tie.Need-returns
 returns c = c .not-modelled .ensures ∙ refused-as (c .before .before .before .before .before .before .args .gm-type) (c .before .before .before .before .before .before .args .reference) (c .before .before .before .before .before .before .args .flag) (c .before .before .before .before .before .before .args .types .now) (c .before .before .before .before .before .before .args .models .now) (c .before .before .before .before .before .before .args .words .now) (c .before .before .before .before .before .before .pre) (c .before .before .before .fit-model .ensures) (c .before .before .refusal-of .ensures) (c .before .if1 .taken)
 
--- src/lib.rt:97:5
 with-model-requires : tie.Need-with-model-requires
 with-model-requires c κs = with-fit (c .before .before .before .before .before .args .gm-type) (c .before .before .before .before .before .args .reference) (c .before .before .before .before .before .args .flag) (c .before .before .before .before .before .args .types .now) (c .before .before .before .before .before .args .models .now) (c .before .before .before .before .before .args .words .now) (c .before .before .before .before .before .pre) (c .before .before .fit-model .ensures) (c .before .refusal-of .ensures) (c .if1 .left)
 
--- src/lib.rt:81:1
 returns-2 : tie.Need-returns-2
 returns-2 c = c .with-model .ensures ∙ accepted-as (c .before .before .before .before .before .before .args .gm-type) (c .before .before .before .before .before .before .args .reference) (c .before .before .before .before .before .before .args .flag) (c .before .before .before .before .before .before .args .types .now) (c .before .before .before .before .before .before .args .models .now) (c .before .before .before .before .before .before .args .words .now) (c .before .before .before .before .before .before .pre) (c .before .before .before .fit-model .ensures) (c .before .before .refusal-of .ensures) (c .before .if1 .left)
 

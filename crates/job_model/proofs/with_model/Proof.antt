@@ -1,3 +1,5 @@
+-- `job_model::with_model` meets its contract.
+-- Assumes nothing.
 use Rattle.job_model.proofs.Composed.{composed}
 use borrow.Author.Needs.{needs}
 use Rattle.job_model.proofs.with_model.Statement.{statement}
@@ -10,27 +12,21 @@ use Rattle.model.proofs.mean_sq_residual.Reads as mean-sq-residual-reads
 use Rattle.quantize.proofs.quantize_model.Reads as quantize-model-reads
 use Rattle.quantize.proofs.row_first.Reads as row-first-reads
 
--- src/lib.rt:67:9
 quantize-model-requires : tie.Need-quantize-model-requires
 quantize-model-requires c κs = search needs
 
--- src/lib.rt:70:9
 row-first-requires : tie.Need-row-first-requires
 row-first-requires c κs = search needs
 
--- src/lib.rt:69:9
 mean-sq-residual-requires : tie.Need-mean-sq-residual-requires
 mean-sq-residual-requires c κs = search needs
 
--- src/lib.rt:71:9
 types-with-requires : tie.Need-types-with-requires
 types-with-requires c κs = search needs
 
--- src/lib.rt:72:9
 models-with-requires : tie.Need-models-with-requires
 models-with-requires c κs = search needs
 
--- src/lib.rt:55:1
 returns : tie.Need-returns
 returns c = composed (c .before .before .before .before .before .before .before .before .args .gm-type) (c .before .before .before .before .before .before .before .before .args .reference) (c .before .before .before .before .before .before .before .before .args .flag) (c .before .before .before .before .before .before .before .before .args .types .now) (c .before .before .before .before .before .before .before .before .args .models .now) (c .before .before .before .before .before .before .before .before .args .words .now) (c .before .before .before .before .before .before .before .before .pre) (c .before .before .before .before .before .quantize-model .ensures) (c .before .before .mean-sq-residual .ensures) (c .before .before .before .row-first .ensures) (c .before .types-with .ensures) (c .models-with .ensures)
 

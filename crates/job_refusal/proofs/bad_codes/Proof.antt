@@ -1,3 +1,5 @@
+-- `job_refusal::bad_codes` meets its contract.
+-- Assumes nothing.
 use borrow.Author.Tests.{lt-ltb, le-ltb, eq-eqb, ne-eqb}
 use mathlib.Core.Path.{_≡_, refl, sym, ap, _∙_}
 use borrow.Author.Needs.{needs}
@@ -8,31 +10,24 @@ use Rattle.job_refusal.proofs.bad_codes.Lts as lts
 use Rattle.legal.proofs.types_over.Reads as types-over-reads
 use Rattle.search.proofs.refusals.bad_class.Reads as bad-class-reads
 
--- src/lib.rt:69:8
 bad-class-requires : tie.Need-bad-class-requires
 bad-class-requires c κs = search needs
 
--- src/lib.rt:70:9
 returns : tie.Need-returns
 returns c = rw (sym (c .before .bad-class .ensures) ∙ c .if1 .taken)
 
--- src/lib.rt:73:9
 returns-2 : tie.Need-returns-2
 returns-2 c = rw ((sym (c .before .before .before .bad-class .ensures) ∙ c .before .before .if1 .left), eq-eqb (c .before .before .before .before .before .before .args .settings .«gm_type») 0 (c .if2 .taken))
 
--- src/lib.rt:76:9
 returns-3 : tie.Need-returns-3
 returns-3 c = rw ((sym (c .before .before .before .before .before .bad-class .ensures) ∙ c .before .before .before .before .if1 .left), ne-eqb (c .before .before .before .before .before .before .before .before .args .settings .«gm_type») 0 (c .before .before .if2 .left), lt-ltb 3 (c .before .before .before .before .before .before .before .before .args .settings .«gm_type») (c .if3 .taken))
 
--- src/lib.rt:78:8
 types-over-requires : tie.Need-types-over-requires
 types-over-requires c κs = search needs
 
--- src/lib.rt:79:9
 returns-4 : tie.Need-returns-4
 returns-4 c = rw ((sym (c .before .before .before .before .before .before .before .bad-class .ensures) ∙ c .before .before .before .before .before .before .if1 .left), ne-eqb (c .before .before .before .before .before .before .before .before .before .before .args .settings .«gm_type») 0 (c .before .before .before .before .if2 .left), le-ltb 3 (c .before .before .before .before .before .before .before .before .before .before .args .settings .«gm_type») (c .before .before .if3 .left), (sym (c .before .types-over .ensures) ∙ c .if4 .taken))
 
--- src/lib.rt:66:1
 returns-5 : tie.Need-returns-5
 returns-5 c = rw ((sym (c .before .before .before .before .before .before .before .before .bad-class .ensures) ∙ c .before .before .before .before .before .before .before .if1 .left), ne-eqb (c .before .before .before .before .before .before .before .before .before .before .before .args .settings .«gm_type») 0 (c .before .before .before .before .before .if2 .left), le-ltb 3 (c .before .before .before .before .before .before .before .before .before .before .before .args .settings .«gm_type») (c .before .before .before .if3 .left), (sym (c .before .before .types-over .ensures) ∙ c .before .if4 .left))
 

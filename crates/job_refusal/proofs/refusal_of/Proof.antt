@@ -1,3 +1,5 @@
+-- `job_refusal::refusal_of` meets its contract.
+-- Assumes nothing.
 use Rattle.job_refusal.proofs.Accepted.{numbers-there}
 use Rattle.job_refusal.specs.Rows.{early}
 use lib.ListN.{length}
@@ -18,70 +20,55 @@ use Rattle.legal.proofs.models_wrong.Reads as models-wrong-reads
 use Rattle.legal.proofs.priors_out.Reads as priors-out-reads
 use Rattle.search.proofs.refusals.too_large.Reads as too-large-reads
 
--- src/lib.rt:133:8
 too-large-requires : tie.Need-too-large-requires
 too-large-requires c κs = search needs
 
--- src/lib.rt:134:9
 returns : tie.Need-returns
 unfolding early
 returns c = rw (sym (c .before .too-large .ensures) ∙ c .if1 .taken)
 
--- src/lib.rt:136:8
 wrong-lengths-requires : tie.Need-wrong-lengths-requires
 wrong-lengths-requires c κs = small (c .before .before .before .before .before .before .args .width) (c .before .before .before .before .before .before .args .height) (sym (c .before .too-large .ensures) ∙ c .if1 .left)
 
--- src/lib.rt:146:9
 returns-2 : tie.Need-returns-2
 unfolding early
 returns-2 c = rw ((sym (c .before .before .before .too-large .ensures) ∙ c .before .before .if1 .left), (sym (c .before .wrong-lengths .ensures) ∙ c .if2 .taken))
 
--- src/lib.rt:148:8
 bad-codes-requires : tie.Need-bad-codes-requires
 bad-codes-requires c κs = search needs
 
--- src/lib.rt:149:9
 returns-3 : tie.Need-returns-3
 unfolding early
 returns-3 c = rw ((sym (c .before .before .before .before .before .too-large .ensures) ∙ c .before .before .before .before .if1 .left), (sym (c .before .before .before .wrong-lengths .ensures) ∙ c .before .before .if2 .left), (sym (c .before .bad-codes .ensures) ∙ c .if3 .taken))
 
--- src/lib.rt:151:8
 no-reference-requires : tie.Need-no-reference-requires
 no-reference-requires c κs = search needs
 
--- src/lib.rt:152:9
 returns-4 : tie.Need-returns-4
 unfolding early
 returns-4 c = rw ((sym (c .before .before .before .before .before .before .before .too-large .ensures) ∙ c .before .before .before .before .before .before .if1 .left), (sym (c .before .before .before .before .before .wrong-lengths .ensures) ∙ c .before .before .before .before .if2 .left), (sym (c .before .before .before .bad-codes .ensures) ∙ c .before .before .if3 .left), (sym (c .before .no-reference .ensures) ∙ c .if4 .taken))
 
--- src/lib.rt:154:8
 models-wrong-requires : tie.Need-models-wrong-requires
 models-wrong-requires c κs = numbers-there (c .before .before .before .before .before .before .before .before .before .before .before .before .args .width) (c .before .before .before .before .before .before .before .before .before .before .before .before .args .height) (length (c .before .before .before .before .before .before .before .before .before .before .before .before .args .input .now)) (length (c .before .before .before .before .before .before .before .before .before .before .before .before .args .reference .now)) (length (c .before .before .before .before .before .before .before .before .before .before .before .before .args .classes .now)) (length (c .before .before .before .before .before .before .before .before .before .before .before .before .args .types .now)) (length (c .before .before .before .before .before .before .before .before .before .before .before .before .args .models .now)) (length (c .before .before .before .before .before .before .before .before .before .before .before .before .args .prior .now)) (sym (c .before .before .before .before .before .wrong-lengths .ensures) ∙ c .before .before .before .before .if2 .left)
 
--- src/lib.rt:155:9
 returns-5 : tie.Need-returns-5
 unfolding early
 returns-5 c = rw ((sym (c .before .before .before .before .before .before .before .before .before .too-large .ensures) ∙ c .before .before .before .before .before .before .before .before .if1 .left), (sym (c .before .before .before .before .before .before .before .wrong-lengths .ensures) ∙ c .before .before .before .before .before .before .if2 .left), (sym (c .before .before .before .before .before .bad-codes .ensures) ∙ c .before .before .before .before .if3 .left), (sym (c .before .before .before .no-reference .ensures) ∙ c .before .before .if4 .left), (sym (c .before .models-wrong .ensures) ∙ c .if5 .taken))
 
--- src/lib.rt:157:8
 priors-out-requires : tie.Need-priors-out-requires
 priors-out-requires c κs = search needs
 
--- src/lib.rt:158:9
 returns-6 : tie.Need-returns-6
 unfolding early
 returns-6 c = rw ((sym (c .before .before .before .before .before .before .before .before .before .before .before .too-large .ensures) ∙ c .before .before .before .before .before .before .before .before .before .before .if1 .left), (sym (c .before .before .before .before .before .before .before .before .before .wrong-lengths .ensures) ∙ c .before .before .before .before .before .before .before .before .if2 .left), (sym (c .before .before .before .before .before .before .before .bad-codes .ensures) ∙ c .before .before .before .before .before .before .if3 .left), (sym (c .before .before .before .before .before .no-reference .ensures) ∙ c .before .before .before .before .if4 .left), (sym (c .before .before .before .models-wrong .ensures) ∙ c .before .before .if5 .left), (sym (c .before .priors-out .ensures) ∙ c .if6 .taken))
 
--- src/lib.rt:160:8
 too-little-requires : tie.Need-too-little-requires
 too-little-requires c κs = small (c .before .before .before .before .before .before .before .before .before .before .before .before .before .before .before .before .args .width) (c .before .before .before .before .before .before .before .before .before .before .before .before .before .before .before .before .args .height) (sym (c .before .before .before .before .before .before .before .before .before .before .before .too-large .ensures) ∙ c .before .before .before .before .before .before .before .before .before .before .if1 .left)
 
--- src/lib.rt:169:9
 returns-7 : tie.Need-returns-7
 unfolding early
 returns-7 c = rw ((sym (c .before .before .before .before .before .before .before .before .before .before .before .before .before .too-large .ensures) ∙ c .before .before .before .before .before .before .before .before .before .before .before .before .if1 .left), (sym (c .before .before .before .before .before .before .before .before .before .before .before .wrong-lengths .ensures) ∙ c .before .before .before .before .before .before .before .before .before .before .if2 .left), (sym (c .before .before .before .before .before .before .before .before .before .bad-codes .ensures) ∙ c .before .before .before .before .before .before .before .before .if3 .left), (sym (c .before .before .before .before .before .before .before .no-reference .ensures) ∙ c .before .before .before .before .before .before .if4 .left), (sym (c .before .before .before .before .before .models-wrong .ensures) ∙ c .before .before .before .before .if5 .left), (sym (c .before .before .before .priors-out .ensures) ∙ c .before .before .if6 .left), (sym (c .before .too-little .ensures) ∙ c .if7 .taken))
 
--- src/lib.rt:115:1
 returns-8 : tie.Need-returns-8
 unfolding early
 returns-8 c = rw ((sym (c .before .before .before .before .before .before .before .before .before .before .before .before .before .too-large .ensures) ∙ c .before .before .before .before .before .before .before .before .before .before .before .before .if1 .left), (sym (c .before .before .before .before .before .before .before .before .before .before .before .wrong-lengths .ensures) ∙ c .before .before .before .before .before .before .before .before .before .before .if2 .left), (sym (c .before .before .before .before .before .before .before .before .before .bad-codes .ensures) ∙ c .before .before .before .before .before .before .before .before .if3 .left), (sym (c .before .before .before .before .before .before .before .no-reference .ensures) ∙ c .before .before .before .before .before .before .if4 .left), (sym (c .before .before .before .before .before .models-wrong .ensures) ∙ c .before .before .before .before .if5 .left), (sym (c .before .before .before .priors-out .ensures) ∙ c .before .before .if6 .left), (sym (c .before .too-little .ensures) ∙ c .if7 .left))

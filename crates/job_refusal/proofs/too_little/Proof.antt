@@ -1,3 +1,5 @@
+-- `job_refusal::too_little` meets its contract.
+-- Assumes nothing.
 use Rattle.search.proofs.Rows.{small, count-small}
 use Prim.Native.Nat.{ℕ, _+_, _*_, _/_, _≤_, _<_}
 use native.Mathlib.Omega.{arith}
@@ -10,31 +12,24 @@ use Rattle.job_refusal.proofs.too_little.Reads as reads
 use Rattle.job_refusal.proofs.too_little.Lts as lts
 use Rattle.search.proofs.refusals.too_short.Reads as too-short-reads
 
--- src/lib.rt:105:8
 too-short-requires : tie.Need-too-short-requires
 too-short-requires c κs = search needs
 
--- src/lib.rt:106:9
 returns : tie.Need-returns
 returns c = rw (sym (c .before .too-short .ensures) ∙ c .if1 .taken)
 
--- src/lib.rt:108:19
 mul-samples : tie.Need-mul-samples
 mul-samples c = omega (arith, count-small (c .before .before .args .width) (c .before .before .args .height) (c .before .before .pre .narrow) (c .before .before .pre .low))
 
--- src/lib.rt:109:33
 add-if2 : tie.Need-add-if2
 add-if2 c = omega (arith, count-small (c .before .before .args .width) (c .before .before .args .height) (c .before .before .pre .narrow) (c .before .before .pre .low))
 
--- src/lib.rt:109:17
 mul-if2 : tie.Need-mul-if2
 mul-if2 c = omega (arith, count-small (c .before .before .args .width) (c .before .before .args .height) (c .before .before .pre .narrow) (c .before .before .pre .low))
 
--- src/lib.rt:110:9
 returns-2 : tie.Need-returns-2
 returns-2 c = rw ((sym (c .before .before .too-short .ensures) ∙ c .before .if1 .left), lt-ltb (c .before .before .before .args .blocks) (512 * (((c .before .before .before .args .height / 16 * (c .before .before .before .args .width / 16)) + 124) / 125)) (c .if2 .taken))
 
--- src/lib.rt:93:1
 returns-3 : tie.Need-returns-3
 returns-3 c = rw ((sym (c .before .before .too-short .ensures) ∙ c .before .if1 .left), le-ltb (c .before .before .before .args .blocks) (512 * (((c .before .before .before .args .height / 16 * (c .before .before .before .args .width / 16)) + 124) / 125)) (c .if2 .left))
 

@@ -1,3 +1,5 @@
+-- `job_refusal::wrong_lengths` meets its contract.
+-- Assumes nothing.
 use borrow.Author.Tests.{lt-ltb, le-ltb, eq-eqb, ne-eqb}
 use mathlib.Core.Path.{_≡_, refl, sym, ap, _∙_}
 use borrow.Author.Needs.{needs}
@@ -7,23 +9,18 @@ use Rattle.job_refusal.proofs.wrong_lengths.Reads as reads
 use Rattle.job_refusal.proofs.wrong_lengths.Lts as lts
 use Rattle.search.proofs.refusals.wrong_length.Reads as wrong-length-reads
 
--- src/lib.rt:54:8
 wrong-length-requires : tie.Need-wrong-length-requires
 wrong-length-requires c κs = search needs
 
--- src/lib.rt:55:9
 returns : tie.Need-returns
 returns c = rw (sym (c .before .wrong-length .ensures) ∙ c .if1 .taken)
 
--- src/lib.rt:58:9
 returns-2 : tie.Need-returns-2
 returns-2 c = rw ((sym (c .before .before .wrong-length .ensures) ∙ c .before .if1 .left), ne-eqb (c .before .before .before .args .types) 6 (c .if2 .taken))
 
--- src/lib.rt:61:9
 returns-3 : tie.Need-returns-3
 returns-3 c = rw ((sym (c .before .before .before .wrong-length .ensures) ∙ c .before .before .if1 .left), eq-eqb (c .before .before .before .before .args .types) 6 (c .before .if2 .left), ne-eqb (c .before .before .before .before .args .models) 36 (c .if3 .taken))
 
--- src/lib.rt:41:1
 returns-4 : tie.Need-returns-4
 returns-4 c = rw ((sym (c .before .before .before .wrong-length .ensures) ∙ c .before .before .if1 .left), eq-eqb (c .before .before .before .before .args .types) 6 (c .before .if2 .left), eq-eqb (c .before .before .before .before .args .models) 36 (c .if3 .left))
 

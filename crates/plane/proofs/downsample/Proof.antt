@@ -1,3 +1,5 @@
+-- `plane::downsample` meets its contract.
+-- Assumes nothing.
 use Prim.Native.Nat.{ℕ, _+_, _*_, _/_, _≤_, _<_, _-_}
 use mathlib.Core.Path.{_≡_, refl, ap, _∙_}
 use native.Mathlib.Omega.{arith}
@@ -19,23 +21,18 @@ Inv-loop p width height out₀ half-height r₀ out r = (r ≤ height / 2) × (o
 abbrev μ-loop : tie.MeasureT-loop
 μ-loop p width height out₀ half-height r₀ out r = height / 2 - r
 
--- src/lib.rt:48:5
 loop-holds : tie.Need-loop-holds Inv-loop μ-loop
 loop-holds c = (omega arith, refl, refl)
 
--- src/lib.rt:49:9
 halve-row-requires : tie.Need-halve-row-requires Inv-loop μ-loop
 halve-row-requires c κs = record { narrow = c .before .before .before .before .before .pre .narrow; row-small = omega arith; rows = rows-inside (c .before .before .before .before .before .args .width) (c .before .before .before .before .before .args .height) (c .before .before .loop .r) (length (c .before .before .before .before .before .args .p .now)) (c .before .before .before .before .before .pre .pels) (omega arith); room = room-inside (c .before .before .before .before .before .args .width) (c .before .before .before .before .before .args .height) (c .before .before .loop .r) (c .before .before .before .before .before .pre .room) (c .before .before .loop .inv .2) (omega arith) }
 
--- src/lib.rt:50:9
 add-r : tie.Need-add-r Inv-loop μ-loop
 add-r c = search needs
 
--- src/lib.rt:48:5
 loop-less : tie.Need-loop-less Inv-loop μ-loop
 loop-less c = search needs
 
--- src/lib.rt:48:5
 loop-again : tie.Need-loop-again Inv-loop μ-loop
 loop-again c =
     let w = c .before .before .before .before .before .before .before .before .args .width in (
@@ -47,11 +44,9 @@ loop-again c =
       c .before .before .halve-row .kept .1 .1 .1 .0 ∙ c .before .before .before .before .before .loop .inv .2,
     )
 
--- src/lib.rt:42:1
 same-length : tie.Need-same-length Inv-loop μ-loop
 same-length c = search needs
 
--- src/lib.rt:42:1
 returns : tie.Need-returns Inv-loop μ-loop
 unfolding halfPlane
 returns c =

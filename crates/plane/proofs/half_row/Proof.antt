@@ -1,3 +1,5 @@
+-- `plane::half_row` meets its contract.
+-- Assumes nothing.
 use Prim.Native.Nat.{_≤_, _-_}
 use mathlib.Core.Path.{_≡_, refl}
 use native.Mathlib.Omega.{arith}
@@ -18,71 +20,54 @@ Inv-loop top bottom out₀ c₀ out c = (c ≤ length out₀) × (out ≡ onto (
 abbrev μ-loop : tie.MeasureT-loop
 μ-loop top bottom out₀ c₀ out c = length out₀ - c
 
--- src/lib.rt:20:5
 loop-holds : tie.Need-loop-holds Inv-loop μ-loop
 loop-holds c = (omega arith, refl, refl)
 
--- src/lib.rt:21:20
 mul-left : tie.Need-mul-left Inv-loop μ-loop
 mul-left c = search needs
 
--- src/lib.rt:22:21
 add-right : tie.Need-add-right Inv-loop μ-loop
 add-right c = search needs
 
--- src/lib.rt:23:27
 mul-half-pel : tie.Need-mul-half-pel Inv-loop μ-loop
 mul-half-pel c = search needs
 
--- src/lib.rt:23:27
 shared-slice-read-half-pel : tie.Need-shared-slice-read-half-pel Inv-loop μ-loop
 shared-slice-read-half-pel c = search needs
 
--- src/lib.rt:23:38
 mul-half-pel-2 : tie.Need-mul-half-pel-2 Inv-loop μ-loop
 mul-half-pel-2 c = search needs
 
--- src/lib.rt:23:38
 shared-slice-read-half-pel-2 : tie.Need-shared-slice-read-half-pel-2 Inv-loop μ-loop
 shared-slice-read-half-pel-2 c = search needs
 
--- src/lib.rt:23:50
 mul-half-pel-3 : tie.Need-mul-half-pel-3 Inv-loop μ-loop
 mul-half-pel-3 c = search needs
 
--- src/lib.rt:23:50
 shared-slice-read-half-pel-3 : tie.Need-shared-slice-read-half-pel-3 Inv-loop μ-loop
 shared-slice-read-half-pel-3 c = search needs
 
--- src/lib.rt:23:64
 mul-half-pel-4 : tie.Need-mul-half-pel-4 Inv-loop μ-loop
 mul-half-pel-4 c = search needs
 
--- src/lib.rt:23:64
 shared-slice-read-half-pel-4 : tie.Need-shared-slice-read-half-pel-4 Inv-loop μ-loop
 shared-slice-read-half-pel-4 c = search needs
 
--- src/lib.rt:23:18
 half-pel-requires : tie.Need-half-pel-requires Inv-loop μ-loop
 half-pel-requires c κs = search needs
 
--- src/lib.rt:23:9
 mul-out : tie.Need-mul-out Inv-loop μ-loop
 mul-out c = search needs
 
--- src/lib.rt:23:9
 slice-write-out : tie.Need-slice-write-out Inv-loop μ-loop
 slice-write-out c = search needs
 
--- src/lib.rt:24:9
 add-c : tie.Need-add-c Inv-loop μ-loop
 add-c c = search needs
 
--- src/lib.rt:20:5
 loop-less : tie.Need-loop-less Inv-loop μ-loop
 loop-less c = search needs
 
--- src/lib.rt:20:5
 loop-again : tie.Need-loop-again Inv-loop μ-loop
 loop-again c = (
   omega arith,
@@ -90,11 +75,9 @@ loop-again c = (
   simp length-set (c .before .before .before .before .before .before .loop .inv .2),
 )
 
--- src/lib.rt:15:1
 same-length : tie.Need-same-length Inv-loop μ-loop
 same-length c = search needs
 
--- src/lib.rt:15:1
 returns : tie.Need-returns Inv-loop μ-loop
 returns c = listing-all (halfOfRows (c .before .before .before .before .before .args .top .now) (c .before .before .before .before .before .args .bottom .now)) (c .before .before .before .before .before .args .out .now) {i = c .before .loop .c} (omega arith) refl (c .before .loop .inv .1)
 

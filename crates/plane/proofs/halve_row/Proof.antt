@@ -1,3 +1,5 @@
+-- `plane::halve_row` meets its contract.
+-- Assumes nothing.
 use Prim.Native.Nat.{_+_, _*_, _/_, _-_}
 use mathlib.Core.Path.{_∙_}
 use lib.ListN.{length, take, drop}
@@ -11,87 +13,66 @@ use Rattle.plane.proofs.halve_row.Reads as reads
 use Rattle.plane.proofs.halve_row.Lts as lts
 use Rattle.plane.proofs.half_row.Reads as half-row-reads
 
--- src/lib.rt:36:15
 mul-top : tie.Need-mul-top
 mul-top c = search needs
 
--- src/lib.rt:36:15
 mul-top-2 : tie.Need-mul-top-2
 mul-top-2 c = search needs
 
--- src/lib.rt:37:18
 add-bottom : tie.Need-add-bottom
 add-bottom c = search needs
 
--- src/lib.rt:38:16
 mul-from : tie.Need-mul-from
 mul-from c = search needs
 
--- src/lib.rt:39:14
 mul-half-row : tie.Need-mul-half-row
 mul-half-row c = search needs
 
--- src/lib.rt:39:14
 sub-half-row : tie.Need-sub-half-row
 sub-half-row c = search needs
 
--- src/lib.rt:39:14
 part-half-row-start : tie.Need-part-half-row-start
 part-half-row-start c = search needs
 
--- src/lib.rt:39:14
 part-half-row-end : tie.Need-part-half-row-end
 part-half-row-end c = search needs
 
--- src/lib.rt:39:42
 add-half-row : tie.Need-add-half-row
 add-half-row c = search needs
 
--- src/lib.rt:39:31
 mul-half-row-2 : tie.Need-mul-half-row-2
 mul-half-row-2 c = search needs
 
--- src/lib.rt:39:31
 sub-half-row-2 : tie.Need-sub-half-row-2
 sub-half-row-2 c = search needs
 
--- src/lib.rt:39:31
 part-half-row-start-2 : tie.Need-part-half-row-start-2
 part-half-row-start-2 c = search needs
 
--- src/lib.rt:39:31
 part-half-row-end-2 : tie.Need-part-half-row-end-2
 part-half-row-end-2 c = search needs
 
--- src/lib.rt:39:74
 add-half-row-2 : tie.Need-add-half-row-2
 add-half-row-2 c = search needs
 
--- src/lib.rt:39:59
 mul-half-row-3 : tie.Need-mul-half-row-3
 mul-half-row-3 c = search needs
 
--- src/lib.rt:39:59
 sub-half-row-3 : tie.Need-sub-half-row-3
 sub-half-row-3 c = search needs
 
--- src/lib.rt:39:59
 part-half-row-start-3 : tie.Need-part-half-row-start-3
 part-half-row-start-3 c = search needs
 
--- src/lib.rt:39:59
 part-half-row-end-3 : tie.Need-part-half-row-end-3
 part-half-row-end-3 c = search needs
 
--- src/lib.rt:39:5
 half-row-requires : tie.Need-half-row-requires
 half-row-requires c κs = search needs
 
--- src/lib.rt:31:1
 same-length : tie.Need-same-length
 same-length c = search needs
 
--- src/lib.rt:31:1
 returns : tie.Need-returns
 returns c =
     let w = c .before .before .before .before .before .before .before .before .args .width in

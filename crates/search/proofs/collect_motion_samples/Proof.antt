@@ -1,3 +1,5 @@
+-- `search::collect_motion_samples` meets its contract.
+-- Assumes nothing.
 use Prim.Native.Nat.{ℕ, _+_, _*_, _-_, _/_, _%_, _≤_, _<_}
 use mathlib.Core.List.{List}
 use mathlib.Core.Path.{_≡_, refl, sym, ap, _∙_}
@@ -16,39 +18,30 @@ use Rattle.search.proofs.collect_motion_samples.Lts as lts
 use Rattle.search.proofs.refusals.refusal_of.Reads as refusal-of-reads
 use Rattle.search.proofs.search_into.Reads as search-into-reads
 
--- src/lib.rt:37:9
 refusal-of-requires : tie.Need-refusal-of-requires
 refusal-of-requires c κs = search needs
 
--- src/lib.rt:39:9
 returns : tie.Need-returns
 returns c = done-refused (task (c .before .before .before .before .before .before .before .before .args .input-y .now) (c .before .before .before .before .before .before .before .before .args .ref-y .now) (c .before .before .before .before .before .before .before .before .args .width) (c .before .before .before .before .before .before .before .before .args .height) (c .before .before .before .before .before .before .before .before .args .classes .now)) (lent (c .before .before .before .before .before .before .before .before .args .input-half .now) (c .before .before .before .before .before .before .before .before .args .ref-half .now) (c .before .before .before .before .before .before .before .before .args .words .now)) (c .before .refusal-of .ensures) (c .if1 .taken)
 
--- src/lib.rt:41:19
 mul-samples : tie.Need-mul-samples
 mul-samples c = omega (arith, count-small (c .before .before .before .before .before .before .before .before .args .width) (c .before .before .before .before .before .before .before .before .args .height) (small-sides (c .before .before .before .before .before .before .before .before .args .width) (c .before .before .before .before .before .before .before .before .args .height) (length (c .before .before .before .before .before .before .before .before .args .input-y .now)) (length (c .before .before .before .before .before .before .before .before .args .ref-y .now)) (c .before .before .before .before .before .before .before .before .args .classes .now) (length (c .before .before .before .before .before .before .before .before .args .input-half .now)) (length (c .before .before .before .before .before .before .before .before .args .ref-half .now)) (length (c .before .before .before .before .before .before .before .before .args .words .now)) (sym (c .before .refusal-of .ensures) ∙ c .if1 .left) .narrow) (small-sides (c .before .before .before .before .before .before .before .before .args .width) (c .before .before .before .before .before .before .before .before .args .height) (length (c .before .before .before .before .before .before .before .before .args .input-y .now)) (length (c .before .before .before .before .before .before .before .before .args .ref-y .now)) (c .before .before .before .before .before .before .before .before .args .classes .now) (length (c .before .before .before .before .before .before .before .before .args .input-half .now)) (length (c .before .before .before .before .before .before .before .before .args .ref-half .now)) (length (c .before .before .before .before .before .before .before .before .args .words .now)) (sym (c .before .refusal-of .ensures) ∙ c .if1 .left) .low))
 
--- src/lib.rt:43:9
 returns-2 : tie.Need-returns-2
 returns-2 c = done-none (task (c .before .before .before .before .before .before .before .before .before .args .input-y .now) (c .before .before .before .before .before .before .before .before .before .args .ref-y .now) (c .before .before .before .before .before .before .before .before .before .args .width) (c .before .before .before .before .before .before .before .before .before .args .height) (c .before .before .before .before .before .before .before .before .before .args .classes .now)) (lent (c .before .before .before .before .before .before .before .before .before .args .input-half .now) (c .before .before .before .before .before .before .before .before .before .args .ref-half .now) (c .before .before .before .before .before .before .before .before .before .args .words .now)) (sym (c .before .before .refusal-of .ensures) ∙ c .before .if1 .left) (c .if2 .taken)
 
--- src/lib.rt:45:5
 search-into-requires : tie.Need-search-into-requires
 search-into-requires c κs = ready (c .before .before .before .before .before .before .before .before .before .before .before .before .args .input-y .now) (c .before .before .before .before .before .before .before .before .before .before .before .before .args .ref-y .now) (c .before .before .before .before .before .before .before .before .before .before .before .before .args .width) (c .before .before .before .before .before .before .before .before .before .before .before .before .args .height) (c .before .before .before .before .before .before .before .before .before .before .before .before .args .classes .now) (c .before .before .before .before .before .before .before .before .before .before .before .before .args .input-half .now) (c .before .before .before .before .before .before .before .before .before .before .before .before .args .ref-half .now) (c .before .before .before .before .before .before .before .before .before .before .before .before .args .words .now) (sym (c .before .before .before .before .before .refusal-of .ensures) ∙ c .before .before .before .before .if1 .left) (omega arith)
 
--- src/lib.rt:34:1
 same-length : tie.Need-same-length
 same-length c = search needs
 
--- src/lib.rt:34:1
 same-length-2 : tie.Need-same-length-2
 same-length-2 c = search needs
 
--- src/lib.rt:34:1
 same-length-3 : tie.Need-same-length-3
 same-length-3 c = search needs
 
--- src/lib.rt:34:1
 returns-3 : tie.Need-returns-3
 returns-3 c = done-some (task (c .before .before .before .before .before .before .before .before .before .before .before .before .before .before .before .before .before .before .before .args .input-y .now) (c .before .before .before .before .before .before .before .before .before .before .before .before .before .before .before .before .before .before .before .args .ref-y .now) (c .before .before .before .before .before .before .before .before .before .before .before .before .before .before .before .before .before .before .before .args .width) (c .before .before .before .before .before .before .before .before .before .before .before .before .before .before .before .before .before .before .before .args .height) (c .before .before .before .before .before .before .before .before .before .before .before .before .before .before .before .before .before .before .before .args .classes .now)) (lent (c .before .before .before .before .before .before .before .before .before .before .before .before .before .before .before .before .before .before .before .args .input-half .now) (c .before .before .before .before .before .before .before .before .before .before .before .before .before .before .before .before .before .before .before .args .ref-half .now) (c .before .before .before .before .before .before .before .before .before .before .before .before .before .before .before .before .before .before .before .args .words .now)) (sym (c .before .before .before .before .before .before .before .before .before .before .before .before .refusal-of .ensures) ∙ c .before .before .before .before .before .before .before .before .before .before .before .if1 .left) (c .before .before .before .before .before .before .before .before .before .before .if2 .left) (c .before .before .before .before .before .before .search-into .ensures .0) (c .before .before .before .before .before .before .search-into .ensures .1 .0) (c .before .before .before .before .before .before .search-into .ensures .1 .1)
 

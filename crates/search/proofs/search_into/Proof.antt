@@ -1,3 +1,5 @@
+-- `search::search_into` meets its contract.
+-- Assumes nothing.
 use Prim.Native.Nat.{ℕ, _+_, _*_, _-_, _/_, _%_, _≤_, _<_}
 use mathlib.Core.List.{List}
 use mathlib.Core.Path.{_≡_, refl, sym, ap, _∙_}
@@ -14,51 +16,39 @@ use Rattle.search.proofs.search_into.Lts as lts
 use Rattle.plane.proofs.downsample.Reads as downsample-reads
 use Rattle.search.proofs.blocks.fill_words.Reads as fill-words-reads
 
--- src/lib.rt:28:5
 downsample-requires : tie.Need-downsample-requires
 downsample-requires c κs = search needs
 
--- src/lib.rt:29:5
 downsample-requires-2 : tie.Need-downsample-requires-2
 downsample-requires-2 c κs = search needs
 
--- src/lib.rt:30:16
 mul-half : tie.Need-mul-half
 mul-half c = search needs
 
--- src/lib.rt:31:40
 slice-reshare-prefix-fill-words : tie.Need-slice-reshare-prefix-fill-words
 slice-reshare-prefix-fill-words c = search needs
 
--- src/lib.rt:31:40
 slice-aggregate-fill-words : tie.Need-slice-aggregate-fill-words
 slice-aggregate-fill-words c = half-front-length (c .before .before .before .before .before .before .before .before .before .before .before .before .before .before .before .args .input-y .now) (c .before .before .before .before .before .before .before .before .before .before .before .before .before .before .before .args .width) (c .before .before .before .before .before .before .before .before .before .before .before .before .before .before .before .args .height) (c .before .before .before .before .before .before .before .before .before .before .before .before .before .before .before .args .input-half .now) (c .before .before .before .before .before .before .before .downsample .ensures)
 
--- src/lib.rt:31:61
 slice-reshare-prefix-fill-words-2 : tie.Need-slice-reshare-prefix-fill-words-2
 slice-reshare-prefix-fill-words-2 c = search needs
 
--- src/lib.rt:31:61
 slice-aggregate-fill-words-2 : tie.Need-slice-aggregate-fill-words-2
 slice-aggregate-fill-words-2 c = half-front-length (c .before .before .before .before .before .before .before .before .before .before .before .before .before .before .before .before .args .ref-y .now) (c .before .before .before .before .before .before .before .before .before .before .before .before .before .before .before .before .args .width) (c .before .before .before .before .before .before .before .before .before .before .before .before .before .before .before .before .args .height) (c .before .before .before .before .before .before .before .before .before .before .before .before .before .before .before .before .args .ref-half .now) (c .before .before .before .before .downsample2 .ensures)
 
--- src/lib.rt:31:5
 fill-words-requires : tie.Need-fill-words-requires
 fill-words-requires c κs = (record { narrow = c .before .before .before .before .before .before .before .before .before .before .before .before .before .before .before .before .before .pre .narrow; low = c .before .before .before .before .before .before .before .before .before .before .before .before .before .before .before .before .before .pre .low; input-pels = c .before .before .before .before .before .before .before .before .before .before .before .before .before .before .before .before .before .pre .input-pels; ref-pels = c .before .before .before .before .before .before .before .before .before .before .before .before .before .before .before .before .before .pre .ref-pels; input-halved = half-front (c .before .before .before .before .before .before .before .before .before .before .before .before .before .before .before .before .before .args .input-y .now) (c .before .before .before .before .before .before .before .before .before .before .before .before .before .before .before .before .before .args .width) (c .before .before .before .before .before .before .before .before .before .before .before .before .before .before .before .before .before .args .height) (c .before .before .before .before .before .before .before .before .before .before .before .before .before .before .before .before .before .args .input-half .now) (c .before .before .before .before .before .before .before .before .before .downsample .ensures); ref-halved = half-front (c .before .before .before .before .before .before .before .before .before .before .before .before .before .before .before .before .before .args .ref-y .now) (c .before .before .before .before .before .before .before .before .before .before .before .before .before .before .before .before .before .args .width) (c .before .before .before .before .before .before .before .before .before .before .before .before .before .before .before .before .before .args .height) (c .before .before .before .before .before .before .before .before .before .before .before .before .before .before .before .before .before .args .ref-half .now) (c .before .before .before .before .before .downsample2 .ensures) }, c .before .before .before .before .before .before .before .before .before .before .before .before .before .before .before .before .before .pre .classed)
 
--- src/lib.rt:22:1
 same-length : tie.Need-same-length
 same-length c = search needs
 
--- src/lib.rt:22:1
 same-length-2 : tie.Need-same-length-2
 same-length-2 c = search needs
 
--- src/lib.rt:22:1
 same-length-3 : tie.Need-same-length-3
 same-length-3 c = search needs
 
--- src/lib.rt:22:1
 returns : tie.Need-returns
 returns c = (c .before .before .before .before .before .before .before .before .before .before .before .before .downsample .ensures, (c .before .before .before .before .before .before .before .before .downsample2 .ensures, c .before .before .fill-words .ensures))
 

@@ -1,12 +1,12 @@
+-- `stage::better` meets its contract.
+-- Assumes nothing.
 use borrow.Author.Tests.{lt-ltb, le-ltb}
 use Rattle.stage.proofs.better.Statement.{statement}
 use Rattle.stage.proofs.better.Tie as tie
 
--- src/lib.rt:45:1
 returns : tie.Need-returns
 returns c = rw (lt-ltb (c .before .before .args .cost) (c .before .before .args .best .cost) (c .if1 .taken))
 
--- src/lib.rt:45:1
 returns-2 : tie.Need-returns-2
 returns-2 c = rw (le-ltb (c .before .before .args .cost) (c .before .before .args .best .cost) (c .if1 .left))
 

@@ -1,3 +1,5 @@
+-- `stage::coarse` meets its contract.
+-- Assumes nothing.
 use Prim.Native.Nat.{_-_}
 use mathlib.Core.Path.{_≡_, _∙_}
 use native.Mathlib.Omega.{arith}
@@ -17,31 +19,24 @@ Inv-loop input reference width height r c best₀ k₀ best k = Turns (consider 
 abbrev μ-loop : tie.MeasureT-loop
 μ-loop input reference width height r c best₀ k₀ best k = 625 - k
 
--- src/lib.rt:85:33
 sad-half-requires : tie.Need-sad-half-requires Inv-loop μ-loop
 sad-half-requires c κs = search needs
 
--- src/lib.rt:87:5
 loop-holds : tie.Need-loop-holds Inv-loop μ-loop
 loop-holds c = begins _ _ _
 
--- src/lib.rt:88:9
 coarse-candidate-requires : tie.Need-coarse-candidate-requires Inv-loop μ-loop
 coarse-candidate-requires c κs = search needs
 
--- src/lib.rt:89:9
 add-k : tie.Need-add-k Inv-loop μ-loop
 add-k c = search needs
 
--- src/lib.rt:87:5
 loop-less : tie.Need-loop-less Inv-loop μ-loop
 loop-less c = omega arith
 
--- src/lib.rt:87:5
 loop-again : tie.Need-loop-again Inv-loop μ-loop
 loop-again c = goes-on (c .before .before .loop .inv) (omega arith) (c .coarse-candidate .ensures)
 
--- src/lib.rt:80:1
 returns : tie.Need-returns Inv-loop μ-loop
 returns c =
     let a = c .before .before .before .before .before .args in

@@ -1,3 +1,5 @@
+-- `stage::eighths_candidate` meets its contract.
+-- Assumes nothing.
 use Prim.Native.Nat.{_+_, _*_, _-_, _/_, _%_, _≤_}
 use mathlib.Core.Path.{ap, _∙_}
 use native.Mathlib.Nat.{mul-le-mul-right}
@@ -10,43 +12,33 @@ use borrow.Author.Needs.{needs}
 use Rattle.stage.proofs.eighths_candidate.Statement.{statement}
 use Rattle.stage.proofs.eighths_candidate.Tie as tie
 
--- src/lib.rt:134:9
 returns : tie.Need-returns
 returns c = consider-centre (eighthsCost (c .before .before .before .args .input .now) (c .before .before .before .args .reference .now) (c .before .before .before .args .width) (c .before .before .before .args .height) (c .before .before .before .args .r) (c .before .before .before .args .c)) 1 (c .before .before .before .args .step) (offset 223 (c .before .before .before .args .cy)) (offset 223 (c .before .before .before .args .cx)) (c .before .before .before .args .k) (seen 223 (c .before .before .before .args .best)) (c .if1 .taken)
 
--- src/lib.rt:136:18
 mul-v : tie.Need-mul-v
 mul-v c = omega (arith, mul-le-mul-right (c .before .before .before .args .step) (let q : c .before .before .before .args .k / 3 ≤ 2 = omega arith in q), mul-le-mul-right (c .before .before .before .args .step) (let q : c .before .before .before .args .k % 3 ≤ 2 = omega arith in q))
 
--- src/lib.rt:136:13
 add-v : tie.Need-add-v
 add-v c = omega (arith, mul-le-mul-right (c .before .before .before .args .step) (let q : c .before .before .before .args .k / 3 ≤ 2 = omega arith in q), mul-le-mul-right (c .before .before .before .args .step) (let q : c .before .before .before .args .k % 3 ≤ 2 = omega arith in q))
 
--- src/lib.rt:136:13
 sub-v : tie.Need-sub-v
 sub-v c = omega arith
 
--- src/lib.rt:137:18
 mul-u : tie.Need-mul-u
 mul-u c = omega (arith, mul-le-mul-right (c .before .before .before .args .step) (let q : c .before .before .before .args .k / 3 ≤ 2 = omega arith in q), mul-le-mul-right (c .before .before .before .args .step) (let q : c .before .before .before .args .k % 3 ≤ 2 = omega arith in q))
 
--- src/lib.rt:137:13
 add-u : tie.Need-add-u
 add-u c = omega (arith, mul-le-mul-right (c .before .before .before .args .step) (let q : c .before .before .before .args .k / 3 ≤ 2 = omega arith in q), mul-le-mul-right (c .before .before .before .args .step) (let q : c .before .before .before .args .k % 3 ≤ 2 = omega arith in q))
 
--- src/lib.rt:137:13
 sub-u : tie.Need-sub-u
 sub-u c = omega arith
 
--- src/lib.rt:138:18
 sad-subpel-requires : tie.Need-sad-subpel-requires
 sad-subpel-requires c κs = (search needs, omega (arith, mul-le-mul-right (c .before .before .before .args .step) (let q : c .before .before .before .args .k / 3 ≤ 2 = omega arith in q), mul-le-mul-right (c .before .before .before .args .step) (let q : c .before .before .before .args .k % 3 ≤ 2 = omega arith in q)))
 
--- src/lib.rt:138:5
 better-requires : tie.Need-better-requires
 better-requires c κs = search needs
 
--- src/lib.rt:126:1
 returns-2 : tie.Need-returns-2
 returns-2 c =
     ap (seen 223) (c .better .ensures)

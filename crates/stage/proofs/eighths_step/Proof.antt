@@ -1,3 +1,5 @@
+-- `stage::eighths_step` meets its contract.
+-- Assumes nothing.
 use Prim.Native.Nat.{_-_}
 use mathlib.Core.Path.{_≡_, _∙_}
 use native.Mathlib.Omega.{arith}
@@ -17,27 +19,21 @@ Inv-loop step input reference width height r c cy cx best₀ k₀ best k = Turns
 abbrev μ-loop : tie.MeasureT-loop
 μ-loop step input reference width height r c cy cx best₀ k₀ best k = 9 - k
 
--- src/lib.rt:152:5
 loop-holds : tie.Need-loop-holds Inv-loop μ-loop
 loop-holds c = begins _ _ _
 
--- src/lib.rt:153:9
 eighths-candidate-requires : tie.Need-eighths-candidate-requires Inv-loop μ-loop
 eighths-candidate-requires c κs = search needs
 
--- src/lib.rt:154:9
 add-k : tie.Need-add-k Inv-loop μ-loop
 add-k c = search needs
 
--- src/lib.rt:152:5
 loop-less : tie.Need-loop-less Inv-loop μ-loop
 loop-less c = omega arith
 
--- src/lib.rt:152:5
 loop-again : tie.Need-loop-again Inv-loop μ-loop
 loop-again c = goes-on (c .before .before .loop .inv) (omega arith) (c .eighths-candidate .ensures)
 
--- src/lib.rt:142:1
 returns : tie.Need-returns Inv-loop μ-loop
 returns c =
     let a = c .before .before .before .before .args in

@@ -1,3 +1,5 @@
+-- `stage::full_pel` meets its contract.
+-- Assumes nothing.
 use Prim.Native.Nat.{_-_}
 use mathlib.Core.Path.{_≡_, _∙_}
 use native.Mathlib.Nat.{le-trans}
@@ -18,31 +20,24 @@ Inv-loop cy cx input reference width height r c best₀ k₀ best k = Turns (con
 abbrev μ-loop : tie.MeasureT-loop
 μ-loop cy cx input reference width height r c best₀ k₀ best k = 49 - k
 
--- src/lib.rt:117:33
 sad-int-requires : tie.Need-sad-int-requires Inv-loop μ-loop
 sad-int-requires c κs = search needs
 
--- src/lib.rt:119:5
 loop-holds : tie.Need-loop-holds Inv-loop μ-loop
 loop-holds c = begins _ _ _
 
--- src/lib.rt:120:9
 full-candidate-requires : tie.Need-full-candidate-requires Inv-loop μ-loop
 full-candidate-requires c κs = search needs
 
--- src/lib.rt:121:9
 add-k : tie.Need-add-k Inv-loop μ-loop
 add-k c = search needs
 
--- src/lib.rt:119:5
 loop-less : tie.Need-loop-less Inv-loop μ-loop
 loop-less c = omega arith
 
--- src/lib.rt:119:5
 loop-again : tie.Need-loop-again Inv-loop μ-loop
 loop-again c = goes-on (c .before .before .loop .inv) (omega arith) (c .full-candidate .ensures)
 
--- src/lib.rt:111:1
 returns : tie.Need-returns Inv-loop μ-loop
 returns c =
     let a = c .before .before .before .before .before .args in

@@ -1,3 +1,5 @@
+-- `stage::refine` meets its contract.
+-- Assumes nothing.
 use native.Mathlib.Omega.{arith}
 use borrow.Author.Needs.{needs}
 use Rattle.pels.specs.Clamp.{offset}
@@ -5,23 +7,18 @@ use Rattle.stage.proofs.Stages.{refined-is}
 use Rattle.stage.proofs.refine.Statement.{statement}
 use Rattle.stage.proofs.refine.Tie as tie
 
--- src/lib.rt:165:30
 sad-subpel-requires : tie.Need-sad-subpel-requires
 sad-subpel-requires c κs = search needs
 
--- src/lib.rt:166:9
 eighths-step-requires : tie.Need-eighths-step-requires
 eighths-step-requires c κs = search needs
 
--- src/lib.rt:167:9
 eighths-step-requires-2 : tie.Need-eighths-step-requires-2
 eighths-step-requires-2 c κs = search needs
 
--- src/lib.rt:168:5
 eighths-step-requires-3 : tie.Need-eighths-step-requires-3
 eighths-step-requires-3 c κs = search needs
 
--- src/lib.rt:159:1
 returns : tie.Need-returns
 returns c =
     record {

@@ -1,3 +1,5 @@
+-- `cost::eighths::blend` meets its contract.
+-- Assumes nothing.
 use native.Mathlib.Omega.{arith}
 use borrow.Author.Needs.{needs}
 use Rattle.cost.specs.Cost.{bilinear}
@@ -5,27 +7,21 @@ use Rattle.cost.proofs.Bilinear.{weighted-le}
 use Rattle.cost.proofs.eighths.blend.Statement.{statement}
 use Rattle.cost.proofs.eighths.blend.Tie as tie
 
--- src/eighths.rt:30:9
 weighted-requires : tie.Need-weighted-requires
 weighted-requires c κs = search needs
 
--- src/eighths.rt:31:9
 weighted-requires-2 : tie.Need-weighted-requires-2
 weighted-requires-2 c κs = search needs
 
--- src/eighths.rt:32:7
 weighted-requires-3 : tie.Need-weighted-requires-3
 weighted-requires-3 c κs = omega (arith, weighted-le 65535 (c .before .before .args .p00) (c .before .before .args .p01) (c .before .before .args .fx) (omega arith) (omega arith) (omega arith), weighted-le 65535 (c .before .before .args .p10) (c .before .before .args .p11) (c .before .before .args .fx) (omega arith) (omega arith) (omega arith))
 
--- src/eighths.rt:32:7
 add-result : tie.Need-add-result
 add-result c = omega (arith, weighted-le 524280 (c .before .before .weighted .result) (c .before .weighted2 .result) (c .before .before .before .args .fy) (omega arith) (omega (arith, weighted-le 65535 (c .before .before .before .args .p00) (c .before .before .before .args .p01) (c .before .before .before .args .fx) (omega arith) (omega arith) (omega arith))) (omega (arith, weighted-le 65535 (c .before .before .before .args .p10) (c .before .before .before .args .p11) (c .before .before .before .args .fx) (omega arith) (omega arith) (omega arith))))
 
--- src/eighths.rt:32:5
 cast-result : tie.Need-cast-result
 cast-result c = omega (arith, weighted-le 524280 (c .before .before .weighted .result) (c .before .weighted2 .result) (c .before .before .before .args .fy) (omega arith) (omega (arith, weighted-le 65535 (c .before .before .before .args .p00) (c .before .before .before .args .p01) (c .before .before .before .args .fx) (omega arith) (omega arith) (omega arith))) (omega (arith, weighted-le 65535 (c .before .before .before .args .p10) (c .before .before .before .args .p11) (c .before .before .before .args .fx) (omega arith) (omega arith) (omega arith))))
 
--- src/eighths.rt:26:1
 returns : tie.Need-returns
 unfolding bilinear
 returns c = rw (← c .before .before .weighted .ensures, ← c .before .weighted2 .ensures, ← c .weighted3 .ensures)

@@ -1,3 +1,5 @@
+-- `cost::eighths::row_of_16` meets its contract.
+-- Assumes nothing.
 use Prim.Native.Nat.{_+_, _-_}
 use mathlib.Core.Path.{ap, _∙_}
 use native.Mathlib.Omega.{arith}

@@ -1,62 +1,50 @@
+-- `cost::eighths::sad_subpel` meets its contract.
+-- Assumes nothing.
 use mathlib.Core.Path.{_∙_}
 use borrow.Author.Needs.{needs}
 use Rattle.cost.proofs.Bilinear.{eighths-of-stored}
 use Rattle.cost.proofs.eighths.sad_subpel.Statement.{statement}
 use Rattle.cost.proofs.eighths.sad_subpel.Tie as tie
 
--- src/eighths.rt:129:14
 add-y : tie.Need-add-y
 add-y c = search needs
 
--- src/eighths.rt:130:14
 add-x : tie.Need-add-x
 add-x c = search needs
 
--- src/eighths.rt:131:16
 add-fy : tie.Need-add-fy
 add-fy c = search needs
 
--- src/eighths.rt:131:14
 cast-fy : tie.Need-cast-fy
 cast-fy c = search needs
 
--- src/eighths.rt:132:16
 add-fx : tie.Need-add-fx
 add-fx c = search needs
 
--- src/eighths.rt:132:14
 cast-fx : tie.Need-cast-fx
 cast-fx c = search needs
 
--- src/eighths.rt:133:22
 add-if1 : tie.Need-add-if1
 add-if1 c = search needs
 
--- src/eighths.rt:134:12
 add-if2 : tie.Need-add-if2
 add-if2 c = search needs
 
--- src/eighths.rt:134:12
 add-if2-2 : tie.Need-add-if2-2
 add-if2-2 c = search needs
 
--- src/eighths.rt:134:28
 add-if2-3 : tie.Need-add-if2-3
 add-if2-3 c = search needs
 
--- src/eighths.rt:135:13
 inside-block-requires : tie.Need-inside-block-requires
 inside-block-requires c κs = search needs
 
--- src/eighths.rt:135:13
 returns : tie.Need-returns
 returns c = record { same = c .inside-block .ensures .same ∙ eighths-of-stored (c .before .before .before .before .before .args .input .now) (c .before .before .before .before .before .args .reference .now) (c .before .before .before .before .before .args .width) (c .before .before .before .before .before .args .height) (c .before .before .before .before .before .args .r) (c .before .before .before .before .before .args .c) (c .before .before .before .before .before .args .v) (c .before .before .before .before .before .args .u); small = c .inside-block .ensures .small }
 
--- src/eighths.rt:138:5
 clamped-block-requires : tie.Need-clamped-block-requires
 clamped-block-requires c κs = search needs
 
--- src/eighths.rt:124:1
 returns-2 : tie.Need-returns-2
 returns-2 c = record { same = c .clamped-block .ensures .same ∙ eighths-of-stored (c .before .before .before .before .args .input .now) (c .before .before .before .before .args .reference .now) (c .before .before .before .before .args .width) (c .before .before .before .before .args .height) (c .before .before .before .before .args .r) (c .before .before .before .before .args .c) (c .before .before .before .before .args .v) (c .before .before .before .before .args .u); small = c .clamped-block .ensures .small }
 

@@ -1,26 +1,23 @@
+-- `cost::eighths::weighted` meets its contract.
+-- Assumes nothing.
 use native.Mathlib.Omega.{arith}
 use borrow.Author.Needs.{needs}
 use Rattle.cost.proofs.Bilinear.{weighted-le}
 use Rattle.cost.proofs.eighths.weighted.Statement.{statement}
 use Rattle.cost.proofs.eighths.weighted.Tie as tie
 
--- src/eighths.rt:23:10
 sub-result : tie.Need-sub-result
 sub-result c = search needs
 
--- src/eighths.rt:23:5
 mul-result : tie.Need-mul-result
 mul-result c = omega (arith, weighted-le 524280 (c .args .a) (c .args .b) (c .args .f) (c .pre .f-small) (c .pre .a-small) (c .pre .b-small))
 
--- src/eighths.rt:23:19
 mul-result-2 : tie.Need-mul-result-2
 mul-result-2 c = omega (arith, weighted-le 524280 (c .args .a) (c .args .b) (c .args .f) (c .pre .f-small) (c .pre .a-small) (c .pre .b-small))
 
--- src/eighths.rt:23:5
 add-result : tie.Need-add-result
 add-result c = omega (arith, weighted-le 524280 (c .args .a) (c .args .b) (c .args .f) (c .pre .f-small) (c .pre .a-small) (c .pre .b-small))
 
--- src/eighths.rt:19:1
 returns : tie.Need-returns
 returns c = search needs
 

@@ -1,3 +1,5 @@
+-- `cost::whole::inside_int` meets its contract.
+-- Assumes nothing.
 use Prim.Native.Nat.{_+_, _-_}
 use native.Mathlib.Omega.{arith}
 use borrow.Author.Needs.{needs}

@@ -1,3 +1,5 @@
+-- `cost::whole::row_of_16` meets its contract.
+-- Assumes nothing.
 use Prim.Native.Nat.{_-_}
 use native.Mathlib.Omega.{arith}
 use lib.ListN.{getD}

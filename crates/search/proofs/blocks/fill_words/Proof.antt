@@ -1,3 +1,5 @@
+-- `search::blocks::fill_words` meets its contract.
+-- Assumes nothing.
 use Prim.Native.Nat.{ℕ, _+_, _*_, _-_, _/_, _%_, _≤_, _<_}
 use mathlib.Core.List.{List}
 use mathlib.Core.Path.{_≡_, refl, sym, ap, _∙_}
@@ -25,56 +27,43 @@ abbrev μ-loop : tie.MeasureT-loop
 μ-loop input reference input-half ref-half width height classes words₀ columns samples k₀ words k =
     height / 16 * (width / 16) - k
 
--- src/blocks.rt:35:19
 mul-samples : tie.Need-mul-samples Inv-loop μ-loop
 mul-samples c = omega (arith, count-small (c .before .before .before .before .before .before .args .width) (c .before .before .before .before .before .before .args .height) (c .before .before .before .before .before .before .pre .0 .narrow) (c .before .before .before .before .before .before .pre .0 .low))
 
--- src/blocks.rt:37:5
 loop-holds : tie.Need-loop-holds Inv-loop μ-loop
 loop-holds c = (omega arith, refl, refl)
 
--- src/blocks.rt:38:83
 div-word-at : tie.Need-div-word-at Inv-loop μ-loop
 div-word-at c = omega (arith, factor-pos (c .before .before .before .before .before .before .before .before .args .height / 16) (c .before .before .before .before .before .before .before .before .args .width / 16) (c .before .loop .k) (omega arith))
 
--- src/blocks.rt:38:96
 rem-word-at : tie.Need-rem-word-at Inv-loop μ-loop
 rem-word-at c = omega (arith, factor-pos (c .before .before .before .before .before .before .before .before .args .height / 16) (c .before .before .before .before .before .before .before .before .args .width / 16) (c .before .loop .k) (omega arith))
 
--- src/blocks.rt:38:109
 shared-slice-read-word-at : tie.Need-shared-slice-read-word-at Inv-loop μ-loop
 shared-slice-read-word-at c = omega arith
 
--- src/blocks.rt:38:20
 word-at-requires : tie.Need-word-at-requires Inv-loop μ-loop
 word-at-requires c κs = (c .before .before .before .before .before .before .before .before .before .pre .0, record { row = div-lt-iff-lt-mul (factor-pos (c .before .before .before .before .before .before .before .before .before .args .height / 16) (c .before .before .before .before .before .before .before .before .before .args .width / 16) (c .before .before .loop .k) (omega arith)) .1 (omega arith); column = mod-lt (c .before .before .loop .k) (factor-pos (c .before .before .before .before .before .before .before .before .before .args .height / 16) (c .before .before .before .before .before .before .before .before .before .args .width / 16) (c .before .before .loop .k) (omega arith)); class-small = c .before .before .before .before .before .before .before .before .before .pre .1 .in-range (c .before .before .loop .k) })
 
--- src/blocks.rt:38:9
 mul-words : tie.Need-mul-words Inv-loop μ-loop
 mul-words c = search needs
 
--- src/blocks.rt:38:9
 slice-write-words : tie.Need-slice-write-words Inv-loop μ-loop
 slice-write-words c = omega arith
 
--- src/blocks.rt:39:9
 add-k : tie.Need-add-k Inv-loop μ-loop
 add-k c = search needs
 
--- src/blocks.rt:37:5
 loop-less : tie.Need-loop-less Inv-loop μ-loop
 loop-less c = omega arith
 
--- src/blocks.rt:37:5
 loop-again : tie.Need-loop-again Inv-loop μ-loop
 unfolding sampleWord
 loop-again c = (omega arith, listing-more (sampleWord (c .before .before .before .before .before .before .before .before .before .before .args .input .now) (c .before .before .before .before .before .before .before .before .before .before .args .reference .now) (c .before .before .before .before .before .before .before .before .before .before .args .width) (c .before .before .before .before .before .before .before .before .before .before .args .height) (c .before .before .before .before .before .before .before .before .before .before .args .classes .now)) (c .before .before .before .before .before .before .before .before .before .before .args .words .now) (c .before .before .before .loop .k) (omega arith) (c .before .before .before .loop .inv .1) (c .word-at .ensures), simp length-set (c .before .before .before .loop .inv .2))
 
--- src/blocks.rt:29:1
 same-length : tie.Need-same-length Inv-loop μ-loop
 same-length c = c .before .loop .inv .2
 
--- src/blocks.rt:29:1
 returns : tie.Need-returns Inv-loop μ-loop
 unfolding sampleWords
 returns c = c .before .loop .inv .1 ∙ ap (λ (n : ℕ). onto (listing (sampleWord (c .before .before .before .before .before .before .before .before .args .input .now) (c .before .before .before .before .before .before .before .before .args .reference .now) (c .before .before .before .before .before .before .before .before .args .width) (c .before .before .before .before .before .before .before .before .args .height) (c .before .before .before .before .before .before .before .before .args .classes .now)) n) (c .before .before .before .before .before .before .before .before .args .words .now)) (let e : c .before .loop .k ≡ c .before .before .before .before .before .before .before .before .args .height / 16 * (c .before .before .before .before .before .before .before .before .args .width / 16) = omega arith in e)

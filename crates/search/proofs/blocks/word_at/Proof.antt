@@ -1,3 +1,5 @@
+-- `search::blocks::word_at` meets its contract.
+-- Assumes nothing.
 use Prim.Native.Nat.{ℕ, _+_, _*_, _-_, _/_, _%_, _≤_, _<_}
 use mathlib.Core.List.{List}
 use mathlib.Core.Path.{_≡_, refl, sym, ap, _∙_}
@@ -18,95 +20,72 @@ use Rattle.stage.proofs.coarse.Reads as coarse-reads
 use Rattle.stage.proofs.full_pel.Reads as full-pel-reads
 use Rattle.stage.proofs.refine.Reads as refine-reads
 
--- src/blocks.rt:22:77
 mul-coarse : tie.Need-mul-coarse
 mul-coarse c = search needs
 
--- src/blocks.rt:22:95
 mul-coarse-2 : tie.Need-mul-coarse-2
 mul-coarse-2 c = search needs
 
--- src/blocks.rt:22:9
 coarse-requires : tie.Need-coarse-requires
 coarse-requires c κs = (record { narrow = omega arith; low = omega arith; input-pels = sym (ap length (c .before .before .before .before .pre .0 .input-halved) ∙ length-halfPlane (c .before .before .before .before .args .input .now) (c .before .before .before .before .args .width) (c .before .before .before .before .args .height)); ref-pels = sym (ap length (c .before .before .before .before .pre .0 .ref-halved) ∙ length-halfPlane (c .before .before .before .before .args .reference .now) (c .before .before .before .before .args .width) (c .before .before .before .before .args .height)) }, record { rows = omega arith; columns = omega arith })
 
--- src/blocks.rt:23:32
 mul-full-pel : tie.Need-mul-full-pel
 mul-full-pel c = search needs
 
--- src/blocks.rt:23:32
 add-full-pel : tie.Need-add-full-pel
 add-full-pel c = search needs
 
--- src/blocks.rt:23:59
 mul-full-pel-2 : tie.Need-mul-full-pel-2
 mul-full-pel-2 c = search needs
 
--- src/blocks.rt:23:59
 add-full-pel-2 : tie.Need-add-full-pel-2
 add-full-pel-2 c = search needs
 
--- src/blocks.rt:23:119
 mul-full-pel-3 : tie.Need-mul-full-pel-3
 mul-full-pel-3 c = search needs
 
--- src/blocks.rt:23:132
 mul-full-pel-4 : tie.Need-mul-full-pel-4
 mul-full-pel-4 c = search needs
 
--- src/blocks.rt:23:9
 full-pel-requires : tie.Need-full-pel-requires
 full-pel-requires c κs = search needs
 
--- src/blocks.rt:24:30
 mul-refine : tie.Need-mul-refine
 mul-refine c = search needs
 
--- src/blocks.rt:24:30
 add-refine : tie.Need-add-refine
 add-refine c = search needs
 
--- src/blocks.rt:24:56
 mul-refine-2 : tie.Need-mul-refine-2
 mul-refine-2 c = search needs
 
--- src/blocks.rt:24:56
 add-refine-2 : tie.Need-add-refine-2
 add-refine-2 c = search needs
 
--- src/blocks.rt:24:115
 mul-refine-3 : tie.Need-mul-refine-3
 mul-refine-3 c = search needs
 
--- src/blocks.rt:24:128
 mul-refine-4 : tie.Need-mul-refine-4
 mul-refine-4 c = search needs
 
--- src/blocks.rt:24:9
 refine-requires : tie.Need-refine-requires
 refine-requires c κs = search needs
 
--- src/blocks.rt:25:21
 cast-word-of : tie.Need-cast-word-of
 cast-word-of c = omega (arith, c .before .before .before .before .before .before .before .before .before .before .before .pre .0 .low, c .before .before .before .before .before .before .before .before .before .before .before .pre .1 .row)
 
--- src/blocks.rt:25:33
 cast-word-of-2 : tie.Need-cast-word-of-2
 cast-word-of-2 c = omega (arith, c .before .before .before .before .before .before .before .before .before .before .before .pre .0 .narrow, c .before .before .before .before .before .before .before .before .before .before .before .pre .1 .column)
 
--- src/blocks.rt:25:48
 cast-word-of-3 : tie.Need-cast-word-of-3
 cast-word-of-3 c = search needs
 
--- src/blocks.rt:25:63
 cast-word-of-4 : tie.Need-cast-word-of-4
 cast-word-of-4 c = search needs
 
--- src/blocks.rt:25:5
 word-of-requires : tie.Need-word-of-requires
 word-of-requires c κs = omega (arith, c .before .before .before .before .before .before .before .before .before .before .before .before .before .pre .0 .low, c .before .before .before .before .before .before .before .before .before .before .before .before .before .pre .0 .narrow, c .before .before .before .before .before .before .before .before .before .before .before .before .before .pre .1 .row, c .before .before .before .before .before .before .before .before .before .before .before .before .before .pre .1 .column, c .before .before .before .before .before .before .before .before .before .before .before .before .before .pre .1 .class-small, c .before .before .refine .ensures .y-last, c .before .before .refine .ensures .x-last)
 
--- src/blocks.rt:17:1
 returns : tie.Need-returns
 returns c =
     let e = motion-is (c .before .before .before .before .before .before .before .before .before .before .before .before .before .before .args .input .now) (c .before .before .before .before .before .before .before .before .before .before .before .before .before .before .args .reference .now) (c .before .before .before .before .before .before .before .before .before .before .before .before .before .before .args .width) (c .before .before .before .before .before .before .before .before .before .before .before .before .before .before .args .height) (c .before .before .before .before .before .before .before .before .before .before .before .before .before .before .args .row) (c .before .before .before .before .before .before .before .before .before .before .before .before .before .before .args .column) (c .before .before .before .before .before .before .before .before .before .coarse .result) (c .before .before .before .before .before .before .full-pel .result) (c .before .before .before .refine .result) (rw (c .before .before .before .before .before .before .before .before .before .before .before .before .before .before .pre .0 .input-halved, c .before .before .before .before .before .before .before .before .before .before .before .before .before .before .pre .0 .ref-halved) at (c .before .before .before .before .before .before .before .before .before .coarse .ensures .same)) (c .before .before .before .before .before .before .full-pel .ensures .same) (c .before .before .before .refine .ensures .same) in

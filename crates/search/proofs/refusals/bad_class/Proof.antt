@@ -1,3 +1,5 @@
+-- `search::refusals::bad_class` meets its contract.
+-- Assumes nothing.
 use mathlib.Core.Path.{_≡_, refl, sym, ap, _∙_}
 use native.Mathlib.Nat.{mul-le-mul}
 use native.Mathlib.Omega.{arith}
@@ -20,32 +22,25 @@ Inv-loop classes k₀ k = (k ≤ length classes) × (any (ltb 3) (drop k classes
 abbrev μ-loop : tie.MeasureT-loop
 μ-loop classes k₀ k = length classes - k
 
--- src/refusals.rt:38:5
 loop-holds : tie.Need-loop-holds Inv-loop μ-loop
 loop-holds c = (omega arith, refl)
 
--- src/refusals.rt:39:25
 shared-slice-read-if1 : tie.Need-shared-slice-read-if1 Inv-loop μ-loop
 shared-slice-read-if1 c = search needs
 
--- src/refusals.rt:40:13
 returns : tie.Need-returns Inv-loop μ-loop
 unfolding badClass
 returns c = sym (any-here (ltb 3) (c .before .before .before .before .args .classes .now) (c .before .before .before .loop .k) (omega arith) (c .before .before .before .loop .inv .1) (lt-ltb 3 (getD (c .before .before .before .before .args .classes .now) (c .before .before .before .loop .k) 0) (c .if1 .taken)))
 
--- src/refusals.rt:42:9
 add-k : tie.Need-add-k Inv-loop μ-loop
 add-k c = search needs
 
--- src/refusals.rt:38:5
 loop-less : tie.Need-loop-less Inv-loop μ-loop
 loop-less c = omega arith
 
--- src/refusals.rt:38:5
 loop-again : tie.Need-loop-again Inv-loop μ-loop
 loop-again c = (omega arith, any-later (ltb 3) (c .before .before .before .before .args .classes .now) (c .before .before .before .loop .k) (omega arith) (c .before .before .before .loop .inv .1) (le-ltb 3 (getD (c .before .before .before .before .args .classes .now) (c .before .before .before .loop .k) 0) (c .if1 .left)))
 
--- src/refusals.rt:34:1
 returns-2 : tie.Need-returns-2 Inv-loop μ-loop
 unfolding badClass
 returns-2 c = any-never (ltb 3) (c .before .before .args .classes .now) (c .before .loop .k) (omega arith) (c .before .loop .inv .1)

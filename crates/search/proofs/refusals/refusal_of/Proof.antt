@@ -1,3 +1,5 @@
+-- `search::refusals::refusal_of` meets its contract.
+-- Assumes nothing.
 use Prim.Native.Nat.{ℕ, _+_, _*_, _-_, _/_, _%_, _≤_, _<_}
 use mathlib.Core.List.{List}
 use mathlib.Core.Path.{_≡_, refl, sym, ap, _∙_}
@@ -17,43 +19,34 @@ use Rattle.search.proofs.refusals.too_large.Reads as too-large-reads
 use Rattle.search.proofs.refusals.too_short.Reads as too-short-reads
 use Rattle.search.proofs.refusals.wrong_length.Reads as wrong-length-reads
 
--- src/refusals.rt:69:8
 too-large-requires : tie.Need-too-large-requires
 too-large-requires c κs = search needs
 
--- src/refusals.rt:70:9
 returns : tie.Need-returns
 unfolding verdict
 returns c = rw (sym (c .before .too-large .ensures) ∙ c .if1 .taken)
 
--- src/refusals.rt:72:8
 wrong-length-requires : tie.Need-wrong-length-requires
 wrong-length-requires c κs = small (c .before .before .before .before .before .args .width) (c .before .before .before .before .before .args .height) (sym (c .before .too-large .ensures) ∙ c .if1 .left)
 
--- src/refusals.rt:73:9
 returns-2 : tie.Need-returns-2
 unfolding verdict
 returns-2 c = rw ((sym (c .before .before .before .too-large .ensures) ∙ c .before .before .if1 .left), (sym (c .before .wrong-length .ensures) ∙ c .if2 .taken))
 
--- src/refusals.rt:75:8
 bad-class-requires : tie.Need-bad-class-requires
 bad-class-requires c κs = search needs
 
--- src/refusals.rt:76:9
 returns-3 : tie.Need-returns-3
 unfolding verdict
 returns-3 c = rw ((sym (c .before .before .before .before .before .too-large .ensures) ∙ c .before .before .before .before .if1 .left), (sym (c .before .before .before .wrong-length .ensures) ∙ c .before .before .if2 .left), (sym (c .before .bad-class .ensures) ∙ c .if3 .taken))
 
--- src/refusals.rt:78:8
 too-short-requires : tie.Need-too-short-requires
 too-short-requires c κs = small (c .before .before .before .before .before .before .before .before .before .args .width) (c .before .before .before .before .before .before .before .before .before .args .height) (sym (c .before .before .before .before .before .too-large .ensures) ∙ c .before .before .before .before .if1 .left)
 
--- src/refusals.rt:79:9
 returns-4 : tie.Need-returns-4
 unfolding verdict
 returns-4 c = rw ((sym (c .before .before .before .before .before .before .before .too-large .ensures) ∙ c .before .before .before .before .before .before .if1 .left), (sym (c .before .before .before .before .before .wrong-length .ensures) ∙ c .before .before .before .before .if2 .left), (sym (c .before .before .before .bad-class .ensures) ∙ c .before .before .if3 .left), (sym (c .before .too-short .ensures) ∙ c .if4 .taken))
 
--- src/refusals.rt:66:1
 returns-5 : tie.Need-returns-5
 unfolding verdict
 returns-5 c = rw ((sym (c .before .before .before .before .before .before .before .too-large .ensures) ∙ c .before .before .before .before .before .before .if1 .left), (sym (c .before .before .before .before .before .wrong-length .ensures) ∙ c .before .before .before .before .if2 .left), (sym (c .before .before .before .bad-class .ensures) ∙ c .before .before .if3 .left), (sym (c .before .too-short .ensures) ∙ c .if4 .left))

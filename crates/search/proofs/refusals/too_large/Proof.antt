@@ -1,3 +1,5 @@
+-- `search::refusals::too_large` meets its contract.
+-- Assumes nothing.
 use mathlib.Core.Path.{_≡_, refl, ap, _∙_}
 use native.Mathlib.Nat.{mul-le-mul}
 use native.Mathlib.Omega.{arith}
@@ -8,11 +10,9 @@ use Rattle.search.proofs.refusals.too_large.Tie as tie
 use Rattle.search.proofs.refusals.too_large.Reads as reads
 use Rattle.search.proofs.refusals.too_large.Lts as lts
 
--- src/refusals.rt:16:9
 returns : tie.Need-returns
 returns c = rw (lt-ltb 1024 (c .before .args .width) (c .if1 .taken))
 
--- src/refusals.rt:12:1
 returns-2 : tie.Need-returns-2
 returns-2 c = rw (le-ltb 1024 (c .before .args .width) (c .if1 .left))
 

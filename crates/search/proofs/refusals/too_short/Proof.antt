@@ -1,3 +1,5 @@
+-- `search::refusals::too_short` meets its contract.
+-- Assumes nothing.
 use Prim.Native.Nat.{ℕ, _+_, _*_, _-_, _/_, _%_, _≤_, _<_}
 use mathlib.Core.List.{List}
 use mathlib.Core.Path.{_≡_, refl, sym, ap, _∙_}
@@ -12,27 +14,21 @@ use Rattle.search.proofs.refusals.too_short.Tie as tie
 use Rattle.search.proofs.refusals.too_short.Reads as reads
 use Rattle.search.proofs.refusals.too_short.Lts as lts
 
--- src/refusals.rt:51:19
 mul-samples : tie.Need-mul-samples
 mul-samples c = omega (arith, count-small (c .args .width) (c .args .height) (c .pre .narrow) (c .pre .low))
 
--- src/refusals.rt:53:9
 returns : tie.Need-returns
 returns c = rw (le-ltb 0 (c .before .args .height / 16 * (c .before .args .width / 16)) (omega arith))
 
--- src/refusals.rt:55:16
 mul-half : tie.Need-mul-half
 mul-half c = omega (arith, half-small (c .before .args .width) (c .before .args .height) (c .before .pre .narrow) (c .before .pre .low))
 
--- src/refusals.rt:57:9
 returns-2 : tie.Need-returns-2
 returns-2 c = rw (lt-ltb 0 (c .before .before .args .height / 16 * (c .before .before .args .width / 16)) (omega arith), lt-ltb (c .before .before .args .input-half) (c .before .before .args .height / 2 * (c .before .before .args .width / 2)) (c .if2 .taken))
 
--- src/refusals.rt:60:9
 returns-3 : tie.Need-returns-3
 returns-3 c = rw (lt-ltb 0 (c .before .before .before .args .height / 16 * (c .before .before .before .args .width / 16)) (omega arith), le-ltb (c .before .before .before .args .input-half) (c .before .before .before .args .height / 2 * (c .before .before .before .args .width / 2)) (c .before .if2 .left), lt-ltb (c .before .before .before .args .ref-half) (c .before .before .before .args .height / 2 * (c .before .before .before .args .width / 2)) (c .if3 .taken))
 
--- src/refusals.rt:47:1
 returns-4 : tie.Need-returns-4
 returns-4 c = rw (lt-ltb 0 (c .before .before .before .args .height / 16 * (c .before .before .before .args .width / 16)) (omega arith), le-ltb (c .before .before .before .args .input-half) (c .before .before .before .args .height / 2 * (c .before .before .before .args .width / 2)) (c .before .if2 .left), le-ltb (c .before .before .before .args .ref-half) (c .before .before .before .args .height / 2 * (c .before .before .before .args .width / 2)) (c .if3 .left))
 

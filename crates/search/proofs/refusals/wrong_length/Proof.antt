@@ -1,3 +1,5 @@
+-- `search::refusals::wrong_length` meets its contract.
+-- Assumes nothing.
 use mathlib.Core.Path.{_≡_, refl, ap, _∙_}
 use native.Mathlib.Nat.{mul-le-mul}
 use native.Mathlib.Omega.{arith}
@@ -10,27 +12,21 @@ use Rattle.search.proofs.refusals.wrong_length.Tie as tie
 use Rattle.search.proofs.refusals.wrong_length.Reads as reads
 use Rattle.search.proofs.refusals.wrong_length.Lts as lts
 
--- src/refusals.rt:25:17
 mul-if1 : tie.Need-mul-if1
 mul-if1 c = omega (arith, area-small (c .args .width) (c .args .height) (c .pre .narrow) (c .pre .low))
 
--- src/refusals.rt:26:9
 returns : tie.Need-returns
 returns c = rw (ne-eqb (c .before .args .input) (c .before .args .height * c .before .args .width) (c .if1 .taken))
 
--- src/refusals.rt:28:21
 mul-if2 : tie.Need-mul-if2
 mul-if2 c = search needs
 
--- src/refusals.rt:29:9
 returns-2 : tie.Need-returns-2
 returns-2 c = rw (eq-eqb (c .before .before .args .input) (c .before .before .args .height * c .before .before .args .width) (c .before .if1 .left), ne-eqb (c .before .before .args .reference) (c .before .before .args .height * c .before .before .args .width) (c .if2 .taken))
 
--- src/refusals.rt:31:16
 mul-result : tie.Need-mul-result
 mul-result c = omega (arith, count-small (c .before .before .args .width) (c .before .before .args .height) (c .before .before .pre .narrow) (c .before .before .pre .low))
 
--- src/refusals.rt:21:1
 returns-3 : tie.Need-returns-3
 returns-3 c = rw (eq-eqb (c .before .before .args .input) (c .before .before .args .height * c .before .before .args .width) (c .before .if1 .left), eq-eqb (c .before .before .args .reference) (c .before .before .args .height * c .before .before .args .width) (c .if2 .left))
 
