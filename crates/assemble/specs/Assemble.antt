@@ -1,9 +1,8 @@
 -- Seven models in rising order of reference, from six others and the one at its reference: document 01, 'Job'.
 -- Assumes nothing.
-use Prim.Native.Nat.{ℕ, _*_, _-_, _≤_, _<_}
+use Prim.Native.Nat.{ℕ, _*_, _-_, _≤_}
 use mathlib.Core.List.{List, [], _∷_, _++_}
-use mathlib.Core.Path.{_≡_}
-use lib.ListN.{length, take, drop}
+use lib.ListN.{take, drop}
 
 -- a list with xs at place k
 abbrev pub inserted : {A : Type 0} → ℕ → List A → List A → List A

@@ -1,17 +1,16 @@
 -- A field that was written is read back, takes as many bits as it has, and is put together from two.
 -- Assumes nothing.
 use Prim.Native.Nat.{ℕ, zero, suc, _+_, _-_, _*_, _/_, _%_, _^_, _≤_, _<_}
-use mathlib.Core.List.{List, [], _∷_, _++_}
+use mathlib.Core.List.{List}
 use mathlib.Core.Path.{_≡_, refl, ap, sym, _∙_, subst}
 use native.Mathlib.Nat.{add-zero, le-mul-of-pos-right, le-refl, mod-eq-of-lt, pow-suc, mod-one, mul-add-mod-self-right}
-use native.Mathlib.Numerals.{add-one}
 use native.Mathlib.Omega.{arith}
 use lib.ListN.{length}
 use lib.Arith.{digits-lt}
 use lib.Dec.{lit<}
 use lib.Pow.{high, mod-pow-add, pow-mono, pow-pos}
 use Rattle.bits.specs.Bits.{bitOf, putBit, putBits, Holds, AreBits}
-use Rattle.bits.specs.Fields.{field, fieldBits, padBits, padding}
+use Rattle.bits.specs.Fields.{field, fieldBits, padding}
 use Rattle.bits.proofs.Byte.{bitOf-lt, bit-from-low}
 
 pub length-fieldBits : (n v : ℕ) → length (fieldBits n v) ≡ n

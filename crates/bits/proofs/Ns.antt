@@ -1,8 +1,8 @@
 -- ns(n): what was written is read back and takes its bits, what is read is a symbol, and its code is the bits that were read.
 -- Assumes nothing.
-use Prim.Native.Nat.{ℕ, zero, suc, _+_, _-_, _*_, _/_, _%_, _^_, _≤_, _<_}
+use Prim.Native.Nat.{ℕ, zero, suc, _+_, _-_, _*_, _/_, _^_, _≤_, _<_}
 use mathlib.Core.Bool.{Bool, true, false}
-use mathlib.Core.List.{List, [], _∷_, _++_}
+use mathlib.Core.List.{List}
 use mathlib.Core.Path.{_≡_, refl, ap, sym, _∙_, subst}
 use native.Mathlib.Decide.{decLt, ℕ-discrete}
 use native.Mathlib.Nat.{le-refl, pow-suc}
@@ -14,7 +14,7 @@ use lib.Pow.{pow-mono}
 use Rattle.laws.specs.Refusal.{choose}
 use Rattle.bits.specs.Bits.{Holds, AreBits}
 use Rattle.bits.specs.Fields.{field, fieldBits}
-use Rattle.bits.specs.Ns.{Taken, halvings, bitLength, shortCodes, nsBits, ns}
+use Rattle.bits.specs.Ns.{halvings, bitLength, shortCodes, nsBits, ns}
 use Rattle.bits.proofs.Fields.{length-fieldBits, fieldBits-are-bits, field-read, field-lt, field-last, field-again}
 
 -- x is below 2 ^ w and not below 2 ^ (w - 1)

@@ -1,6 +1,6 @@
 -- What a reading method of the cursor returns: a number, and the cursor behind it.
 -- Assumes nothing.
-use Prim.Native.Nat.{ℕ, _+_, _≤_, _<_}
+use Prim.Native.Nat.{ℕ, _≤_, _<_}
 use mathlib.Core.Path.{_≡_}
 use Rattle.bits.specs.declared.Read.{Read}
 use Rattle.bits.specs.declared.NsWidth.{NsWidth}

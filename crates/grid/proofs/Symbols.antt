@@ -1,19 +1,19 @@
 -- Symbols and numbers are inverse to each other, and a prior in range has its place among the symbols.
 -- Assumes nothing.
-use Prim.Native.Nat.{ℕ, zero, suc, _+_, _*_, _-_, _/_, _^_, _≤_, _<_}
+use Prim.Native.Nat.{ℕ, suc, _+_, _*_, _-_, _/_, _^_, _≤_, _<_}
 use mathlib.Core.Bool.{Bool, true, false}
 use mathlib.Core.Path.{_≡_, refl, sym, ap, _∙_}
 use native.Mathlib.Nat.{zero-mul, one-mul, add-mul, mul-assoc, div-lt-iff-lt-mul}
 use native.Mathlib.Omega.{arith}
 use borrow.Author.Tests.{ltb-false}
 use lib.Dec.{ltb, eqb}
-use lib.IntN.{ℤ, pos, negsuc, natAbs, subℕ, _+ℤ_, _-ℤ_, -ℤ-+ℤ-cancel, +ℤ-negℤ-cancel}
+use lib.IntN.{ℤ, pos, negsuc, natAbs, _+ℤ_, _-ℤ_, -ℤ-+ℤ-cancel, +ℤ-negℤ-cancel}
 use lib.Pow.{pow-pos, pow-add}
 use lib.Signed.{shrZ}
 use Rattle.laws.specs.Refusal.{choose, either}
 use Rattle.laws.proofs.Floor.{floor-steps}
-use Rattle.laws.proofs.Signed.{subℕ-pos, natAbs-add-le, natAbs-subℕ}
-use Rattle.grid.specs.Grid.{step, number, Ordinal, Codable, ordinalOf, quantize, translational, absBits, precBits, centre}
+use Rattle.laws.proofs.Signed.{subℕ-pos, natAbs-add-le}
+use Rattle.grid.specs.Grid.{step, number, Ordinal, Codable, ordinalOf, quantize, absBits, precBits, centre}
 use Rattle.grid.specs.Symbols.{symbols, numberOf, symbolOf, lessOf, placeNumber, placeOf, priorReach, priorOut}
 use Rattle.grid.proofs.Nearest.{ordinal-in-range}
 use Rattle.grid.proofs.Signs.{apart-of}

@@ -10,7 +10,7 @@ use lib.IntN.{ℤ}
 use lib.ListN.{length}
 use Rattle.laws.specs.Refusal.{either}
 use Rattle.laws.proofs.Refusal.{neither, length-is, quiet}
-use Rattle.legal.specs.Models.{typesOver, modelsWrong, priorsOut}
+use Rattle.models.specs.Models.{priorsOut}
 use Rattle.header.specs.Contracts.{HeaderReady}
 use Rattle.header.specs.Writing.{headerBits, lengthsWrong, bytesFor, placed, writeRows, writeRefusal, written, headerAfter}
 use Rattle.header.proofs.RoundTrip.{Writable}

@@ -1,21 +1,20 @@
 -- A coefficient that was written is read back, takes exactly its bits, and a coefficient read is codable.
 -- Assumes nothing.
-use Prim.Native.Nat.{ℕ, suc, _+_, _-_, _*_, _^_, _≤_, _<_}
+use Prim.Native.Nat.{ℕ, _-_, _*_, _≤_, _<_}
 use mathlib.Core.Bool.{false}
-use mathlib.Core.List.{List}
-use mathlib.Core.Path.{_≡_, refl, ap, sym, subst, _∙_}
+use mathlib.Core.Path.{_≡_, ap, _∙_}
 use native.Mathlib.Omega.{arith}
 use lib.IntN.{ℤ}
 use lib.ListN.{length}
 use Rattle.bits.specs.Bits.{Holds, AreBits}
 use Rattle.bits.specs.Ns.{Taken}
 use Rattle.subexp.specs.Coefficient.{symbol, symbolBits}
-use Rattle.subexp.proofs.Coefficient.{symbol-read, symbol-within, symbol-again, symbol-all, symbolBits-are-bits, four-bits-at-least, twice-absBits-less-one-at-most}
+use Rattle.subexp.proofs.Coefficient.{symbol-read, symbol-within, symbolBits-are-bits, four-bits-at-least, twice-absBits-less-one-at-most}
 use Rattle.grid.specs.Grid.{absBits, precBits, centre, Codable}
 use Rattle.grid.specs.Symbols.{symbols, symbolOf, numberOf, priorOut}
-use Rattle.grid.proofs.Symbols.{symbol-below, symbol-stands, number-codable, number-symbol, row-place-below}
+use Rattle.grid.proofs.Symbols.{symbol-below, symbol-stands, number-codable, row-place-below}
 use Rattle.grid.proofs.Table.{absBits-range}
-use Rattle.header.specs.Coefficient.{ReadNumber, place, coefficient, coefficientBits}
+use Rattle.header.specs.Coefficient.{place, coefficient, coefficientBits}
 
 module _ (gmType flag slot : ℕ) where
   abs : ℕ

@@ -1,20 +1,20 @@
 -- A reference that was written is read back: its type, its six numbers, and exactly its bits.
 -- Assumes nothing.
-use Prim.Native.Nat.{ℕ, zero, suc, _+_, _*_, _≤_, _<_}
+use Prim.Native.Nat.{ℕ, zero, suc, _+_, _≤_, _<_}
 use mathlib.Core.Bool.{Bool, true, false}
 use mathlib.Core.List.{List, [], _∷_, _++_}
-use mathlib.Core.Path.{_≡_, refl, ap, sym, subst, _∙_}
+use mathlib.Core.Path.{_≡_, refl, subst}
 use native.Mathlib.Omega.{arith}
 use lib.Dec.{eqb, lit<, lit≤}
-use lib.IntN.{ℤ, pos, negℤ}
+use lib.IntN.{ℤ}
 use lib.ListN.{length, length-append}
 use Rattle.laws.specs.Refusal.{choose}
 use Rattle.bits.specs.Bits.{Holds, AreBits}
 use Rattle.bits.proofs.Buffer.{holds-front, holds-back, bits-append}
 use Rattle.grid.specs.Grid.{absBits, precBits, centre, Codable}
-use Rattle.legal.specs.Models.{carries, filler}
-use Rattle.header.specs.Coefficient.{ReadNumber, coefficient, coefficientBits}
-use Rattle.header.specs.Reading.{ReadModel, ReadPair, pairRead, typeRead, typeLength, identityRead, translationRead, rotzoomRead, affineRead, modelRead, referenceRead}
+use Rattle.models.specs.Models.{carries, filler}
+use Rattle.header.specs.Coefficient.{coefficient, coefficientBits}
+use Rattle.header.specs.Reading.{pairRead, typeRead, typeLength, translationRead, rotzoomRead, affineRead, modelRead, referenceRead}
 use Rattle.header.specs.Valid.{ValidModel, ValidPrior, sixOf}
 use Rattle.header.specs.Writing.{slotOf, typeBits, pairBits, modelBits, referenceBits}
 use Rattle.header.proofs.Coefficient.{coefficient-read, coefficientBits-are-bits, at-most-23-bits}

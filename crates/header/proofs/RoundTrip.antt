@@ -1,28 +1,28 @@
 -- What was written is read back: the same models and the same count, at the start where it was written; and how long a header is at most.
 -- Assumes nothing.
-use Prim.Native.Nat.{ℕ, zero, suc, _+_, _-_, _*_, _/_, _%_, _≤_, _<_}
+use Prim.Native.Nat.{ℕ, zero, suc, _+_, _-_, _*_, _%_, _≤_, _<_}
 use mathlib.Core.Bool.{Bool, true, false, not}
-use mathlib.Core.List.{List, [], _∷_, _++_}
+use mathlib.Core.List.{List, _∷_, _++_}
 use mathlib.Core.Path.{_≡_, refl, ap, sym, subst, _∙_}
 use native.Mathlib.Numerals.{add-one}
 use native.Mathlib.Omega.{arith}
 use borrow.Author.Tests.{ltb-false}
-use lib.Dec.{lit<, lit≤}
+use lib.Dec.{lit≤}
 use lib.IntN.{ℤ, pos}
 use lib.ListN.{length, getD, take, drop, length-append}
 use lib.Seq.{take-all, take-add, drop-cons, drop-drop}
 use Rattle.laws.specs.Refusal.{choose}
 use Rattle.laws.proofs.Below.{each-fails}
-use Rattle.bits.specs.Bits.{Holds, AreBits, bitAt, putBits}
+use Rattle.bits.specs.Bits.{Holds, AreBits, bitAt}
 use Rattle.bits.specs.Fields.{padBits, padding}
 use Rattle.bits.proofs.Buffer.{bitAt-lt, holds-front, holds-back, bits-append, putBits-holds}
-use Rattle.bits.proofs.Fields.{fieldBits-are-bits, length-fieldBits, padding-lt}
+use Rattle.bits.proofs.Fields.{fieldBits-are-bits, length-fieldBits}
 use Rattle.grid.specs.Grid.{absBits, precBits, centre, Codable, quantized}
 use Rattle.grid.proofs.Table.{row-codable}
-use Rattle.legal.specs.Integers.{equal}
-use Rattle.legal.specs.Models.{carries, filler, slotWrong, slotAt, modelWrong, modelAt, modelsWrong, priorAt, priorsOut, typeAt, typesOver}
-use Rattle.legal.proofs.Integers.{same-equal}
-use Rattle.header.specs.Reading.{ReadModel, ReadModels, referenceRead, referencesRead, modelsRead}
+use Rattle.models.specs.Integers.{equal}
+use Rattle.models.specs.Models.{carries, filler, slotWrong, slotAt, modelWrong, modelAt, modelsWrong, priorAt, priorsOut, typeAt, typesOver}
+use Rattle.models.proofs.Integers.{same-equal}
+use Rattle.header.specs.Reading.{referenceRead, referencesRead, modelsRead}
 use Rattle.header.specs.Valid.{ValidModel, ValidPrior, sixOf}
 use Rattle.header.specs.Writing.{slotOf, referenceBits, referencesBits, headerBits, placed, bytesFor}
 use Rattle.header.proofs.Reference.{reference-back, reference-bits, at-most-141-bits}

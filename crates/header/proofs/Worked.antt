@@ -1,17 +1,17 @@
 -- The worked values of document 01 that are marked *: the quantizations, the coefficients' codes and the header of 17 bits.
 -- Assumes nothing.
 use Prim.Native.Nat.{ℕ}
-use mathlib.Core.List.{List, [], _∷_, _++_}
+use mathlib.Core.List.{List, [], _∷_}
 use mathlib.Core.Path.{_≡_, refl}
 use lib.IntN.{ℤ, pos, negsuc}
-use lib.ListN.{length, replicate}
+use lib.ListN.{replicate}
 use Rattle.grid.specs.Grid.{quantized, quantize, nearestOrdinal}
 use Rattle.grid.specs.Symbols.{symbolOf, placeOf}
 use Rattle.bits.specs.Bits.{putBit}
 use Rattle.bits.specs.Ns.{bitLength, nsBits}
 use Rattle.subexp.specs.Ladder.{subexpBits}
 use Rattle.subexp.specs.Recenter.{codeOf}
-use Rattle.legal.specs.Models.{typesOver, modelsWrong, modelWrong, slotWrong, filler, priorsOut}
+use Rattle.models.specs.Models.{typesOver, modelsWrong, modelWrong, slotWrong, filler, priorsOut}
 use Rattle.header.specs.Coefficient.{coefficientBits}
 use Rattle.header.specs.Writing.{headerBits, referenceBits, pairBits, writeRefusal, written, headerAfter}
 

@@ -1,6 +1,6 @@
 -- One coefficient of a model in the header: its bits, and what is read. Document 01, 'Header' and 'Reading by the standard'; clause 5.9.25.
 -- Assumes nothing.
-use Prim.Native.Nat.{ℕ, _+_}
+use Prim.Native.Nat.{ℕ}
 use mathlib.Core.List.{List}
 use lib.IntN.{ℤ}
 use Rattle.subexp.specs.Coefficient.{symbol, symbolBits}

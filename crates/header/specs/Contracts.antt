@@ -9,7 +9,7 @@ use lib.ListN.{length}
 use Rattle.bits.specs.Fields.{fieldBits}
 use Rattle.grid.specs.Grid.{absBits, precBits, centre}
 use Rattle.grid.specs.Symbols.{symbols, symbolOf, priorOut}
-use Rattle.legal.specs.Models.{priorsOut}
+use Rattle.models.specs.Models.{priorsOut}
 use Rattle.header.specs.Coefficient.{place}
 use Rattle.header.specs.Valid.{ValidPrior}
 use Rattle.header.specs.Writing.{typeBits}

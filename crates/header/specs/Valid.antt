@@ -7,7 +7,7 @@ use mathlib.Core.Path.{_≡_}
 use lib.IntN.{ℤ}
 use Rattle.grid.specs.Grid.{absBits, precBits, centre, Codable}
 use Rattle.grid.specs.Symbols.{priorOut}
-use Rattle.legal.specs.Models.{carries, filler}
+use Rattle.models.specs.Models.{carries, filler}
 use Rattle.header.specs.Writing.{slotOf}
 
 -- the six numbers that begin at `first`

@@ -10,7 +10,7 @@ use lib.ListN.{length, getD}
 use Rattle.laws.specs.Refusal.{Row, row, choose, either, judge}
 use Rattle.bits.specs.Bits.{putBits}
 use Rattle.bits.specs.Fields.{padBits}
-use Rattle.legal.specs.Models.{typesOver, modelsWrong, priorsOut}
+use Rattle.models.specs.Models.{typesOver, modelsWrong, priorsOut}
 use Rattle.header.specs.Coefficient.{coefficientBits}
 use Rattle.header.specs.declared.Written.{Written}
 

@@ -286,16 +286,16 @@ fn refusal_of(types: &[u8], params: &[i32], flag: u8, prior: &[i32], room: usize
     if lengths_wrong(types.len(), params.len(), prior.len()) {
         return 2;
     }
-    if legal::types_over(types) {
+    if models::types_over(types) {
         return 4;
     }
     if 1 < flag {
         return 4;
     }
-    if legal::models_wrong(types, flag, params) {
+    if models::models_wrong(types, flag, params) {
         return 7;
     }
-    if legal::priors_out(prior) {
+    if models::priors_out(prior) {
         return 8;
     }
     if too_short(types, flag, params, prior, room) {

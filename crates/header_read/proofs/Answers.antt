@@ -14,7 +14,7 @@ use Rattle.laws.specs.Refusal.{row}
 use Rattle.laws.proofs.Cases.{outcome, lt-or-le}
 use Rattle.laws.proofs.Refusal.{judge-hit}
 use Rattle.bits.specs.Bits.{bitAt}
-use Rattle.legal.specs.Models.{priorsOut}
+use Rattle.models.specs.Models.{priorsOut}
 use Rattle.header.specs.Reading.{ReadModels, referencesRead, modelsRead}
 use Rattle.header_read.specs.Called.{readRefusal, noModels, answerOf, within, models}
 use Rattle.header_read.specs.Contracts.{PriorsReady, SevenIs}

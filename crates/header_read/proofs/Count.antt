@@ -10,7 +10,7 @@ use lib.IntN.{ℤ}
 use lib.ListN.{length, getD, length-append}
 use Rattle.laws.specs.Loops.{sum}
 use Rattle.laws.specs.Refusal.{choose}
-use Rattle.legal.specs.Models.{priorsOut}
+use Rattle.models.specs.Models.{priorsOut}
 use Rattle.grid.specs.Grid.{absBits}
 use Rattle.header.specs.Coefficient.{coefficientBits}
 use Rattle.header.specs.Reading.{slotsOf, modelsRead}

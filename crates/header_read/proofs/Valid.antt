@@ -16,8 +16,8 @@ use Rattle.bits.specs.Bits.{bitAt}
 use Rattle.bits.proofs.Buffer.{bitAt-lt}
 use Rattle.grid.specs.Grid.{absBits, precBits, centre, Codable, quantized}
 use Rattle.grid.proofs.Table.{row-own}
-use Rattle.legal.specs.Models.{carries, filler, slotWrong, slotAt, modelWrong, modelAt, modelsWrong, priorsOut, typeAt, typesOver}
-use Rattle.legal.proofs.Integers.{equal-same}
+use Rattle.models.specs.Models.{carries, filler, slotWrong, slotAt, modelWrong, modelAt, modelsWrong, priorsOut, typeAt, typesOver}
+use Rattle.models.proofs.Integers.{equal-same}
 use Rattle.header.specs.Coefficient.{coefficient}
 use Rattle.header.specs.Reading.{ReadModel, pairRead, typeRead, typeLength, identityRead, translationRead, rotzoomRead, affineRead, modelRead, referenceRead, modelsRead}
 use Rattle.header.specs.Valid.{ValidModel, ValidPrior}

@@ -8,7 +8,7 @@ use Rattle.bits.specs.Ns.{bitLength, ns}
 use Rattle.subexp.specs.Ladder.{subexp}
 use Rattle.subexp.specs.Recenter.{symbolOf}
 use Rattle.grid.specs.Symbols.{placeOf}
-use Rattle.legal.specs.Models.{priorsOut}
+use Rattle.models.specs.Models.{priorsOut}
 use Rattle.header.specs.Coefficient.{coefficient}
 use Rattle.header.specs.Reading.{pairRead, translationRead, rotzoomRead, affineRead, referenceRead, modelsRead}
 use Rattle.header_read.specs.Called.{readRefusal, noModels, models}

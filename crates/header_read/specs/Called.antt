@@ -7,7 +7,7 @@ use lib.Dec.{ltb, eqb}
 use lib.IntN.{ℤ, pos}
 use lib.ListN.{length, replicate}
 use Rattle.laws.specs.Refusal.{row, choose, judge}
-use Rattle.legal.specs.Models.{priorsOut}
+use Rattle.models.specs.Models.{priorsOut}
 use Rattle.header.specs.Reading.{ReadModels, modelsRead}
 use Rattle.header_read.specs.declared.Models.{Models}
 use Rattle.header_read.specs.declared.Seven.{Seven}

@@ -7,7 +7,7 @@ use mathlib.Core.List.{List, []}
 use lib.IntN.{ℤ, natAbs}
 use lib.ListN.{length, set}
 use Rattle.laws.specs.Placed.{placed}
-use Rattle.legal.specs.Models.{priorsOut}
+use Rattle.models.specs.Models.{priorsOut}
 use Rattle.header.specs.Coefficient.{ReadNumber}
 use Rattle.header.specs.Reading.{ReadPair, ReadModel, ReadModels, typeRead, typeLength}
 use Rattle.header.specs.Valid.{ValidPrior}

@@ -408,7 +408,7 @@ pub fn read_global_motion_params(header: &[u8], at: usize, flag: u8, prior: &[i3
     if 1 < flag {
         return no_models(NO_SUCH_CODE);
     }
-    if legal::priors_out(prior) {
+    if models::priors_out(prior) {
         return no_models(PRIOR_OUT);
     }
     read_from(header, at, flag, prior)

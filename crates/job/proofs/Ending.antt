@@ -1,43 +1,41 @@
 -- The steps of a job, one after the other, make its outcome: refused before the search, refused by the fit, or accepted.
 -- Assumes nothing.
-use Prim.Native.Nat.{ℕ, _+_, _*_, _≤_, _<_}
+use Prim.Native.Nat.{ℕ, _≤_}
 use mathlib.Core.Bool.{Bool, true, false}
 use mathlib.Core.List.{List, [], _∷_}
 use mathlib.Core.Logic.{_⊎_, ⊎-elim}
 use mathlib.Core.Path.{_≡_, refl, sym, ap, _∙_}
 use native.Mathlib.Omega.{arith}
-use borrow.Author.Tests.{ne-eqb, eq-eqb, le-ltb, lt-ltb}
-use lib.Dec.{eqb, ltb}
-use lib.IntN.{ℤ, pos}
+use borrow.Author.Tests.{ne-eqb, lt-ltb}
+use lib.Dec.{ltb}
+use lib.IntN.{ℤ}
 use lib.ListN.{length, take, length-take}
 use Rattle.laws.specs.Buffer.{onto}
-use Rattle.laws.specs.Refusal.{choose, both}
+use Rattle.laws.specs.Refusal.{choose}
 use Rattle.laws.proofs.Buffer.{onto-front}
 use Rattle.laws.proofs.Cases.{eq-or-ne}
 use Rattle.search.specs.declared.Searched.{Searched}
-use Rattle.search.specs.Search.{sampleCount, sampleWords}
 use Rattle.search.specs.Refusal as search
 use Rattle.fit.specs.Fitted.{refusalOf}
 use Rattle.block.specs.Frame.{blocksLeft, frameBytes, storeRefusal}
 use Rattle.block.proofs.Answers.{written-accepted}
-use Rattle.header.specs.declared.Written.{Written}
 use Rattle.header.specs.Writing.{written, headerAfter, placed}
-use Rattle.job_refusal.specs.declared.Settings.{Settings}
-use Rattle.job_refusal.specs.Task.{Task, Lent, lend, roomOf, searchTask, searchLent}
-use Rattle.job_refusal.specs.Rows.{early}
-use Rattle.job_refusal.specs.Ready.{Sound, Ready}
-use Rattle.job_refusal.proofs.Accepted.{ready}
+use Rattle.job_task.specs.declared.Settings.{Settings}
+use Rattle.job_task.specs.Task.{Task, Lent, lend, roomOf, searchTask, searchLent}
+use Rattle.job_task.specs.Rows.{early}
+use Rattle.job_task.specs.Ready.{Sound, Ready}
+use Rattle.job_task.proofs.Accepted.{ready}
 use Rattle.job_model.specs.declared.Modelled.{Modelled}
 use Rattle.job_model.specs.Modelled.{Modelling, modelled, modelledAs, notModelled}
 use Rattle.job_model.proofs.FitOfType.{refusal-or-six}
-use Rattle.job_laws.specs.declared.Report.{Report}
-use Rattle.job_laws.specs.Outcome.{Ended, ended, samples, words, types, models, bits, fitIn, refusal, refused, accepted, searched, leftBySearch, leftByJob, outcome}
-use Rattle.job_laws.specs.Done.{Done}
-use Rattle.job_laws.proofs.Demand3.{done}
-use Rattle.job_laws.proofs.Table.{before, not-six, late-fit, late-unfit}
-use Rattle.job_laws.proofs.Samples.{words-length, words-few}
-use Rattle.job_laws.proofs.Blocks.{stored}
-use Rattle.job_laws.proofs.Written.{bits-written, header-written}
+use Rattle.job_outcome.specs.declared.Report.{Report}
+use Rattle.job_outcome.specs.Outcome.{Ended, ended, samples, words, types, models, bits, fitIn, refusal, refused, accepted, searched, leftBySearch, leftByJob, outcome}
+use Rattle.job_outcome.specs.Done.{Done}
+use Rattle.job_outcome.proofs.Demand3.{done}
+use Rattle.job_outcome.proofs.Table.{before, not-six, late-fit, late-unfit}
+use Rattle.job_outcome.proofs.Samples.{words-length, words-few}
+use Rattle.job_outcome.proofs.Blocks.{stored}
+use Rattle.job_outcome.proofs.Written.{bits-written, header-written}
 use Rattle.job.specs.Finished.{reportOf, modelOf, finished, blocksFinished, headerFinished}
 
 -- ---- the search of a job that is ready

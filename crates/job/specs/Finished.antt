@@ -7,13 +7,12 @@ use lib.IntN.{ℤ}
 use lib.ListN.{length}
 use Rattle.laws.specs.Refusal.{choose}
 use Rattle.block.specs.Frame.{blocksLeft}
-use Rattle.header.specs.declared.Written.{Written}
 use Rattle.header.specs.Writing.{written, headerAfter}
-use Rattle.job_refusal.specs.declared.Settings.{Settings}
+use Rattle.job_task.specs.declared.Settings.{Settings}
 use Rattle.job_model.specs.declared.Modelled.{Modelled}
 use Rattle.job_model.specs.Modelled.{modelled}
-use Rattle.job_laws.specs.declared.Report.{Report}
-use Rattle.job_laws.specs.Outcome.{refused}
+use Rattle.job_outcome.specs.declared.Report.{Report}
+use Rattle.job_outcome.specs.Outcome.{refused}
 
 -- the report of a model, of the bits written and of the samples
 abbrev pub reportOf : Modelled → ℕ → ℕ → Report

@@ -1,19 +1,19 @@
 // The job (document 01, 'Job'): search, sample words, fit for the type asked for, grid, score, then the
 // blocks and the header with the model at its reference. In go a frame pair, the settings, a class for
 // each sample, the six other types and models, and the prior; lent are two half planes, words, blocks
-// and header. It calls the public calls alone; its rows are in the crate `job_refusal`.
-use job_laws::Report;
+// and header. It calls the public calls alone; its rows are in the crate `job_task`.
 use job_model::Modelled;
-use job_refusal::Settings;
+use job_outcome::Report;
+use job_task::Settings;
 ghost use mathlib.Core.Path.{_≡_};
 ghost use lib.ListN.{length};
 ghost use Rattle.block.specs.Frame.{blocksLeft};
 ghost use Rattle.header.specs.Writing.{written, headerAfter};
-ghost use Rattle.job_refusal.specs.Task.{task, lend, roomOf};
-ghost use Rattle.job_refusal.specs.Rows.{early};
+ghost use Rattle.job_task.specs.Task.{task, lend, roomOf};
+ghost use Rattle.job_task.specs.Rows.{early};
 ghost use Rattle.job_model.specs.Modelled.{Modelling};
-ghost use Rattle.job_laws.specs.Outcome.{refused, ended, outcome};
-ghost use Rattle.job_laws.specs.Done.{Done};
+ghost use Rattle.job_outcome.specs.Outcome.{refused, ended, outcome};
+ghost use Rattle.job_outcome.specs.Done.{Done};
 ghost use Rattle.job.specs.Finished.{reportOf, finished, blocksFinished, headerFinished};
 
 fn refused(number: u32) -> Report
@@ -146,7 +146,7 @@ pub fn job(
 ) -> Report
     ensures { λ r. ⌜ Done (task (now (input .entry)) (now (reference .entry)) width height settings (now (classes .entry)) (now (types .entry)) (now (models .entry)) (now (prior .entry))) (lend (now («input_half» .entry)) (now («ref_half» .entry)) (now (words .entry)) (now (blocks .entry)) (now (header .entry))) (ended r (lend (now («input_half» .exit)) (now («ref_half» .exit)) (now (words .exit)) (now (blocks .exit)) (now (header .exit)))) ⌝ }
 {
-    let refusal = job_refusal::refusal_of(
+    let refusal = job_task::refusal_of(
         input,
         reference,
         width,

@@ -1,19 +1,17 @@
 -- The steps of a job's model, one after the other, make the definition.
 -- Assumes nothing.
-use Prim.Native.Nat.{ℕ, _≤_}
+use Prim.Native.Nat.{ℕ}
 use mathlib.Core.List.{List}
-use mathlib.Core.Path.{_≡_, refl, sym, ap, _∙_}
+use mathlib.Core.Path.{_≡_, sym, ap, _∙_}
 use borrow.Author.Tests.{ne-eqb}
 use lib.IntN.{ℤ}
-use lib.ListN.{length}
 use Rattle.fit.specs.declared.Fitted.{Fitted}
 use Rattle.fit.specs.Fitted.{fitOf, fitted, refusalOf}
-use Rattle.model.specs.declared.Score.{Score}
-use Rattle.model.specs.Score.{meanSqResidual}
+use Rattle.score.specs.declared.Score.{Score}
+use Rattle.score.specs.Score.{meanSqResidual}
 use Rattle.quantize.specs.declared.Quantized.{Quantized}
 use Rattle.quantize.specs.Quantize.{params, quantizedModel, rowFirst}
 use Rattle.assemble.specs.Assemble.{typesWith, modelsWith}
-use Rattle.job_model.specs.declared.Modelled.{Modelled}
 use Rattle.job_model.specs.Modelled.{Modelling, WithFit, modelled, modelledAs, notModelled}
 use Rattle.job_model.proofs.FitOfType.{fit-answers, grid-answers}
 

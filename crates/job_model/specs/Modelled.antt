@@ -11,7 +11,7 @@ use Rattle.laws.specs.Refusal.{choose}
 use Rattle.laws.specs.Binary64.{nought}
 use Rattle.fit.specs.declared.Fitted.{Fitted}
 use Rattle.fit.specs.Fitted.{fitOf, refusalOf}
-use Rattle.model.specs.Score.{meanSqResidual}
+use Rattle.score.specs.Score.{meanSqResidual}
 use Rattle.quantize.specs.Quantize.{params, rowFirst}
 use Rattle.assemble.specs.Assemble.{typesWith, modelsWith, Reference}
 use Rattle.job_model.specs.declared.Modelled.{Modelled}

@@ -67,7 +67,7 @@ fn with_model(
     let q = quantize::quantize_model(fitted, flag, words);
     let own = q.params;
     let stored = quantize::row_first(gm_type, own);
-    let score = model::mean_sq_residual(own, words);
+    let score = score::mean_sq_residual(own, words);
     let seven = assemble::types_with(types, reference, gm_type);
     let all = assemble::models_with(models, reference, stored);
     Modelled {

@@ -1,8 +1,8 @@
 -- What is written from the front leaves the rest, and its length.
 -- Assumes nothing.
-use Prim.Native.Nat.{ℕ, _+_, _≤_, _-_}
-use mathlib.Core.List.{List, [], _++_}
-use mathlib.Core.Path.{_≡_, refl}
+use Prim.Native.Nat.{_≤_, _-_}
+use mathlib.Core.List.{List}
+use mathlib.Core.Path.{_≡_}
 use native.Mathlib.Omega.{arith}
 use lib.ListN.{length, take, drop, length-append, length-drop}
 use lib.Seq.{take-append-seam, drop-append-seam}

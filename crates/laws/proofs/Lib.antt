@@ -1,5 +1,6 @@
 pub mod Loops
 pub mod Refusal
+pub mod Call
 pub mod Buffer
 pub mod Fold
 pub mod Cases

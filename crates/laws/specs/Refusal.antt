@@ -1,6 +1,6 @@
 -- The table of refusals: rows of a number and a condition, of which the first that holds is the answer, 0 for none.
 -- Assumes nothing.
-use Prim.Native.Nat.{ℕ}
+use Prim.Native.Nat.{ℕ, zero, suc}
 use mathlib.Core.Bool.{Bool, true, false}
 use mathlib.Core.List.{List, [], _∷_}
 use mathlib.Core.Path.{_≡_}
@@ -21,6 +21,11 @@ choose false a b = b
 abbrev pub judge : List Row → ℕ
 judge [] = 0
 judge (r ∷ rs) = choose (r .holds) (r .number) (judge rs)
+
+-- the first refusal, or the second where the first is none: a table in groups of rows
+abbrev pub orElse : ℕ → ℕ → ℕ
+orElse zero b = b
+orElse (suc a) b = suc a
 
 abbrev pub either : Bool → Bool → Bool
 either true b = true

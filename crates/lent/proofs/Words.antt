@@ -7,7 +7,7 @@ use lib.IntN.{ℤ}
 use lib.ListN.{length-map}
 use Rattle.laws.specs.Loops.{fold}
 use Rattle.sample.specs.Sample.{sampleOf}
-use Rattle.model.specs.Score.{continuousModel, scoreStep, meanSqResidual}
+use Rattle.score.specs.Score.{continuousModel, scoreStep, meanSqResidual}
 use Rattle.lent.specs.Score.{scoreOfSamples}
 
 -- a list read element by element is folded as the list of what was read

@@ -3,8 +3,8 @@
 use mathlib.Core.List.{List}
 use lib.IntN.{ℤ}
 use Rattle.sample.specs.declared.MotionSample.{MotionSample}
-use Rattle.model.specs.declared.Score.{Score}
-use Rattle.model.specs.Score.{continuousModel, scored}
+use Rattle.score.specs.declared.Score.{Score}
+use Rattle.score.specs.Score.{continuousModel, scored}
 
 abbrev pub scoreOfSamples : List ℤ → List MotionSample → Score
 scoreOfSamples p xs = scored (λ (s : MotionSample). s) (continuousModel p) xs

@@ -8,8 +8,8 @@
 use bits::BitCursor;
 use bits::Read;
 use header_read::Models;
-use model::Score;
 use sample::MotionSample;
+use score::Score;
 ghost use Prim.Native.Nat.{_+_, _^_, _≤_, _<_};
 ghost use mathlib.Core.Path.{_≡_};
 ghost use lib.ListN.{take};
@@ -146,14 +146,14 @@ pub fn read_models(bytes: &[u8], at: usize, flag: u8, prior: &[i32]) -> Models
 pub fn mean_sq_residual(params: [i32; 6], samples: &[MotionSample]) -> Score
     ensures { λ r. ⌜ r ≡ scoreOfSamples params (now (samples .entry)) ⌝ }
 {
-    let m = model::continuous_of_params(params);
+    let m = score::continuous_of_params(params);
     let mut acc = 0.0;
     let mut i = 0usize;
     while i < samples.len() {
-        acc = model::score_step(m, acc, samples[i]);
+        acc = score::score_step(m, acc, samples[i]);
         i += 1;
     }
-    model::score_of(acc, samples.len())
+    score::score_of(acc, samples.len())
 }
 
 // The score of the first n of samples in an array, for callers that have no lent slice of samples.

@@ -1,19 +1,18 @@
 -- What an accepted call says, and that exchanging slots 0 and 1 twice is nothing.
 -- Assumes nothing.
-use Prim.Native.Nat.{ℕ, zero, suc, _≤_, _<_}
+use Prim.Native.Nat.{ℕ, zero, suc, _≤_}
 use mathlib.Core.Bool.{Bool, true, false}
 use mathlib.Core.List.{List, [], _∷_}
-use mathlib.Core.Path.{_≡_, refl, sym, ap, _∙_}
+use mathlib.Core.Path.{_≡_, refl, sym, _∙_}
 use native.Mathlib.Omega.{arith}
 use borrow.Author.Tests.{ne-eqb, eqb-false, ltb-false}
 use lib.Dec.{eqb, ltb}
 use lib.IntN.{ℤ}
 use lib.ListN.{length}
-use Rattle.laws.specs.Refusal.{row, judge, choose}
+use Rattle.laws.specs.Refusal.{row, choose}
 use Rattle.laws.proofs.Refusal.{quiet}
 use Rattle.fit.specs.declared.Fitted.{Fitted}
 use Rattle.fit.specs.Fitted.{typeOf, tooMany, mostSamples}
-use Rattle.model.specs.Score.{slot}
 use Rattle.quantize.specs.declared.Quantized.{Quantized}
 use Rattle.quantize.specs.Quantize.{params, acceptedModel, rejectedModel, noModel, quantizeRefusal, quantizedModel, exchange, rowFirst}
 

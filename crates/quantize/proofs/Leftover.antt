@@ -9,7 +9,7 @@ use Rattle.sample.specs.declared.MotionSample.{MotionSample}
 use Rattle.sample.specs.Sample.{sampleOf}
 use Rattle.fit.specs.declared.TranslationSums.{TranslationSums}
 use Rattle.fit.specs.Sums.{reading, plus}
-use Rattle.model.specs.declared.ContinuousModel.{ContinuousModel}
+use Rattle.score.specs.declared.ContinuousModel.{ContinuousModel}
 use Rattle.quantize.specs.Quantize.{leftU, leftV, refitStep, refitSums}
 
 module _ (m : ContinuousModel) where

@@ -11,10 +11,9 @@ use Rattle.grid.specs.Grid.{absBits, precBits, centre, quantized, quantize, ord
 use Rattle.grid.proofs.Table.{row-nearest}
 use Rattle.fit.specs.declared.Fitted.{Fitted}
 use Rattle.fit.specs.declared.Fitted.the-variants.{Refused, Translation, RotZoom, Affine}
-use Rattle.fit.specs.Fitted.{typeOf, modelOf}
+use Rattle.fit.specs.Fitted.{typeOf}
 use Rattle.grid_number.specs.GridNumber.{gridNumber}
-use Rattle.model.specs.Score.{slot}
-use Rattle.quantize.specs.declared.Motion.{Motion}
+use Rattle.score.specs.Score.{slot}
 use Rattle.quantize.specs.Quantize.{linearOf, refitted, params, slotOf}
 use Rattle.quantize.specs.OnGrid.{gridNumberAt, HasGridNumber, NearestAt}
 use Rattle.quantize.proofs.OppositeSlots.{slot-four-opposite}

@@ -1,25 +1,21 @@
 -- Every quantized model is on the grid of its type, with its uncarried slots and its pair right; each of its numbers is the nearest codable one to the fitted model's grid number.
 -- Assumes nothing.
-use Prim.Native.Nat.{ℕ, zero, suc, _≤_, _<_, zero-le}
+use Prim.Native.Nat.{ℕ, zero, suc, _<_, zero-le}
 use mathlib.Core.List.{List, [], _∷_}
-use mathlib.Core.Logic.{_⊎_, ⊎-elim}
-use mathlib.Core.Path.{_≡_, refl, sym, ap, _∙_, subst}
+use mathlib.Core.Path.{_≡_, refl, subst}
 use native.Mathlib.Omega.{arith}
 use lib.IntN.{ℤ, pos, negℤ}
-use lib.Ieee.{Float, nan, neg}
-use Rattle.grid.specs.Grid.{absBits, precBits, centre, number, quantized, quantize, ordinalOf, Codable, Ordinal}
-use Rattle.grid.specs.Nearest.{Nearest}
-use Rattle.grid.proofs.Table.{row-codable, row-nearest, row-negative}
+use lib.Ieee.{Float}
+use Rattle.grid.specs.Grid.{absBits, precBits, centre, quantized, Codable}
+use Rattle.grid.proofs.Table.{row-codable, row-negative}
 use Rattle.fit.specs.declared.Fitted.{Fitted}
 use Rattle.fit.specs.declared.Fitted.the-variants.{Refused, Translation, RotZoom, Affine}
-use Rattle.fit.specs.Fitted.{typeOf, modelOf}
+use Rattle.fit.specs.Fitted.{typeOf}
 use Rattle.grid_number.specs.GridNumber.{gridNumber}
-use Rattle.model.specs.Score.{slot}
-use Rattle.quantize.specs.declared.Linear.{Linear}
+use Rattle.score.specs.Score.{slot}
 use Rattle.quantize.specs.declared.Motion.{Motion}
 use Rattle.quantize.specs.Quantize.{linearOf, refitted, paramsOf, params, slotOf}
-use Rattle.quantize.specs.OnGrid.{IdentityLinear, Pair, OnGrid, gridNumberAt, HasGridNumber, NearestAt}
-use Rattle.quantize.proofs.OppositeSlots.{slot-four-opposite}
+use Rattle.quantize.specs.OnGrid.{OnGrid}
 
 -- ---- any property of the six slots
 

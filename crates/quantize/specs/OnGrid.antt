@@ -7,14 +7,14 @@ use mathlib.Core.Path.{_≡_}
 use lib.Dec.{eqb}
 use lib.IntN.{ℤ, pos, negℤ}
 use lib.ListN.{length, getD}
-use lib.Ieee.{Float, nan}
+use lib.Ieee.{nan}
 use Rattle.laws.specs.Refusal.{choose}
 use Rattle.grid.specs.Grid.{absBits, precBits, centre, number, Codable}
 use Rattle.grid.specs.Nearest.{Nearest}
 use Rattle.fit.specs.declared.Fitted.{Fitted}
 use Rattle.fit.specs.Fitted.{typeOf, modelOf}
 use Rattle.grid_number.specs.GridNumber.{gridNumber}
-use Rattle.model.specs.Score.{slot}
+use Rattle.score.specs.Score.{slot}
 use Rattle.quantize.specs.Quantize.{linearOf, refitted}
 
 -- slots 2 to 5 of the identity

@@ -7,7 +7,7 @@ use lib.Dec.{ltb, eqb}
 use lib.IntN.{ℤ, pos, negℤ}
 use lib.ListN.{length, replicate, set}
 use lib.Ieee.{Float}
-use Rattle.laws.specs.Refusal.{row, judge, choose, either}
+use Rattle.laws.specs.Refusal.{row, judge, choose}
 use Rattle.laws.specs.Binary64.{_⊕_, _⊖_, _⊗_, _⊘_, nought, one}
 use Rattle.grid.specs.Grid.{quantized}
 use Rattle.sample.specs.declared.MotionSample.{MotionSample}
@@ -16,12 +16,12 @@ use Rattle.fit.specs.declared.Fitted.the-variants.{Refused, Translation, RotZoo
 use Rattle.fit.specs.declared.TranslationSums.{TranslationSums}
 use Rattle.fit.specs.Sums.{plus, sumOf, countOf}
 use Rattle.fit.specs.Fitted.{typeOf, tooMany}
-use Rattle.model.specs.declared.ContinuousModel.{ContinuousModel}
+use Rattle.score.specs.declared.ContinuousModel.{ContinuousModel}
 use Rattle.quantize.specs.declared.Linear.{Linear}
 use Rattle.quantize.specs.declared.Motion.{Motion}
 use Rattle.quantize.specs.declared.Quantized.{Quantized}
 use Rattle.grid_number.specs.GridNumber.{gridNumber}
-use Rattle.model.specs.Score.{continuousOf, slot}
+use Rattle.score.specs.Score.{continuousOf, slot}
 
 -- the nearest codable number of a slot to a number's grid number
 abbrev pub slotOf : ℕ → ℕ → ℕ → Float → ℤ

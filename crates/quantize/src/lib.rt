@@ -3,8 +3,8 @@
 // 'Header' (the row-first exchange), rows 1 and 4, and to `quantize_model` (encoder/global_motion.rs).
 use fit::Fitted;
 use fit::TranslationSums;
-use model::ContinuousModel;
 use sample::MotionSample;
+use score::ContinuousModel;
 ghost use mathlib.Core.Path.{_≡_};
 ghost use Prim.Native.Nat.{_≤_};
 ghost use lib.IntN.{natAbs};
@@ -118,10 +118,10 @@ fn continuous_linear(l: Linear) -> ContinuousModel
     ContinuousModel {
         m0: 0.0,
         m1: 0.0,
-        m2: model::continuous_of(l.p2),
-        m3: model::continuous_of(l.p3),
-        m4: model::continuous_of(l.p4),
-        m5: model::continuous_of(l.p5),
+        m2: score::continuous_of(l.p2),
+        m3: score::continuous_of(l.p3),
+        m4: score::continuous_of(l.p4),
+        m5: score::continuous_of(l.p5),
     }
 }
 

@@ -1,10 +1,10 @@
 -- How a search ends: refused, with no samples, or with its buffers written.
 -- Assumes nothing.
-use Prim.Native.Nat.{ℕ, _<_}
+use Prim.Native.Nat.{ℕ}
 use mathlib.Core.List.{List}
-use mathlib.Core.Path.{_≡_, refl, sym, _∙_}
+use mathlib.Core.Path.{_≡_, _∙_}
 use native.Mathlib.Omega.{arith}
-use borrow.Author.Tests.{lt-ltb, le-ltb, eq-eqb, ne-eqb}
+use borrow.Author.Tests.{lt-ltb, le-ltb, ne-eqb}
 use Rattle.laws.specs.Buffer.{onto}
 use Rattle.plane.specs.Plane.{halfPlane}
 use Rattle.search.specs.Search.{sampleCount, sampleWords}

@@ -2,7 +2,7 @@
 -- Assumes nothing.
 use Prim.Native.Nat.{ℕ, _+_, _*_, _/_, _≤_}
 use mathlib.Core.List.{List}
-use mathlib.Core.Path.{_≡_, refl, sym, ap, _∙_}
+use mathlib.Core.Path.{_≡_, refl, ap, _∙_}
 use native.Mathlib.Omega.{arith}
 use lib.IntN.{ℤ, pos, _+ℤ_, _*ℤ_, natAbs}
 use Rattle.plane.specs.Plane.{halfPlane}
@@ -10,7 +10,7 @@ use Rattle.pels.specs.Clamp.{offset}
 use Rattle.pels.specs.Difference.{difference}
 use Rattle.cost.specs.Cost.{eighthsCost}
 use Rattle.pels.proofs.Offset.{offset-add, offset-magnitude}
-use Rattle.stage.specs.Stage.{Found, coarse, fullPel, eighthsStep, refined, priced}
+use Rattle.stage.specs.Stage.{coarse, fullPel, eighthsStep, refined, priced}
 use Rattle.stage.proofs.Motion.{offset-same, offset-back, offset-twice, offset-eightfold}
 use Rattle.stage.proofs.Scan.{Within}
 use Rattle.stage.proofs.Stages.{coarse-inside, fullPel-inside, eighthsStep-inside}

@@ -1,16 +1,16 @@
 -- The tests of the refusal table: over a list element by element, over sides that are small, and what a quiet table says.
 -- Assumes nothing.
 use Prim.Native.Nat.{ℕ, zero, suc, _+_, _*_, _/_, _≤_, _<_, _-_}
-use mathlib.Core.Bool.{Bool, true, false, not}
+use mathlib.Core.Bool.{Bool, true, false}
 use mathlib.Core.List.{List, [], _∷_}
 use mathlib.Core.Path.{_≡_, refl, sym, ap, _∙_}
 use native.Mathlib.Nat.{mul-le-mul}
 use native.Mathlib.Numerals.{add-one}
 use native.Mathlib.Omega.{arith}
-use lib.Dec.{ltb, eqb}
+use lib.Dec.{ltb}
 use lib.ListN.{length, take, drop, getD, drop-of-length-le}
 use lib.Seq.{drop-cons}
-use borrow.Author.Tests.{ltb-true, ltb-false, eqb-true, not-false, lt-ltb}
+use borrow.Author.Tests.{ltb-false, eqb-true, not-false, lt-ltb}
 use Rattle.laws.specs.Refusal.{any, either, both}
 use Rattle.laws.specs.Buffer.{onto}
 use Rattle.laws.proofs.Buffer.{onto-front}
@@ -19,7 +19,7 @@ use Rattle.plane.specs.Plane.{halfPlane}
 use Rattle.plane.proofs.Halves.{length-halfPlane}
 use Rattle.search.specs.Search.{sampleCount}
 use Rattle.search.specs.Refusal.{badClass, verdict, table, tooLarge, Small}
-use Rattle.search.specs.Ready.{Ready, Room}
+use Rattle.search.specs.Ready.{Ready}
 
 pub area-small : (w h : ℕ) → w ≤ 1024 → h ≤ 1024 → h * w ≤ 1048576
 area-small w h p q = mul-le-mul q p

@@ -17,7 +17,7 @@ use Rattle.sample.proofs.Word as word
 use Rattle.sample.proofs.Storable.{in-range-of, storable-by-index}
 use Rattle.plane.specs.Plane.{listing}
 use Rattle.plane.proofs.Listing.{length-listing}
-use Rattle.search.specs.Search.{motion, stored, wordAt, sampleWord, sampleWords, sampleCount, blockColumns, blockRows}
+use Rattle.search.specs.Search.{motion, stored, wordAt, sampleWord, sampleWords, sampleCount, blockColumns}
 use Rattle.search.proofs.Rows.{factor-pos, count-small}
 use Rattle.search.proofs.Range.{stored-motion-le-446}
 

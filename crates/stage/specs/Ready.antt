@@ -1,6 +1,6 @@
 -- The best candidate as the code holds it, under a bias, and what its stages ask.
 -- Assumes nothing.
-use Prim.Native.Nat.{ℕ, _+_, _≤_, _<_}
+use Prim.Native.Nat.{ℕ, _+_, _≤_}
 use mathlib.Core.Path.{_≡_}
 use lib.Dec.{ltb}
 use Rattle.laws.specs.Refusal.{choose}

@@ -2,14 +2,14 @@
 -- Assumes nothing.
 use Prim.Native.Nat.{ℕ, zero, suc, _+_, _-_, _*_, _^_, _≤_, _<_}
 use mathlib.Core.Bool.{Bool, true, false}
-use mathlib.Core.List.{List, [], _∷_, _++_}
-use mathlib.Core.Path.{_≡_, refl, ap, sym, subst, _∙_}
-use native.Mathlib.Decide.{decLe, decLt}
+use mathlib.Core.List.{List, _∷_, _++_}
+use mathlib.Core.Path.{_≡_, refl, ap, sym, _∙_}
+use native.Mathlib.Decide.{decLe}
 use native.Mathlib.Nat.{le-refl, pow-suc}
 use native.Mathlib.Numerals.{add-one}
 use native.Mathlib.Omega.{arith}
 use borrow.Author.Tests.{leb-true, leb-false, le-leb, lt-leb}
-use lib.ListN.{length, replicate, length-replicate, length-append}
+use lib.ListN.{replicate}
 use lib.Pow.{pow-pos, high}
 use Rattle.laws.specs.Refusal.{choose}
 use Rattle.bits.specs.Fields.{field, fieldBits}
@@ -18,7 +18,7 @@ use Rattle.bits.proofs.Fields.{fieldBits-low}
 use Rattle.bits.specs.declared.BitCursor.{BitCursor}
 use Rattle.subexp.specs.declared.RungRead.{RungRead}
 use Rattle.subexp.specs.Ends.{Rung, rungCode, behind, ClimbIs}
-use Rattle.subexp.specs.Ladder.{climb, climbBits, counted, raised, subexp, subexpBits}
+use Rattle.subexp.specs.Ladder.{climb, climbBits, counted, subexp, subexpBits}
 use Rattle.subexp.specs.Rungs.{rungBits, rungStart, rungStep, reach, lastRung, climbs}
 use Rattle.subexp.proofs.Ladder.{bits-last, bits-stop, bits-more, climb-last, climb-more, climb-stop}
 use Rattle.subexp.proofs.Rungs.{next-start, step-pos, le-start, few-rungs}

@@ -1,9 +1,7 @@
 -- A coefficient that was written is read back and takes exactly its bits; one that is read is a symbol, and its bits are those that were read.
 -- Assumes nothing.
-use Prim.Native.Nat.{ℕ, suc, _+_, _-_, _*_, _^_, _≤_, _<_}
-use mathlib.Core.List.{List}
-use mathlib.Core.Path.{_≡_, refl, ap, sym, subst, _∙_}
-use native.Mathlib.Nat.{le-refl, add-zero}
+use Prim.Native.Nat.{ℕ, _-_, _*_, _≤_, _<_}
+use mathlib.Core.Path.{_≡_, ap, _∙_}
 use native.Mathlib.Omega.{arith}
 use lib.ListN.{length}
 use Rattle.bits.specs.Bits.{Holds, AreBits}
@@ -12,7 +10,7 @@ use Rattle.subexp.specs.Coefficient.{symbols, symbol, symbolBits}
 use Rattle.subexp.specs.Ladder.{subexp, subexpBits}
 use Rattle.subexp.specs.Recenter.{codeOf, symbolOf}
 use Rattle.subexp.proofs.Centring.{code-lt, symbol-of-code, symbol-lt, code-of-symbol}
-use Rattle.subexp.proofs.Ladder.{climb-read, climbed, Climbed, climbBits-are-bits}
+use Rattle.subexp.proofs.Ladder.{climb-read, climbed, climbBits-are-bits}
 use Rattle.subexp.proofs.Lengths.{subexp-lengths}
 
 module _ (g : ℕ → ℕ) (bits : (i : ℕ) → g i < 2) (S : ℕ) (some : 0 < S) (j : ℕ) where

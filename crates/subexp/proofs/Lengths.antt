@@ -2,14 +2,13 @@
 -- Assumes nothing.
 use Prim.Native.Nat.{ℕ, zero, suc, _+_, _-_, _*_, _^_, _≤_, _<_}
 use mathlib.Core.List.{List}
-use mathlib.Core.Path.{_≡_, refl, ap, sym, subst, _∙_}
+use mathlib.Core.Path.{_≡_, ap, sym, subst, _∙_}
 use native.Mathlib.Decide.{decLt, ℕ-discrete}
 use native.Mathlib.Nat.{pow-suc}
 use native.Mathlib.Omega.{arith}
-use lib.Dec.{lit<, lit≤}
+use lib.Dec.{lit≤}
 use lib.ListN.{length}
 use lib.Pow.{pow-mono}
-use Rattle.bits.specs.Fields.{fieldBits}
 use Rattle.bits.specs.Ns.{bitLength, nsBits}
 use Rattle.bits.proofs.Fields.{length-fieldBits}
 use Rattle.bits.proofs.Ns.{bitLength-is, nsBits-length}

@@ -139,7 +139,7 @@ fn fit_of(kind: u8, named: bool, words: &[u32]) -> Fitted {
 // The quantized model of a fit, and the score of that.
 fn same_quantized(fitted: Fitted, flag: u8, words: &[u32], params: [i32; 6], score: u64) -> bool {
     let q = quantize::quantize_model(fitted, flag, words);
-    let s = model::mean_sq_residual(params, words);
+    let s = score::mean_sq_residual(params, words);
     let quantized = q.params;
     q.refusal == 0 && s.refusal == 0 && same_params(quantized, params) && same_float(s.score, score)
 }
@@ -319,7 +319,7 @@ fn try_refusals(words: &[u32], few: &[u32]) {
         quantize_refusal(Fitted::Refused(6), 0, few) == 4,
         b"a refused fit",
     );
-    let scored = model::mean_sq_residual([0, 0, 65536, 0, 0, 65536], words);
+    let scored = score::mean_sq_residual([0, 0, 65536, 0, 0, 65536], words);
     refused(scored.refusal == 1, b"4097 words, score");
     io::write_all(STDOUT_FILENO, b"refusals: 9 tried\n");
 }

@@ -212,7 +212,7 @@ fn scores_agree(params: [i32; 6], words: [u32; 64], n: usize) -> bool
     requires { ⌜ n ≤ 64 ⌝ }
 {
     let lent = lent::mean_sq_residual_of_first(params, samples_of(words), n);
-    let core = model::mean_sq_residual(params, &words[..n]);
+    let core = score::mean_sq_residual(params, &words[..n]);
     lent.refusal == core.refusal && same(lent.score, core.score)
 }
 

@@ -26,31 +26,13 @@ Inv-loop models reference own place out₀ i₀ out i = Filled (inserted place o
 abbrev μ-loop : tie.MeasureT-loop
 μ-loop models reference own place out₀ i₀ out i = 42 - i
 
-sub-place : tie.Need-sub-place Inv-loop μ-loop
-sub-place c = search needs
-
-mul-place : tie.Need-mul-place Inv-loop μ-loop
-mul-place c = search needs
-
 loop-holds : tie.Need-loop-holds Inv-loop μ-loop
 loop-holds c =
     let six : length (c .args .own) ≡ 6 = search needs in
     (filled-none (pos 0) _ _ (sym (long (c .args .models .now) (c .args .own) (c .args .reference) (c .pre) six)), omega arith)
 
-number-at-requires : tie.Need-number-at-requires Inv-loop μ-loop
-number-at-requires c κs = search needs
-
-mul-out : tie.Need-mul-out Inv-loop μ-loop
-mul-out c = search needs
-
 array-set-from-out : tie.Need-array-set-from-out Inv-loop μ-loop
 array-set-from-out c = omega arith
-
-add-i : tie.Need-add-i Inv-loop μ-loop
-add-i c = search needs
-
-loop-less : tie.Need-loop-less Inv-loop μ-loop
-loop-less c = search needs
 
 loop-again : tie.Need-loop-again Inv-loop μ-loop
 loop-again c =
@@ -71,4 +53,4 @@ returns c =
     (rw (long (e .args .models .now) (e .args .own) (e .args .reference) (e .pre) six) (c .loop-test .left)) (c .before .loop .inv .0)
 
 pub models-with-spec : {M : Type 1} → statement M
-models-with-spec = tie.close (tie.spec Inv-loop μ-loop sub-place mul-place loop-holds number-at-requires mul-out array-set-from-out add-i loop-less loop-again returns)
+models-with-spec = tie.close (tie.spec Inv-loop μ-loop (search needs) (search needs) loop-holds (search needs) (search needs) array-set-from-out (search needs) (search needs) loop-again returns)

@@ -10,16 +10,10 @@ use Rattle.assemble.proofs.Inserted.{before, within, after}
 use Rattle.assemble.proofs.type_at.Statement.{statement}
 use Rattle.assemble.proofs.type_at.Tie as tie
 
-shared-slice-read-result : tie.Need-shared-slice-read-result
-shared-slice-read-result c = search needs
-
 returns : tie.Need-returns
 returns c =
     let e = c .before .before .args in
     sym (before 0 (e .place) (e .own ∷ []) (e .types .now) (omega arith) (e .i) (c .before .if1 .taken))
-
-add-if2 : tie.Need-add-if2
-add-if2 c = search needs
 
 returns-2 : tie.Need-returns-2
 returns-2 c =
@@ -29,16 +23,10 @@ returns-2 c =
     (within 0 (e .place) (e .own ∷ []) (e .types .now) (omega arith) (e .i) (omega arith) (omega arith)
     ∙ ap (λ (n : ℕ). getD (e .own ∷ []) n 0) here)
 
-sub-result : tie.Need-sub-result
-sub-result c = search needs
-
-shared-slice-read-result-2 : tie.Need-shared-slice-read-result-2
-shared-slice-read-result-2 c = search needs
-
 returns-3 : tie.Need-returns-3
 returns-3 c =
     let e = c .before .before .before .args in
     sym (after 0 (e .place) (e .own ∷ []) (e .types .now) (omega arith) (e .i) (omega arith))
 
 pub type-at-spec : {M : Type 1} → statement M
-type-at-spec = tie.close (tie.spec shared-slice-read-result returns add-if2 returns-2 sub-result shared-slice-read-result-2 returns-3)
+type-at-spec = tie.close (tie.spec (search needs) returns (search needs) returns-2 (search needs) (search needs) returns-3)

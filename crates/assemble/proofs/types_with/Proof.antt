@@ -23,25 +23,13 @@ Inv-loop types reference own place out₀ i₀ out i = Filled (inserted place (o
 abbrev μ-loop : tie.MeasureT-loop
 μ-loop types reference own place out₀ i₀ out i = 7 - i
 
-sub-place : tie.Need-sub-place Inv-loop μ-loop
-sub-place c = search needs
-
 loop-holds : tie.Need-loop-holds Inv-loop μ-loop
 loop-holds c =
     let e = c .before .args in
     (filled-none 0 _ _ (sym (long (e .types .now) (e .reference) (e .own) (c .before .pre))), omega arith)
 
-type-at-requires : tie.Need-type-at-requires Inv-loop μ-loop
-type-at-requires c κs = search needs
-
 array-write-out : tie.Need-array-write-out Inv-loop μ-loop
 array-write-out c = omega arith
-
-add-i : tie.Need-add-i Inv-loop μ-loop
-add-i c = search needs
-
-loop-less : tie.Need-loop-less Inv-loop μ-loop
-loop-less c = search needs
 
 loop-again : tie.Need-loop-again Inv-loop μ-loop
 loop-again c =
@@ -60,4 +48,4 @@ returns c =
     (rw (long (e .args .types .now) (e .args .reference) (e .args .own) (e .pre)) (c .loop-test .left)) (c .before .loop .inv .0)
 
 pub types-with-spec : {M : Type 1} → statement M
-types-with-spec = tie.close (tie.spec Inv-loop μ-loop sub-place loop-holds type-at-requires array-write-out add-i loop-less loop-again returns)
+types-with-spec = tie.close (tie.spec Inv-loop μ-loop (search needs) loop-holds (search needs) array-write-out (search needs) (search needs) loop-again returns)

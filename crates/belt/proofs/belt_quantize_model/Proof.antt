@@ -4,14 +4,8 @@ use borrow.Author.Needs.{needs}
 use Rattle.belt.proofs.belt_quantize_model.Statement.{statement}
 use Rattle.belt.proofs.belt_quantize_model.Tie as tie
 
-fitted-of-requires : tie.Need-fitted-of-requires
-fitted-of-requires c κs = search needs
-
-quantize-model-requires : tie.Need-quantize-model-requires
-quantize-model-requires c κs = search needs
-
 returns : tie.Need-returns
 returns c = rw (← c .before .fitted-of .ensures) (c .quantize-model .ensures)
 
 pub belt-quantize-model-spec : {M : Type 1} → statement M
-belt-quantize-model-spec = tie.close (tie.spec fitted-of-requires quantize-model-requires returns)
+belt-quantize-model-spec = tie.close (tie.spec (search needs) (search needs) returns)

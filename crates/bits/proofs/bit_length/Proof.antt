@@ -2,7 +2,7 @@
 use borrow.Author.Needs.{needs}
 use Rattle.bits.proofs.bit_length.Statement.{statement}
 use Rattle.bits.proofs.bit_length.Tie as tie
-use Prim.Native.Nat.{ℕ, _+_, _≤_, _<_}
+use Prim.Native.Nat.{_+_, _≤_}
 use mathlib.Core.Path.{_≡_, ap}
 use native.Mathlib.Omega.{arith}
 use Rattle.bits.specs.Ns.{bitLength}
@@ -20,9 +20,6 @@ loop-holds c = omega arith
 add-count : tie.Need-add-count Inv-loop μ-loop
 add-count c = omega (arith, bitLength-le (c .before .before .args .n) 32 (omega arith))
 
-loop-less : tie.Need-loop-less Inv-loop μ-loop
-loop-less c = search needs
-
 loop-again : tie.Need-loop-again Inv-loop μ-loop
 loop-again c = omega (arith, bitLength-step (c .before .loop .x) (omega arith))
 
@@ -31,4 +28,4 @@ returns c = omega (arith, bitLength-le (c .before .before .args .n) 32 (omega ar
 
 pub bit-length-spec : {M : Type 1} → statement M
 bit-length-spec =
-    tie.close (tie.spec Inv-loop μ-loop loop-holds add-count loop-less loop-again returns)
+    tie.close (tie.spec Inv-loop μ-loop loop-holds add-count (search needs) loop-again returns)

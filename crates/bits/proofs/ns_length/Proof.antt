@@ -6,12 +6,6 @@ use mathlib.Core.Path.{sym}
 use native.Mathlib.Omega.{arith}
 use Rattle.bits.proofs.Ns.{short-length, long-length}
 
-ns-width-requires : tie.Need-ns-width-requires
-ns-width-requires c κs = search needs
-
-sub-result : tie.Need-sub-result
-sub-result c = search needs
-
 returns : tie.Need-returns
 returns c =
     let w = c .before .before .before .ns-width .ensures in
@@ -25,4 +19,4 @@ returns-2 c =
     (sym (long-length (c .before .before .before .args .n) (c .before .before .before .args .v) (r .w) (r .m) (w .w) (w .m) (c .if1 .left)), w .most)
 
 pub ns-length-spec : {M : Type 1} → statement M
-ns-length-spec = tie.close (tie.spec ns-width-requires sub-result returns returns-2)
+ns-length-spec = tie.close (tie.spec (search needs) (search needs) returns returns-2)

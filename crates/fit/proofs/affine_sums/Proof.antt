@@ -21,26 +21,8 @@ abbrev μ-loop : tie.MeasureT-loop
 loop-holds : tie.Need-loop-holds Inv-loop μ-loop
 loop-holds c = refl
 
-centres-requires : tie.Need-centres-requires Inv-loop μ-loop
-centres-requires c κs = search needs
-
-mul-sample-by : tie.Need-mul-sample-by Inv-loop μ-loop
-mul-sample-by c = search needs
-
-shared-slice-read-sample-by : tie.Need-shared-slice-read-sample-by Inv-loop μ-loop
-shared-slice-read-sample-by c = search needs
-
 sample-by-requires : tie.Need-sample-by-requires Inv-loop μ-loop
 sample-by-requires c κs = c .before .before .before .before .centres .ensures
-
-affine-step-requires : tie.Need-affine-step-requires Inv-loop μ-loop
-affine-step-requires c κs = search needs
-
-add-i : tie.Need-add-i Inv-loop μ-loop
-add-i c = search needs
-
-loop-less : tie.Need-loop-less Inv-loop μ-loop
-loop-less c = search needs
 
 loop-again : tie.Need-loop-again Inv-loop μ-loop
 loop-again c = fold-again (reading affineStep sampleOf) (c .before .before .before .before .before .before .before .before .args .words .now) (c .before .before .before .before .before .loop .i) 0
@@ -55,13 +37,13 @@ affine-sums-spec =
     (tie.spec
     Inv-loop
     μ-loop
-    centres-requires
+    (search needs)
     loop-holds
-    mul-sample-by
-    shared-slice-read-sample-by
+    (search needs)
+    (search needs)
     sample-by-requires
-    affine-step-requires
-    add-i
-    loop-less
+    (search needs)
+    (search needs)
+    (search needs)
     loop-again
     returns)

@@ -8,11 +8,8 @@ use Rattle.fit.proofs.fit_affine.Tie as tie
 returns : tie.Need-returns
 returns c = rw (lt-ltb _ _ (c .if1 .taken))
 
-affine-fit-requires : tie.Need-affine-fit-requires
-affine-fit-requires c κs = search needs
-
 returns-2 : tie.Need-returns-2
 returns-2 c = rw (le-ltb _ _ (c .before .if1 .left)) (c .affine-fit .ensures)
 
 pub fit-affine-spec : {M : Type 1} → statement M
-fit-affine-spec = tie.close (tie.spec returns affine-fit-requires returns-2)
+fit-affine-spec = tie.close (tie.spec returns (search needs) returns-2)

@@ -1,7 +1,7 @@
 -- `fit::fit_model` meets its contract: each return rewrites with the tests that led there.
 -- Assumes nothing.
 use Rattle.fit.proofs.Types.{other-codes-have-no-type}
-use borrow.Author.Tests.{lt-ltb, le-ltb, eq-eqb, ne-eqb}
+use borrow.Author.Tests.{lt-ltb, le-ltb}
 use borrow.Author.Needs.{needs}
 use Rattle.fit.proofs.fit_model.Statement.{statement}
 use Rattle.fit.proofs.fit_model.Tie as tie
@@ -9,20 +9,11 @@ use Rattle.fit.proofs.fit_model.Tie as tie
 returns : tie.Need-returns
 returns c = rw (lt-ltb _ _ (c .if1 .taken))
 
-translation-fit-requires : tie.Need-translation-fit-requires
-translation-fit-requires c κs = search needs
-
 returns-2 : tie.Need-returns-2
 returns-2 c = rw (le-ltb _ _ (c .before .before .if1 .left), c .before .if2 .taken) (c .translation-fit .ensures)
 
-rotzoom-fit-requires : tie.Need-rotzoom-fit-requires
-rotzoom-fit-requires c κs = search needs
-
 returns-3 : tie.Need-returns-3
 returns-3 c = rw (le-ltb _ _ (c .before .before .before .if1 .left), c .before .if3 .taken) (c .rotzoom-fit .ensures)
-
-affine-fit-requires : tie.Need-affine-fit-requires
-affine-fit-requires c κs = search needs
 
 returns-4 : tie.Need-returns-4
 returns-4 c = rw (le-ltb _ _ (c .before .before .before .before .if1 .left), c .before .if4 .taken) (c .affine-fit .ensures)
@@ -35,10 +26,10 @@ fit-model-spec =
     tie.close
     (tie.spec
     returns
-    translation-fit-requires
+    (search needs)
     returns-2
-    rotzoom-fit-requires
+    (search needs)
     returns-3
-    affine-fit-requires
+    (search needs)
     returns-4
     returns-5)

@@ -8,11 +8,8 @@ use Rattle.fit.proofs.fit_rotzoom.Tie as tie
 returns : tie.Need-returns
 returns c = rw (lt-ltb _ _ (c .if1 .taken))
 
-rotzoom-fit-requires : tie.Need-rotzoom-fit-requires
-rotzoom-fit-requires c κs = search needs
-
 returns-2 : tie.Need-returns-2
 returns-2 c = rw (le-ltb _ _ (c .before .if1 .left)) (c .rotzoom-fit .ensures)
 
 pub fit-rotzoom-spec : {M : Type 1} → statement M
-fit-rotzoom-spec = tie.close (tie.spec returns rotzoom-fit-requires returns-2)
+fit-rotzoom-spec = tie.close (tie.spec returns (search needs) returns-2)

@@ -8,11 +8,8 @@ use Rattle.fit.proofs.fit_translation.Tie as tie
 returns : tie.Need-returns
 returns c = rw (lt-ltb _ _ (c .if1 .taken))
 
-translation-fit-requires : tie.Need-translation-fit-requires
-translation-fit-requires c κs = search needs
-
 returns-2 : tie.Need-returns-2
 returns-2 c = rw (le-ltb _ _ (c .before .if1 .left)) (c .translation-fit .ensures)
 
 pub fit-translation-spec : {M : Type 1} → statement M
-fit-translation-spec = tie.close (tie.spec returns translation-fit-requires returns-2)
+fit-translation-spec = tie.close (tie.spec returns (search needs) returns-2)

@@ -21,24 +21,6 @@ abbrev μ-loop : tie.MeasureT-loop
 loop-holds : tie.Need-loop-holds Inv-loop μ-loop
 loop-holds c = refl
 
-mul-sample-of : tie.Need-mul-sample-of Inv-loop μ-loop
-mul-sample-of c = search needs
-
-shared-slice-read-sample-of : tie.Need-shared-slice-read-sample-of Inv-loop μ-loop
-shared-slice-read-sample-of c = search needs
-
-sample-of-requires : tie.Need-sample-of-requires Inv-loop μ-loop
-sample-of-requires c κs = search needs
-
-translation-step-requires : tie.Need-translation-step-requires Inv-loop μ-loop
-translation-step-requires c κs = search needs
-
-add-i : tie.Need-add-i Inv-loop μ-loop
-add-i c = search needs
-
-loop-less : tie.Need-loop-less Inv-loop μ-loop
-loop-less c = search needs
-
 loop-again : tie.Need-loop-again Inv-loop μ-loop
 loop-again c = fold-again (reading translationStep sampleOf) (c .before .before .before .before .before .before .args .words .now) (c .before .before .before .before .loop .i) 0
     (c .before .before .before .loop-test .taken) (c .translation-step .ensures ∙ ap (translationStep (c .before .before .before .before .loop .t)) (c .before .sample-of .ensures)) (c .before .before .before .before .loop .inv)
@@ -53,11 +35,11 @@ translation-sums-spec =
     Inv-loop
     μ-loop
     loop-holds
-    mul-sample-of
-    shared-slice-read-sample-of
-    sample-of-requires
-    translation-step-requires
-    add-i
-    loop-less
+    (search needs)
+    (search needs)
+    (search needs)
+    (search needs)
+    (search needs)
+    (search needs)
     loop-again
     returns)

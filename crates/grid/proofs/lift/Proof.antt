@@ -7,12 +7,6 @@ use Rattle.grid.proofs.Bounds.{taken-from}
 use Rattle.grid.proofs.lift.Statement.{statement}
 use Rattle.grid.proofs.lift.Tie as tie
 
-sub-result : tie.Need-sub-result
-sub-result c = search needs
-
-add-result : tie.Need-add-result
-add-result c = search needs
-
 returns : tie.Need-returns
 returns c =
     let e = c .before .args in
@@ -23,4 +17,4 @@ returns-2 c =
     rw (c .if1 .left) (add-comm (c .before .args .middle) (c .before .args .size), omega (arith, c .before .pre .0, c .before .pre .1))
 
 pub lift-spec : {M : Type 1} → statement M
-lift-spec = tie.close (tie.spec sub-result add-result returns returns-2)
+lift-spec = tie.close (tie.spec (search needs) (search needs) returns returns-2)

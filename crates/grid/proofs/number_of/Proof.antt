@@ -6,9 +6,6 @@ use Rattle.laws.proofs.Signed.{result-reads}
 use Rattle.grid.proofs.number_of.Statement.{statement}
 use Rattle.grid.proofs.number_of.Tie as tie
 
-from-middle-requires : tie.Need-from-middle-requires
-from-middle-requires c κs = search needs
-
 to-centre-requires : tie.Need-to-centre-requires
 to-centre-requires c κs =
     rw (result-reads w64 (c .from-middle .result) (c .from-middle .ok)) (c .from-middle .ensures .1, c .before .pre .centred)
@@ -23,4 +20,4 @@ returns c =
     )
 
 pub number-of-spec : {M : Type 1} → statement M
-number-of-spec = tie.close (tie.spec from-middle-requires to-centre-requires returns)
+number-of-spec = tie.close (tie.spec (search needs) to-centre-requires returns)

@@ -1,11 +1,8 @@
 -- `place_of` meets its contract: the prior counted from the least codable number, in whole steps.
 -- Assumes nothing.
-use Prim.Native.Nat.{ℕ, _/_, _≤_, _<_}
-use mathlib.Core.Path.{ap}
-use native.Mathlib.Nat.{div-le-self, le-trans}
+use native.Mathlib.Nat.{div-le-self}
 use native.Mathlib.Omega.{arith}
 use borrow.Author.Needs.{needs}
-use lib.IntN.{ℤ, pos, natAbs, _+ℤ_}
 use lib.Pow.{pow-pos}
 use mir.Syntax.{w64}
 use mir.Facts.{toZ-ofZ}
@@ -14,18 +11,9 @@ use Rattle.grid.proofs.Signs.{signed-parts}
 use Rattle.grid.proofs.place_of.Statement.{statement}
 use Rattle.grid.proofs.place_of.Tie as tie
 
-from-centre-requires : tie.Need-from-centre-requires
-from-centre-requires c κs = search needs
-
-is-negative-requires : tie.Need-is-negative-requires
-is-negative-requires c κs = search needs
-
 magnitude-requires : tie.Need-magnitude-requires
 magnitude-requires c κs =
     rw (result-reads w64 (c .before .from-centre .result) (c .before .from-centre .ok)) (c .before .from-centre .ensures .1)
-
-reach-of-requires : tie.Need-reach-of-requires
-reach-of-requires c κs = search needs
 
 lift-requires : tie.Need-lift-requires
 lift-requires c κs =
@@ -35,12 +23,6 @@ lift-requires c κs =
           (e .pre .reach),
       c .reach-of .ensures .1,
     )
-
-sub-power-of-two : tie.Need-sub-power-of-two
-sub-power-of-two c = search needs
-
-power-of-two-requires : tie.Need-power-of-two-requires
-power-of-two-requires c κs = search needs
 
 div-result : tie.Need-div-result
 div-result c = rw (c .power-of-two .ensures) (pow-pos _)
@@ -66,4 +48,4 @@ returns c =
     )
 
 pub place-of-spec : {M : Type 1} → statement M
-place-of-spec = tie.close (tie.spec from-centre-requires is-negative-requires magnitude-requires reach-of-requires lift-requires sub-power-of-two power-of-two-requires div-result cast-result returns)
+place-of-spec = tie.close (tie.spec (search needs) (search needs) magnitude-requires (search needs) lift-requires (search needs) (search needs) div-result cast-result returns)

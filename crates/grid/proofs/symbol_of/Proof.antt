@@ -1,7 +1,6 @@
 -- `symbol_of` meets its contract: its steps are those of `symbolOf`, over a sign and a magnitude.
 -- Assumes nothing.
 use Prim.Native.Nat.{_<_, _^_}
-use native.Mathlib.Omega.{arith}
 use borrow.Author.Needs.{needs}
 use lib.IntN.{natAbs}
 use mir.Syntax.{w64}
@@ -13,9 +12,6 @@ use Rattle.grid.proofs.Bounds.{middle-small}
 use Rattle.grid.proofs.symbol_of.Statement.{statement}
 use Rattle.grid.proofs.symbol_of.Tie as tie
 
-from-centre-requires : tie.Need-from-centre-requires
-from-centre-requires c κs = search needs
-
 magnitude-requires : tie.Need-magnitude-requires
 magnitude-requires c κs = rw (result-reads w64 (c .from-centre .result) (c .from-centre .ok)) (c .from-centre .ensures .1)
 
@@ -24,12 +20,6 @@ nearest-ordinal-requires c κs =
     let size : natAbs (c .before .from-centre .result) < 2 ^ 62 = c .before .from-centre .ensures .1 in
     (c .before .before .pre, rw (c .magnitude .ensures, result-reads w64 (c .before .from-centre .result) (c .before .from-centre .ok)) size)
 
-is-negative-requires : tie.Need-is-negative-requires
-is-negative-requires c κs = search needs
-
-power-of-two-requires : tie.Need-power-of-two-requires
-power-of-two-requires c κs = search needs
-
 lift-requires : tie.Need-lift-requires
 lift-requires c κs =
     let e = c .before .before .before .before .before in
@@ -37,9 +27,6 @@ lift-requires c κs =
       nearestOrdinal-le (e .args .abs-bits) (e .args .prec-bits) (c .before .before .before .magnitude .result),
       middle-small (e .args .abs-bits) (e .args .prec-bits) (e .pre),
     )
-
-cast-result : tie.Need-cast-result
-cast-result c = search needs
 
 returns : tie.Need-returns
 unfolding symbolOf
@@ -58,4 +45,4 @@ returns c =
     )
 
 pub symbol-of-spec : {M : Type 1} → statement M
-symbol-of-spec = tie.close (tie.spec from-centre-requires magnitude-requires nearest-ordinal-requires is-negative-requires power-of-two-requires lift-requires cast-result returns)
+symbol-of-spec = tie.close (tie.spec (search needs) magnitude-requires nearest-ordinal-requires (search needs) (search needs) lift-requires (search needs) returns)

@@ -3,20 +3,14 @@
 use Rattle.laws.specs.Binary64.{_⊗_}
 use Rattle.laws.proofs.Signed.{result-reads}
 use mir.Syntax.{w32}
-use mathlib.Core.Path.{_≡_, sym, ap, _∙_}
+use mathlib.Core.Path.{sym}
 use lib.Ieee.Fits.{mul-fits, neg-fits}
-use Rattle.grid_number.specs.GridNumber.{rounded, gridNumber, scale}
+use Rattle.grid_number.specs.GridNumber.{rounded, scale}
 use Rattle.grid_number.proofs.Rounding.{above-zero-sign, below-zero-sign, negation-above-zero, magnitude-neg, neither-rounds-to-zero}
 use lib.Ieee.{ofBits, binary64}
 use borrow.Author.Needs.{needs}
 use Rattle.grid_number.proofs.grid_number.Statement.{statement}
 use Rattle.grid_number.proofs.grid_number.Tie as tie
-
-rounded-magnitude-requires : tie.Need-rounded-magnitude-requires
-rounded-magnitude-requires c κs = search needs
-
-held-above-requires : tie.Need-held-above-requires
-held-above-requires c κs = search needs
 
 returns : tie.Need-returns
 unfolding ofBits rounded
@@ -25,9 +19,6 @@ returns c = rw (result-reads w32 (c .held-above .result) (c .held-above .ok), ab
 rounded-magnitude-requires-2 : tie.Need-rounded-magnitude-requires-2
 unfolding ofBits
 rounded-magnitude-requires-2 c κs = (neg-fits binary64 (c .before .before .args .value ⊗ scale) (mul-fits binary64 (c .before .before .args .value) scale), negation-above-zero (c .before .before .args .value ⊗ scale) (c .if2 .taken))
-
-held-below-requires : tie.Need-held-below-requires
-held-below-requires c κs = search needs
 
 returns-2 : tie.Need-returns-2
 unfolding ofBits rounded
@@ -41,10 +32,10 @@ pub grid-number-spec : {M : Type 1} → statement M
 grid-number-spec =
     tie.close
     (tie.spec
-    rounded-magnitude-requires
-    held-above-requires
+    (search needs)
+    (search needs)
     returns
     rounded-magnitude-requires-2
-    held-below-requires
+    (search needs)
     returns-2
     returns-3)

@@ -10,9 +10,6 @@ use borrow.Author.Needs.{needs}
 use Rattle.grid_number.proofs.held_above.Statement.{statement}
 use Rattle.grid_number.proofs.held_above.Tie as tie
 
-cast-result : tie.Need-cast-result
-cast-result c = search needs
-
 returns : tie.Need-returns
 returns c = toZ-pos w32 {n = c .before .args .size} (omega (arith, c .if1 .taken)) ∙ ap pos (let e : c .before .args .size ≡ min (c .before .args .size) 2147483647 = omega (arith, c .if1 .taken) in e)
 
@@ -20,4 +17,4 @@ returns-2 : tie.Need-returns-2
 returns-2 c = ap pos (let e : 2147483647 ≡ min (c .before .args .size) 2147483647 = omega (arith, c .if1 .left) in e)
 
 pub held-above-spec : {M : Type 1} → statement M
-held-above-spec = tie.close (tie.spec cast-result returns returns-2)
+held-above-spec = tie.close (tie.spec (search needs) returns returns-2)

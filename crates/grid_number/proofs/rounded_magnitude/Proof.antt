@@ -1,12 +1,11 @@
 -- `grid_number::rounded_magnitude` meets its contract: below 2 ^ 31 twice the number is exact, and from there on the limit is the answer.
 -- Assumes nothing.
-use Rattle.grid_number.specs.GridNumber.{magnitude, limit}
+use Rattle.grid_number.specs.GridNumber.{limit}
 use Rattle.grid_number.proofs.Rounding.{halved, at-limit, magnitude-le}
 use Prim.Native.Nat.{ℕ, _+_, _/_, _≤_}
-use mathlib.Core.Path.{_≡_, sym, ap, _∙_, subst}
+use mathlib.Core.Path.{sym, ap, _∙_, subst}
 use native.Mathlib.Omega.{arith}
 use lib.Ieee.{ofBits}
-use borrow.Author.Needs.{needs}
 use Rattle.grid_number.proofs.rounded_magnitude.Statement.{statement}
 use Rattle.grid_number.proofs.rounded_magnitude.Tie as tie
 

@@ -9,14 +9,10 @@ use Rattle.header.specs.Contracts.{SymbolsIs, SymbolIs, PriorIn}
 use mathlib.Core.Path.{ap, sym, _∙_}
 use native.Mathlib.Omega.{arith}
 use lib.ListN.{length}
-use Rattle.header.specs.Coefficient.{coefficientBits}
 use Rattle.header.proofs.Coefficient.{coded}
 
 symbols-of-requires : tie.Need-symbols-of-requires
 symbols-of-requires c κs = subst (λ (q : ℤ). PriorIn (c .args .slot) q) (sym (toZ-ofZ (c .fits .prior))) (c .pre)
-
-symbol-of-requires : tie.Need-symbol-of-requires
-symbol-of-requires c κs = search needs
 
 unsigned-subexp-length-requires : tie.Need-unsigned-subexp-length-requires
 unsigned-subexp-length-requires c κs =
@@ -32,4 +28,4 @@ returns c =
 pub global-param-length-spec : {M : Type 1} → statement M
 global-param-length-spec =
     tie.close
-    (tie.spec symbols-of-requires symbol-of-requires unsigned-subexp-length-requires returns)
+    (tie.spec symbols-of-requires (search needs) unsigned-subexp-length-requires returns)

@@ -20,12 +20,6 @@ answered gmType flag slot z b c r eb ec er =
     er ∙ ap (λ (x : ParamBits). symbolOf (x .«abs_bits») (x .«prec_bits») c z) eb ∙ ap (λ (x : ℕ). symbolOf (absBits gmType flag slot) (precBits gmType flag slot) x z) ec in
     record { is = e; below = subst (λ (x : ℕ). x < symbols (absBits gmType flag slot)) (sym e) (symbol-below (absBits gmType flag slot) (precBits gmType flag slot) (centre slot) z) }
 
-global-param-bits-requires : tie.Need-global-param-bits-requires
-global-param-bits-requires c κs = search needs
-
-centre-of-requires : tie.Need-centre-of-requires
-centre-of-requires c κs = search needs
-
 symbol-of-requires : tie.Need-symbol-of-requires
 symbol-of-requires c κs = subst (λ (b : ParamBits). Row (b .«abs_bits») (b .«prec_bits»)) (sym (c .before .global-param-bits .ensures)) (table-row (c .before .before .args .gm-type) (c .before .before .args .flag) (c .before .before .args .slot))
 
@@ -36,4 +30,4 @@ returns c =
 
 pub symbol-of-spec : {M : Type 1} → statement M
 symbol-of-spec =
-    tie.close (tie.spec global-param-bits-requires centre-of-requires symbol-of-requires returns)
+    tie.close (tie.spec (search needs) (search needs) symbol-of-requires returns)

@@ -3,7 +3,7 @@ use borrow.Author.Needs.{needs}
 use Rattle.header.proofs.symbols_of.Statement.{statement}
 use Rattle.header.proofs.symbols_of.Tie as tie
 use mir.Facts.{toZ-ofZ}
-use Prim.Native.Nat.{ℕ, _*_, _+_, _^_, _≤_, _<_}
+use Prim.Native.Nat.{ℕ, _*_, _+_, _^_, _≤_}
 use mathlib.Core.Bool.{false}
 use mathlib.Core.Path.{_≡_, ap, sym, subst, _∙_}
 use native.Mathlib.Omega.{arith}
@@ -37,9 +37,6 @@ stood gmType flag slot q b c r eb ec h er =
 bits-few : (gmType flag slot : ℕ) (b : ParamBits) → b ≡ paramBits gmType flag slot → b .«abs_bits» ≤ 12
 bits-few gmType flag slot b e = subst (λ (x : ParamBits). x .«abs_bits» ≤ 12) (sym e) (absBits-range gmType flag slot .1)
 
-global-param-bits-requires : tie.Need-global-param-bits-requires
-global-param-bits-requires c κs = search needs
-
 power-requires : tie.Need-power-requires
 power-requires c κs = omega (arith, bits-few (c .before .args .gm-type) (c .before .args .flag) (c .before .args .slot) _ (c .global-param-bits .ensures))
 
@@ -48,9 +45,6 @@ mul-t7 c = omega (arith, c .power .ensures, pow-mono (bits-few (c .before .befor
 
 add-t8 : tie.Need-add-t8
 add-t8 c = omega (arith, c .power .ensures, pow-mono (bits-few (c .before .before .args .gm-type) (c .before .before .args .flag) (c .before .before .args .slot) _ (c .before .global-param-bits .ensures)))
-
-centre-of-requires : tie.Need-centre-of-requires
-centre-of-requires c κs = search needs
 
 place-of-requires : tie.Need-place-of-requires
 place-of-requires c κs =
@@ -74,10 +68,10 @@ pub symbols-of-spec : {M : Type 1} → statement M
 symbols-of-spec =
     tie.close
     (tie.spec
-    global-param-bits-requires
+    (search needs)
     power-requires
     mul-t7
     add-t8
-    centre-of-requires
+    (search needs)
     place-of-requires
     returns)

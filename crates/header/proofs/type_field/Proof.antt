@@ -1,6 +1,5 @@
 -- `type_field` meets its contract: each type's bits as a field.
 -- Assumes nothing.
-use mathlib.Core.Path.{refl, sym}
 use native.Mathlib.Omega.{arith}
 use borrow.Author.Tests.{eq-eqb, ne-eqb}
 use Rattle.header.proofs.type_field.Statement.{statement}

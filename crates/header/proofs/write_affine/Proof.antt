@@ -22,9 +22,6 @@ write-pairs-requires c κs =
     let pair = pairBits (a .flag) (a .params .now) (a .prior .now) (a .gm-type) (a .first) in
     (e .pre .0, lit< tt, room-back _ _ (pair 2) (pair 4 ++ pair 0) _ _ (c .before .before .before .write-pair .ensures) (e .pre .1))
 
-same-length : tie.Need-same-length
-same-length c = search needs
-
 returns : tie.Need-returns
 returns c =
     let a = c .before .before .before .before .before .before .before .before .before .args in
@@ -32,4 +29,4 @@ returns c =
     wrote-both (pair 2) (pair 4 ++ pair 0) (c .before .before .before .before .before .before .write-pair .ensures) (c .before .before .write-pairs .ensures)
 
 pub write-affine-spec : {M : Type 1} → statement M
-write-affine-spec = tie.close (tie.spec write-pair-requires write-pairs-requires same-length returns)
+write-affine-spec = tie.close (tie.spec write-pair-requires write-pairs-requires (search needs) returns)

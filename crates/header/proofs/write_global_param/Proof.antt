@@ -6,16 +6,13 @@ use mathlib.Core.Path.{subst}
 use mir.Facts.{toZ-ofZ}
 use lib.IntN.{ℤ}
 use Rattle.header.specs.Contracts.{SymbolsIs, SymbolIs, PriorIn}
-use mathlib.Core.Path.{ap, sym, _∙_}
+use mathlib.Core.Path.{sym}
 use native.Mathlib.Omega.{arith}
 use Rattle.bits.proofs.Buffer.{wrote-as, room-as}
 use Rattle.header.proofs.Coefficient.{coded}
 
 symbols-of-requires : tie.Need-symbols-of-requires
 symbols-of-requires c κs = subst (λ (q : ℤ). PriorIn (c .before .args .slot) q) (sym (toZ-ofZ (c .before .fits .prior))) (c .before .pre .0)
-
-symbol-of-requires : tie.Need-symbol-of-requires
-symbol-of-requires c κs = search needs
 
 encode-unsigned-subexp-with-ref-requires : tie.Need-encode-unsigned-subexp-with-ref-requires
 encode-unsigned-subexp-with-ref-requires c κs =
@@ -26,9 +23,6 @@ encode-unsigned-subexp-with-ref-requires c κs =
       omega (arith, s .few),
       room-as (c .before .before .before .before .args .header .now) (c .before .before .before .before .args .cursor .at) _ _ (sym (coded (c .before .before .before .before .args .gm-type) (c .before .before .before .before .args .flag) (c .before .before .before .before .args .slot) (c .before .before .before .before .args .value) (c .before .before .before .before .args .prior) _ _ _ (s .mx) (s .stands) (t .is))) (c .before .before .before .before .pre .1),
     )
-
-same-length : tie.Need-same-length
-same-length c = search needs
 
 returns : tie.Need-returns
 returns c =
@@ -41,7 +35,7 @@ write-global-param-spec =
     tie.close
     (tie.spec
     symbols-of-requires
-    symbol-of-requires
+    (search needs)
     encode-unsigned-subexp-with-ref-requires
-    same-length
+    (search needs)
     returns)

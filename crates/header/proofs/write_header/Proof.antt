@@ -1,8 +1,8 @@
 -- `write_header` meets its contract: the zeros behind the references' bits.
 -- Assumes nothing.
-use Prim.Native.Nat.{ℕ, _+_, _*_, _≤_, _<_}
+use Prim.Native.Nat.{ℕ, _+_, _≤_}
 use mathlib.Core.List.{List}
-use mathlib.Core.Path.{_≡_, refl, sym, _∙_}
+use mathlib.Core.Path.{_≡_, sym, _∙_}
 use native.Mathlib.Omega.{arith}
 use borrow.Author.Needs.{needs}
 use lib.ListN.{length}
@@ -44,9 +44,6 @@ byte-align-requires c κs =
     let a = e .args in
     pad-room (a .header .now) _ (c .before .before .before .before .before .new .ensures) (headerBits (a .types .now) (a .params .now) (a .flag) (a .prior .now)) (at-most-987-bits (a .flag) (a .types .now) (a .params .now) (a .prior .now)) (e .pre .1) _ _ (c .before .before .before .write-references .ensures)
 
-same-length : tie.Need-same-length
-same-length c = search needs
-
 returns : tie.Need-returns
 returns c =
     let e = c .before .before .before .before .before .before .before .before .before .before .before in
@@ -57,4 +54,4 @@ returns c =
     )
 
 pub write-header-spec : {M : Type 1} → statement M
-write-header-spec = tie.close (tie.spec new-requires write-references-requires byte-align-requires same-length returns)
+write-header-spec = tie.close (tie.spec new-requires write-references-requires byte-align-requires (search needs) returns)

@@ -16,9 +16,6 @@ write-pair-requires c κs =
     let e = c .before .before .before .before in
     (e .pre .0, lit< tt, rw (ne-eqb _ _ (c .before .before .if1 .left), eq-eqb _ _ (c .before .if2 .taken)) at (e .pre .1))
 
-same-length : tie.Need-same-length
-same-length c = search needs
-
 returns-2 : tie.Need-returns-2
 returns-2 c = rw (ne-eqb _ _ (c .before .before .before .before .before .if1 .left), eq-eqb _ _ (c .before .before .before .before .if2 .taken)) (c .before .before .write-pair .ensures)
 
@@ -26,9 +23,6 @@ write-pairs-requires : tie.Need-write-pairs-requires
 write-pairs-requires c κs =
     let e = c .before .before .before .before .before in
     (e .pre .0, lit< tt, rw (ne-eqb _ _ (c .before .before .before .if1 .left), ne-eqb _ _ (c .before .before .if2 .left), eq-eqb _ _ (c .before .if3 .taken)) at (e .pre .1))
-
-same-length-2 : tie.Need-same-length-2
-same-length-2 c = search needs
 
 returns-3 : tie.Need-returns-3
 returns-3 c =
@@ -39,12 +33,9 @@ write-affine-requires c κs =
     let e = c .before .before .before .before .before in
     (e .pre .0, rw (ne-eqb _ _ (c .before .before .before .if1 .left), ne-eqb _ _ (c .before .before .if2 .left), ne-eqb _ _ (c .before .if3 .left)) at (e .pre .1))
 
-same-length-3 : tie.Need-same-length-3
-same-length-3 c = search needs
-
 returns-4 : tie.Need-returns-4
 returns-4 c =
     rw (ne-eqb _ _ (c .before .before .before .before .before .before .if1 .left), ne-eqb _ _ (c .before .before .before .before .before .if2 .left), ne-eqb _ _ (c .before .before .before .before .if3 .left)) (c .before .before .write-affine .ensures)
 
 pub write-model-spec : {M : Type 1} → statement M
-write-model-spec = tie.close (tie.spec returns write-pair-requires same-length returns-2 write-pairs-requires same-length-2 returns-3 write-affine-requires same-length-3 returns-4)
+write-model-spec = tie.close (tie.spec returns write-pair-requires (search needs) returns-2 write-pairs-requires (search needs) returns-3 write-affine-requires (search needs) returns-4)

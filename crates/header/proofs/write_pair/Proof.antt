@@ -23,9 +23,6 @@ write-slot-requires c κs =
     let bits = one (a .gm-type) (a .flag) (a .params .now) (a .prior .now) (a .first) in
     (e .pre .0, omega (arith, e .pre .1), room-front _ _ (bits (a .slot)) (bits (a .slot + 1)) (e .pre .2))
 
-add-write-slot : tie.Need-add-write-slot
-add-write-slot c = search needs
-
 write-slot-requires-2 : tie.Need-write-slot-requires-2
 unfolding pairBits
 write-slot-requires-2 c κs =
@@ -33,9 +30,6 @@ write-slot-requires-2 c κs =
     let a = e .args in
     let bits = one (a .gm-type) (a .flag) (a .params .now) (a .prior .now) (a .first) in
     (e .pre .0, omega (arith, e .pre .1), room-back _ _ (bits (a .slot)) (bits (a .slot + 1)) _ _ (c .before .before .before .write-slot .ensures) (e .pre .2))
-
-same-length : tie.Need-same-length
-same-length c = search needs
 
 returns : tie.Need-returns
 unfolding pairBits
@@ -45,4 +39,4 @@ returns c =
     wrote-both (bits (a .slot)) (bits (a .slot + 1)) (c .before .before .before .before .before .before .write-slot .ensures) (c .before .before .write-slot2 .ensures)
 
 pub write-pair-spec : {M : Type 1} → statement M
-write-pair-spec = tie.close (tie.spec write-slot-requires add-write-slot write-slot-requires-2 same-length returns)
+write-pair-spec = tie.close (tie.spec write-slot-requires (search needs) write-slot-requires-2 (search needs) returns)

@@ -21,9 +21,6 @@ write-pair-requires-2 c κs =
     let pair = pairBits (a .flag) (a .params .now) (a .prior .now) (a .gm-type) (a .first) in
     (e .pre .0, lit< tt, room-back _ _ (pair (a .slot)) (pair 0) _ _ (c .before .before .before .write-pair .ensures) (e .pre .2))
 
-same-length : tie.Need-same-length
-same-length c = search needs
-
 returns : tie.Need-returns
 returns c =
     let a = c .before .before .before .before .before .before .before .before .before .args in
@@ -31,4 +28,4 @@ returns c =
     wrote-both (pair (a .slot)) (pair 0) (c .before .before .before .before .before .before .write-pair .ensures) (c .before .before .write-pair2 .ensures)
 
 pub write-pairs-spec : {M : Type 1} → statement M
-write-pairs-spec = tie.close (tie.spec write-pair-requires write-pair-requires-2 same-length returns)
+write-pairs-spec = tie.close (tie.spec write-pair-requires write-pair-requires-2 (search needs) returns)

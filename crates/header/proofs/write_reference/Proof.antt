@@ -20,9 +20,6 @@ write-model-requires c κs =
     let a = e .args in
     (e .pre .0, room-back _ _ (typeBits (a .gm-type)) (modelBits (a .flag) (a .params .now) (a .prior .now) (a .gm-type) (a .first)) _ _ (c .before .before .before .write-type .ensures) (e .pre .1))
 
-same-length : tie.Need-same-length
-same-length c = search needs
-
 returns : tie.Need-returns
 unfolding referenceBits
 returns c =
@@ -30,4 +27,4 @@ returns c =
     wrote-both (typeBits (a .gm-type)) (modelBits (a .flag) (a .params .now) (a .prior .now) (a .gm-type) (a .first)) (c .before .before .before .before .before .before .write-type .ensures) (c .before .before .write-model .ensures)
 
 pub write-reference-spec : {M : Type 1} → statement M
-write-reference-spec = tie.close (tie.spec write-type-requires write-model-requires same-length returns)
+write-reference-spec = tie.close (tie.spec write-type-requires write-model-requires (search needs) returns)

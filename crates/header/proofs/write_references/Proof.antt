@@ -5,7 +5,7 @@ use mathlib.Core.List.{List, _++_}
 use mathlib.Core.Path.{_≡_, refl, sym, ap, _∙_}
 use native.Mathlib.Omega.{arith}
 use lib.IntN.{ℤ}
-use lib.ListN.{length, getD, length-append}
+use lib.ListN.{length, getD}
 use borrow.Author.Needs.{needs}
 use Rattle.bits.specs.Bits.{putBits, Room, Wrote}
 use Rattle.bits.proofs.Buffer.{wrote-rest, wrote-length, room-front}
@@ -74,12 +74,6 @@ write-reference-requires c κs =
       room (a .flag) (a .types .now) (a .params .now) (a .prior .now) (l .header) (l .next .at) _ _ (l .r) (c .before .before .loop-test .taken) (inv .2) (omega (arith, pre .1 .within, inv .1)) (pre .1 .small),
     )
 
-add-r : tie.Need-add-r Inv-loop μ-loop
-add-r c = search needs
-
-loop-less : tie.Need-loop-less Inv-loop μ-loop
-loop-less c = search needs
-
 loop-again : tie.Need-loop-again Inv-loop μ-loop
 loop-again c =
     let a = c .before .before .before .before .before .before .before .before .before .args in
@@ -90,9 +84,6 @@ loop-again c =
       more (a .flag) (a .types .now) (a .params .now) (a .prior .now) (l .header) (l .next .at) _ _ (l .r) (c .before .before .before .before .before .loop-test .taken) (l .inv .2) _ _ e,
     )
 
-same-length : tie.Need-same-length Inv-loop μ-loop
-same-length c = search needs
-
 returns : tie.Need-returns Inv-loop μ-loop
 returns c =
     let l = c .before .loop in
@@ -101,4 +92,4 @@ returns c =
     record { at = omega (arith, w .at); buffer = sym (w .buffer) }
 
 pub write-references-spec : {M : Type 1} → statement M
-write-references-spec = tie.close (tie.spec Inv-loop μ-loop loop-holds shared-slice-read-write-reference mul-write-reference write-reference-requires add-r loop-less loop-again same-length returns)
+write-references-spec = tie.close (tie.spec Inv-loop μ-loop loop-holds shared-slice-read-write-reference mul-write-reference write-reference-requires (search needs) (search needs) loop-again (search needs) returns)

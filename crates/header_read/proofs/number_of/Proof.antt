@@ -24,12 +24,6 @@ answered : (gmType flag slot t : ℕ) (b : ParamBits) (c : ℕ) (r : ℤ) → b 
 answered gmType flag slot t b c r eb ec er =
     er ∙ ap (λ (x : ParamBits). numberOf (x .«abs_bits») (x .«prec_bits») c t) eb ∙ ap (λ (x : ℕ). numberOf (absBits gmType flag slot) (precBits gmType flag slot) x t) ec
 
-global-param-bits-requires : tie.Need-global-param-bits-requires
-global-param-bits-requires c κs = search needs
-
-centre-of-requires : tie.Need-centre-of-requires
-centre-of-requires c κs = search needs
-
 number-of-requires : tie.Need-number-of-requires
 number-of-requires c κs = asked (c .before .before .args .gm-type) (c .before .before .args .flag) (c .before .before .args .slot) (c .before .before .args .symbol) _ _ (c .before .global-param-bits .ensures) (c .centre-of .ensures) (c .before .before .pre)
 
@@ -38,4 +32,4 @@ returns c = result-reads w32 _ (c .number-of .ok) ∙ answered (c .before .befor
 
 pub number-of-spec : {M : Type 1} → statement M
 number-of-spec =
-    tie.close (tie.spec global-param-bits-requires centre-of-requires number-of-requires returns)
+    tie.close (tie.spec (search needs) (search needs) number-of-requires returns)

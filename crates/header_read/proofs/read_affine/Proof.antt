@@ -9,15 +9,6 @@ use Rattle.header_read.proofs.Composed.{affined}
 use Rattle.header_read.proofs.read_affine.Statement.{statement}
 use Rattle.header_read.proofs.read_affine.Tie as tie
 
-read-pair-requires : tie.Need-read-pair-requires
-read-pair-requires c κs = search needs
-
-read-pair-requires-2 : tie.Need-read-pair-requires-2
-read-pair-requires-2 c κs = search needs
-
-read-pair-requires-3 : tie.Need-read-pair-requires-3
-read-pair-requires-3 c κs = search needs
-
 returns : tie.Need-returns
 returns c =
     let a = c .before .before .before .before .before .before .before .before .args in
@@ -36,4 +27,4 @@ returns c =
     refl
 
 pub read-affine-spec : {M : Type 1} → statement M
-read-affine-spec = tie.close (tie.spec read-pair-requires read-pair-requires-2 read-pair-requires-3 returns)
+read-affine-spec = tie.close (tie.spec (search needs) (search needs) (search needs) returns)

@@ -14,28 +14,10 @@ use Rattle.header_read.proofs.Answers.{ended, from-byte}
 use Rattle.header_read.proofs.read_from.Statement.{statement}
 use Rattle.header_read.proofs.read_from.Tie as tie
 
-no-models-requires : tie.Need-no-models-requires
-no-models-requires c κs = search needs
-
 returns : tie.Need-returns
 returns c =
     let a = c .before .before .before .args in
     c .no-models .ensures ∙ ended (a .header .now) (a .at) (a .flag) (a .prior .now) (c .before .if1 .taken)
-
-sub-bytes : tie.Need-sub-bytes
-sub-bytes c = search needs
-
-new-requires : tie.Need-new-requires
-new-requires c κs = search needs
-
-sub-read-references : tie.Need-sub-read-references
-sub-read-references c = search needs
-
-part-read-references-start : tie.Need-part-read-references-start
-part-read-references-start c = search needs
-
-part-read-references-end : tie.Need-part-read-references-end
-part-read-references-end c = search needs
 
 read-references-requires : tie.Need-read-references-requires
 read-references-requires c κs =
@@ -57,4 +39,4 @@ returns-2 c =
     c .answer .ensures ∙ from-byte (a .header .now) (a .at) (a .flag) (a .prior .now) (e .pre) (omega (arith, c .before .before .before .before .if1 .left)) (c .before .read-references .result) read
 
 pub read-from-spec : {M : Type 1} → statement M
-read-from-spec = tie.close (tie.spec no-models-requires returns sub-bytes new-requires sub-read-references part-read-references-start part-read-references-end read-references-requires answer-requires returns-2)
+read-from-spec = tie.close (tie.spec (search needs) returns (search needs) (search needs) (search needs) (search needs) (search needs) read-references-requires answer-requires returns-2)

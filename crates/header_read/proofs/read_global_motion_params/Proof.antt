@@ -6,27 +6,15 @@ use Rattle.header_read.proofs.Answers.{wrong-length, no-such-code, prio
 use Rattle.header_read.proofs.read_global_motion_params.Statement.{statement}
 use Rattle.header_read.proofs.read_global_motion_params.Tie as tie
 
-no-models-requires : tie.Need-no-models-requires
-no-models-requires c κs = search needs
-
 returns : tie.Need-returns
 returns c =
     let a = c .before .before .before .args in
     c .no-models .ensures ∙ wrong-length (a .header .now) (a .at) (a .flag) (a .prior .now) (c .before .if1 .taken)
 
-no-models-requires-2 : tie.Need-no-models-requires-2
-no-models-requires-2 c κs = search needs
-
 returns-2 : tie.Need-returns-2
 returns-2 c =
     let a = c .before .before .before .before .args in
     c .no-models2 .ensures ∙ no-such-code (a .header .now) (a .at) (a .flag) (a .prior .now) (c .before .before .if1 .left) (c .before .if2 .taken)
-
-priors-out-requires : tie.Need-priors-out-requires
-priors-out-requires c κs = search needs
-
-no-models-requires-3 : tie.Need-no-models-requires-3
-no-models-requires-3 c κs = search needs
 
 returns-3 : tie.Need-returns-3
 returns-3 c =
@@ -43,4 +31,4 @@ returns-4 c =
     (record { places = c .before .before .before .before .if1 .left; within = sym (c .before .before .priors-out .ensures) ∙ c .before .if3 .left })
 
 pub read-global-motion-params-spec : {M : Type 1} → statement M
-read-global-motion-params-spec = tie.close (tie.spec no-models-requires returns no-models-requires-2 returns-2 priors-out-requires no-models-requires-3 returns-3 read-from-requires returns-4)
+read-global-motion-params-spec = tie.close (tie.spec (search needs) returns (search needs) returns-2 (search needs) (search needs) returns-3 read-from-requires returns-4)

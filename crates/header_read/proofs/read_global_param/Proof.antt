@@ -24,12 +24,6 @@ use Rattle.header_read.proofs.Coefficient.{coefficient-few, coefficient
 symbols-of-requires : tie.Need-symbols-of-requires
 symbols-of-requires c κs = subst (λ (q : ℤ). PriorIn (c .before .args .slot) q) (sym (toZ-ofZ (c .before .fits .prior))) (c .before .pre .0)
 
-decode-unsigned-subexp-with-ref-requires : tie.Need-decode-unsigned-subexp-with-ref-requires
-decode-unsigned-subexp-with-ref-requires c κs = search needs
-
-number-of-requires : tie.Need-number-of-requires
-number-of-requires c κs = search needs
-
 returns : tie.Need-returns
 unfolding coefficient
 returns c =
@@ -55,6 +49,6 @@ read-global-param-spec =
     tie.close
     (tie.spec
     symbols-of-requires
-    decode-unsigned-subexp-with-ref-requires
-    number-of-requires
+    (search needs)
+    (search needs)
     returns)

@@ -10,21 +10,6 @@ use Rattle.laws.specs.Placed.{placed}
 use Rattle.header_read.proofs.read_next.Statement.{statement}
 use Rattle.header_read.proofs.read_next.Tie as tie
 
-mul-read-reference : tie.Need-mul-read-reference
-mul-read-reference c = search needs
-
-read-reference-requires : tie.Need-read-reference-requires
-read-reference-requires c κs = search needs
-
-array-write-types : tie.Need-array-write-types
-array-write-types c = search needs
-
-mul-with-six : tie.Need-mul-with-six
-mul-with-six c = search needs
-
-with-six-requires : tie.Need-with-six-requires
-with-six-requires c κs = search needs
-
 returns : tie.Need-returns
 returns c =
     let m = c .before .before .before .read-reference .ensures in
@@ -36,4 +21,4 @@ returns c =
     }
 
 pub read-next-spec : {M : Type 1} → statement M
-read-next-spec = tie.close (tie.spec mul-read-reference read-reference-requires array-write-types mul-with-six with-six-requires returns)
+read-next-spec = tie.close (tie.spec (search needs) (search needs) (search needs) (search needs) (search needs) returns)

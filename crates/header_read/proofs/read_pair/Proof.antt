@@ -9,15 +9,6 @@ use Rattle.header_read.proofs.Composed.{paired}
 use Rattle.header_read.proofs.read_pair.Statement.{statement}
 use Rattle.header_read.proofs.read_pair.Tie as tie
 
-read-slot-requires : tie.Need-read-slot-requires
-read-slot-requires c κs = search needs
-
-add-read-slot : tie.Need-add-read-slot
-add-read-slot c = search needs
-
-read-slot-requires-2 : tie.Need-read-slot-requires-2
-read-slot-requires-2 c κs = search needs
-
 returns : tie.Need-returns
 returns c =
     let a = c .before .before .before .before .before .before .args in
@@ -27,4 +18,4 @@ returns c =
     (result-reads w32 _ (c .before .struct-told .given .0 .1)) (result-reads w32 _ (c .struct-told2 .given .0 .1)) refl
 
 pub read-pair-spec : {M : Type 1} → statement M
-read-pair-spec = tie.close (tie.spec read-slot-requires add-read-slot read-slot-requires-2 returns)
+read-pair-spec = tie.close (tie.spec (search needs) (search needs) (search needs) returns)

@@ -7,12 +7,6 @@ use Rattle.header_read.proofs.Composed.{referenced}
 use Rattle.header_read.proofs.read_reference.Statement.{statement}
 use Rattle.header_read.proofs.read_reference.Tie as tie
 
-read-type-requires : tie.Need-read-type-requires
-read-type-requires c κs = search needs
-
-read-model-requires : tie.Need-read-model-requires
-read-model-requires c κs = search needs
-
 returns : tie.Need-returns
 returns c =
     let a = c .before .before .before .before .before .args in
@@ -21,4 +15,4 @@ returns c =
     (c .before .before .before .read-type .ensures) (c .before .before .read-model .ensures) refl refl refl
 
 pub read-reference-spec : {M : Type 1} → statement M
-read-reference-spec = tie.close (tie.spec read-type-requires read-model-requires returns)
+read-reference-spec = tie.close (tie.spec (search needs) (search needs) returns)

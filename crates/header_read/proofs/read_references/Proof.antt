@@ -31,12 +31,6 @@ read-next-requires c κs =
       c .loop-test .taken,
     )
 
-add-r : tie.Need-add-r Inv-loop μ-loop
-add-r c = search needs
-
-loop-less : tie.Need-loop-less Inv-loop μ-loop
-loop-less c = search needs
-
 loop-again : tie.Need-loop-again Inv-loop μ-loop
 loop-again c =
     let a = c .before .before .before .before .args in
@@ -48,4 +42,4 @@ returns c =
     all-read (bitAt (a .header .now)) (a .flag) (a .prior .now) _ _ _ _ (c .before .loop .r) (c .before .loop .inv) (c .loop-test .left) (c .before .loop .seven) refl refl refl
 
 pub read-references-spec : {M : Type 1} → statement M
-read-references-spec = tie.close (tie.spec Inv-loop μ-loop loop-holds read-next-requires add-r loop-less loop-again returns)
+read-references-spec = tie.close (tie.spec Inv-loop μ-loop loop-holds read-next-requires (search needs) (search needs) loop-again returns)

@@ -10,12 +10,6 @@ use Rattle.header_read.proofs.Composed.{rotzoomed}
 use Rattle.header_read.proofs.read_rotzoom.Statement.{statement}
 use Rattle.header_read.proofs.read_rotzoom.Tie as tie
 
-read-pair-requires : tie.Need-read-pair-requires
-read-pair-requires c κs = search needs
-
-read-pair-requires-2 : tie.Need-read-pair-requires-2
-read-pair-requires-2 c κs = search needs
-
 opposite-requires : tie.Need-opposite-requires
 opposite-requires c κs =
     rw (result-reads w32 (c .before .before .read-pair .result .second) (c .struct-told .given .1 .0 .1)) (c .before .before .read-pair .ensures .small)
@@ -39,4 +33,4 @@ returns c =
     refl
 
 pub read-rotzoom-spec : {M : Type 1} → statement M
-read-rotzoom-spec = tie.close (tie.spec read-pair-requires read-pair-requires-2 opposite-requires returns)
+read-rotzoom-spec = tie.close (tie.spec (search needs) (search needs) opposite-requires returns)

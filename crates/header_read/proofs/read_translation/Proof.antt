@@ -9,9 +9,6 @@ use Rattle.header_read.proofs.Composed.{translated}
 use Rattle.header_read.proofs.read_translation.Statement.{statement}
 use Rattle.header_read.proofs.read_translation.Tie as tie
 
-read-pair-requires : tie.Need-read-pair-requires
-read-pair-requires c κs = search needs
-
 returns : tie.Need-returns
 returns c =
     let a = c .before .before .before .before .args in
@@ -20,4 +17,4 @@ returns c =
     (rw (result-reads w32 (t .result .first) (c .before .struct-told .given .0 .1), result-reads w32 (t .result .second) (c .before .struct-told .given .1 .0 .1))) refl
 
 pub read-translation-spec : {M : Type 1} → statement M
-read-translation-spec = tie.close (tie.spec read-pair-requires returns)
+read-translation-spec = tie.close (tie.spec (search needs) returns)

@@ -9,16 +9,10 @@ use Rattle.header_read.proofs.Composed.{identity-typed, rotzoom-typed, 
 use Rattle.header_read.proofs.read_type.Statement.{statement}
 use Rattle.header_read.proofs.read_type.Tie as tie
 
-read-bit-requires : tie.Need-read-bit-requires
-read-bit-requires c κs = search needs
-
 returns : tie.Need-returns
 returns c =
     let a = c .before .before .before .before .before .args in
     identity-typed (bitAt (a .header .now)) (a .cursor .at) _ (sym (c .before .before .before .read-bit .ensures .value) ∙ c .if1 .taken) refl (c .before .before .before .read-bit .ensures .next)
-
-read-bit-requires-2 : tie.Need-read-bit-requires-2
-read-bit-requires-2 c κs = search needs
 
 returns-2 : tie.Need-returns-2
 returns-2 c =
@@ -27,9 +21,6 @@ returns-2 c =
     let second : c .before .before .before .read-bit2 .result .value ≡ g (j + 1) = c .before .before .before .read-bit2 .ensures .value ∙ ap g (c .before .before .before .before .before .before .before .read-bit .ensures .next) in
     rotzoom-typed g j _ (λ z. c .before .before .before .before .if1 .left (c .before .before .before .before .before .before .before .read-bit .ensures .value ∙ z)) (sym second ∙ c .if2 .taken) refl
     (omega (arith, c .before .before .before .read-bit2 .ensures .next, c .before .before .before .before .before .before .before .read-bit .ensures .next))
-
-read-bit-requires-3 : tie.Need-read-bit-requires-3
-read-bit-requires-3 c κs = search needs
 
 returns-3 : tie.Need-returns-3
 returns-3 c =
@@ -52,4 +43,4 @@ returns-4 c =
     (omega (arith, c .before .before .before .read-bit3 .ensures .next))
 
 pub read-type-spec : {M : Type 1} → statement M
-read-type-spec = tie.close (tie.spec read-bit-requires returns read-bit-requires-2 returns-2 read-bit-requires-3 returns-3 returns-4)
+read-type-spec = tie.close (tie.spec (search needs) returns (search needs) returns-2 (search needs) returns-3 returns-4)

@@ -1,19 +1,11 @@
 -- `job::run` meets its contract.
 -- Assumes nothing.
 use Rattle.job.proofs.Ending.{found-there, found-count, found-modelling, ended-found}
-use Rattle.job_refusal.proofs.Accepted.{ready}
-use Rattle.job_refusal.specs.Task.{task, lend}
-use mathlib.Core.Path.{_≡_, refl, sym, ap, _∙_}
+use Rattle.job_task.proofs.Accepted.{ready}
+use Rattle.job_task.specs.Task.{task, lend}
 use borrow.Author.Needs.{needs}
 use Rattle.job.proofs.run.Statement.{statement}
 use Rattle.job.proofs.run.Tie as tie
-use Rattle.job.proofs.run.Reads as reads
-use Rattle.job.proofs.run.Lts as lts
-use Rattle.job.proofs.finish.Reads as finish-reads
-use Rattle.search.proofs.collect_motion_samples.Reads as collect-motion-samples-reads
-
-collect-motion-samples-requires : tie.Need-collect-motion-samples-requires
-collect-motion-samples-requires c κs = search needs
 
 slice-reshare-prefix-finish : tie.Need-slice-reshare-prefix-finish
 slice-reshare-prefix-finish c = let e = c .before .before .before .before .before .before .before .before .before .before .before .before .before .before .before .before .before .before .before in found-there (task (e .args .input .now) (e .args .reference .now) (e .args .width) (e .args .height) (e .args .settings) (e .args .classes .now) (e .args .types .now) (e .args .models .now) (e .args .prior .now)) (lend (e .args .input-half .now) (e .args .ref-half .now) (e .args .words .now) (e .args .blocks .now) (e .args .header .now)) (ready (task (e .args .input .now) (e .args .reference .now) (e .args .width) (e .args .height) (e .args .settings) (e .args .classes .now) (e .args .types .now) (e .args .models .now) (e .args .prior .now)) (lend (e .args .input-half .now) (e .args .ref-half .now) (e .args .words .now) (e .args .blocks .now) (e .args .header .now)) (e .pre)) (c .before .before .before .before .before .before .collect-motion-samples .ensures)
@@ -24,21 +16,6 @@ slice-aggregate-finish c = let e = c .before .before .before .before .before .be
 finish-requires : tie.Need-finish-requires
 finish-requires c κs = let e = c .before .before .before .before .before .before .before .before .before .before .before .before .before .before .before .before .before .before .before .before .before .before in found-modelling (task (e .args .input .now) (e .args .reference .now) (e .args .width) (e .args .height) (e .args .settings) (e .args .classes .now) (e .args .types .now) (e .args .models .now) (e .args .prior .now)) (lend (e .args .input-half .now) (e .args .ref-half .now) (e .args .words .now) (e .args .blocks .now) (e .args .header .now)) (ready (task (e .args .input .now) (e .args .reference .now) (e .args .width) (e .args .height) (e .args .settings) (e .args .classes .now) (e .args .types .now) (e .args .models .now) (e .args .prior .now)) (lend (e .args .input-half .now) (e .args .ref-half .now) (e .args .words .now) (e .args .blocks .now) (e .args .header .now)) (e .pre)) (c .before .before .before .before .before .before .before .before .before .collect-motion-samples .ensures)
 
-same-length : tie.Need-same-length
-same-length c = search needs
-
-same-length-2 : tie.Need-same-length-2
-same-length-2 c = search needs
-
-same-length-3 : tie.Need-same-length-3
-same-length-3 c = search needs
-
-same-length-4 : tie.Need-same-length-4
-same-length-4 c = search needs
-
-same-length-5 : tie.Need-same-length-5
-same-length-5 c = search needs
-
 returns : tie.Need-returns
 returns c = let e = c .before .before .before .before .before .before .before .before .before .before .before .before .before .before .before .before .before .before .before .before .before .before .before .before .before .before .before in ended-found (task (e .args .input .now) (e .args .reference .now) (e .args .width) (e .args .height) (e .args .settings) (e .args .classes .now) (e .args .types .now) (e .args .models .now) (e .args .prior .now)) (lend (e .args .input-half .now) (e .args .ref-half .now) (e .args .words .now) (e .args .blocks .now) (e .args .header .now)) (e .pre) (c .before .before .before .before .before .before .before .before .before .before .before .before .before .before .collect-motion-samples .ensures) (c .before .before .before .before .finish .ensures .0) (c .before .before .before .before .finish .ensures .1 .0) (c .before .before .before .before .finish .ensures .1 .1)
 
@@ -46,13 +23,13 @@ pub run-spec : {M : Type 1} → statement M
 run-spec =
     tie.close
     (tie.spec
-    collect-motion-samples-requires
+    (search needs)
     slice-reshare-prefix-finish
     slice-aggregate-finish
     finish-requires
-    same-length
-    same-length-2
-    same-length-3
-    same-length-4
-    same-length-5
+    (search needs)
+    (search needs)
+    (search needs)
+    (search needs)
+    (search needs)
     returns)

@@ -34,7 +34,7 @@ use types.Share.{arr-parts}
 use sound.WpLaws.{FmC, fmOf, WpFn-mono}
 use denote.RattleType.{RattleType, owns}
 use denote.Laws.{Is, shows}
-use denote.Plain.{uint-vals, uint-tells, uint-makes}
+use denote.Plain.{uint-makes}
 use denote.Signed.{sint-vals, sint-tells, sint-lawful, sint-makes}
 use denote.Floats.{is-true, float-lawful, float-makes}
 use denote.Array.{Array, array-vals, array-tells, array-lawful, array-makes}
@@ -57,29 +57,29 @@ use denote.Triple.Clauses.{ensured, lasts}
 use Rattle.laws.specs.Loops.{fold}
 use Rattle.laws.specs.Binary64.{nought}
 use Rattle.laws.proofs.Fold.{fold-again, fold-done}
-use Rattle.model.specs.Score.{continuousModel, scoreStep, scoreOf}
+use Rattle.score.specs.Score.{continuousModel, scoreStep, scoreOf}
 use Rattle.sample.specs.declared.MotionSample.{MotionSample}
-use Rattle.model.specs.declared.ContinuousModel.{ContinuousModel}
-use Rattle.model.specs.declared.Score.{Score}
+use Rattle.score.specs.declared.ContinuousModel.{ContinuousModel}
+use Rattle.score.specs.declared.Score.{Score}
 use Rattle.lent.specs.Score.{scoreOfSamples}
 use Rattle.sample.proofs.MotionSample as P
 use Rattle.sample.proofs.MotionSample.Laws as P′
-use Rattle.model.proofs.ContinuousModel as K
-use Rattle.model.proofs.ContinuousModel.Laws as K′
-use Rattle.model.proofs.Score as S
-use Rattle.model.proofs.Score.Laws as S′
-use Rattle.model.proofs.continuous_of_params as model-of
-use Rattle.model.proofs.continuous_of_params.Symbol as model-of-def
-use Rattle.model.proofs.continuous_of_params.Symbol.{name as #model·continuous-of-params}
-use Rattle.model.proofs.continuous_of_params.Met as model-of-thm
-use Rattle.model.proofs.score_step as step
-use Rattle.model.proofs.score_step.Symbol as step-def
-use Rattle.model.proofs.score_step.Symbol.{name as #model·score-step}
-use Rattle.model.proofs.score_step.Met as step-thm
-use Rattle.model.proofs.score_of as ends
-use Rattle.model.proofs.score_of.Symbol as ends-def
-use Rattle.model.proofs.score_of.Symbol.{name as #model·score-of}
-use Rattle.model.proofs.score_of.Met as ends-thm
+use Rattle.score.proofs.ContinuousModel as K
+use Rattle.score.proofs.ContinuousModel.Laws as K′
+use Rattle.score.proofs.Score as S
+use Rattle.score.proofs.Score.Laws as S′
+use Rattle.score.proofs.continuous_of_params as model-of
+use Rattle.score.proofs.continuous_of_params.Symbol as model-of-def
+use Rattle.score.proofs.continuous_of_params.Symbol.{name as #model·continuous-of-params}
+use Rattle.score.proofs.continuous_of_params.Met as model-of-thm
+use Rattle.score.proofs.score_step as step
+use Rattle.score.proofs.score_step.Symbol as step-def
+use Rattle.score.proofs.score_step.Symbol.{name as #model·score-step}
+use Rattle.score.proofs.score_step.Met as step-thm
+use Rattle.score.proofs.score_of as ends
+use Rattle.score.proofs.score_of.Symbol as ends-def
+use Rattle.score.proofs.score_of.Symbol.{name as #model·score-of}
+use Rattle.score.proofs.score_of.Met as ends-thm
 use Rattle.lent.proofs.mean_sq_residual.Key.{name as #lent·mean-sq-residual}
 use Rattle.lent.proofs.mean_sq_residual as scored
 use Rattle.lent.proofs.mean_sq_residual.Statement as stated

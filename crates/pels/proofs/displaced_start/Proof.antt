@@ -6,25 +6,10 @@ use borrow.Author.Needs.{needs}
 use Rattle.pels.proofs.displaced_start.Statement.{statement}
 use Rattle.pels.proofs.displaced_start.Tie as tie
 
-add-clamp : tie.Need-add-clamp
-add-clamp c = search needs
-
-clamp-requires : tie.Need-clamp-requires
-clamp-requires c κs = search needs
-
-add-row-start : tie.Need-add-row-start
-add-row-start c = search needs
-
-sub-row-start : tie.Need-sub-row-start
-sub-row-start c = search needs
-
-row-start-requires : tie.Need-row-start-requires
-row-start-requires c κs = search needs
-
 returns : tie.Need-returns
 returns c = record { same = c .row-start .ensures .same ∙ ap (λ (q : ℕ). q * c .before .before .args .width + (c .before .before .args .c + c .before .before .args .x - c .before .before .args .bias)) (c .before .clamp .ensures); inside = c .row-start .ensures .inside }
 
 pub displaced-start-spec : {M : Type 1} → statement M
 displaced-start-spec =
     tie.close
-    (tie.spec add-clamp clamp-requires add-row-start sub-row-start row-start-requires returns)
+    (tie.spec (search needs) (search needs) (search needs) (search needs) (search needs) returns)

@@ -1,6 +1,6 @@
 -- `plane::downsample` meets its contract.
 -- Assumes nothing.
-use Prim.Native.Nat.{ℕ, _+_, _*_, _/_, _≤_, _<_, _-_}
+use Prim.Native.Nat.{ℕ, _/_, _≤_, _-_}
 use mathlib.Core.Path.{_≡_, refl, ap, _∙_}
 use native.Mathlib.Omega.{arith}
 use lib.ListN.{length}
@@ -11,9 +11,6 @@ use Rattle.plane.proofs.Listing.{rowByRow-more}
 use Rattle.plane.proofs.Halves.{rows-inside, room-inside}
 use Rattle.plane.proofs.downsample.Statement.{statement}
 use Rattle.plane.proofs.downsample.Tie as tie
-use Rattle.plane.proofs.downsample.Reads as reads
-use Rattle.plane.proofs.downsample.Lts as lts
-use Rattle.plane.proofs.halve_row.Reads as halve-row-reads
 
 abbrev Inv-loop : tie.InvT-loop
 Inv-loop p width height out₀ half-height r₀ out r = (r ≤ height / 2) × (out ≡ onto (rowByRow (halfPel p width) (width / 2) r) out₀) × (length out ≡ length out₀)
@@ -27,12 +24,6 @@ loop-holds c = (omega arith, refl, refl)
 halve-row-requires : tie.Need-halve-row-requires Inv-loop μ-loop
 halve-row-requires c κs = record { narrow = c .before .before .before .before .before .pre .narrow; row-small = omega arith; rows = rows-inside (c .before .before .before .before .before .args .width) (c .before .before .before .before .before .args .height) (c .before .before .loop .r) (length (c .before .before .before .before .before .args .p .now)) (c .before .before .before .before .before .pre .pels) (omega arith); room = room-inside (c .before .before .before .before .before .args .width) (c .before .before .before .before .before .args .height) (c .before .before .loop .r) (c .before .before .before .before .before .pre .room) (c .before .before .loop .inv .2) (omega arith) }
 
-add-r : tie.Need-add-r Inv-loop μ-loop
-add-r c = search needs
-
-loop-less : tie.Need-loop-less Inv-loop μ-loop
-loop-less c = search needs
-
 loop-again : tie.Need-loop-again Inv-loop μ-loop
 loop-again c =
     let w = c .before .before .before .before .before .before .before .before .args .width in (
@@ -43,9 +34,6 @@ loop-again c =
           (c .before .before .before .before .before .loop .inv .1),
       c .before .before .halve-row .kept .1 .1 .1 .0 ∙ c .before .before .before .before .before .loop .inv .2,
     )
-
-same-length : tie.Need-same-length Inv-loop μ-loop
-same-length c = search needs
 
 returns : tie.Need-returns Inv-loop μ-loop
 unfolding halfPlane
@@ -61,8 +49,8 @@ downsample-spec =
     μ-loop
     loop-holds
     halve-row-requires
-    add-r
-    loop-less
+    (search needs)
+    (search needs)
     loop-again
-    same-length
+    (search needs)
     returns)

@@ -6,18 +6,6 @@ use borrow.Author.Needs.{needs}
 use Rattle.quantize.proofs.continuous_linear.Statement.{statement}
 use Rattle.quantize.proofs.continuous_linear.Tie as tie
 
-continuous-of-requires : tie.Need-continuous-of-requires
-continuous-of-requires c κs = search needs
-
-continuous-of-requires-2 : tie.Need-continuous-of-requires-2
-continuous-of-requires-2 c κs = search needs
-
-continuous-of-requires-3 : tie.Need-continuous-of-requires-3
-continuous-of-requires-3 c κs = search needs
-
-continuous-of-requires-4 : tie.Need-continuous-of-requires-4
-continuous-of-requires-4 c κs = search needs
-
 returns : tie.Need-returns
 returns c = cc (rw (result-reads w32 (c .before .before .before .before .before .before .before .before .args .l .p2) (c .before .before .before .before .before .before .before .struct-told .given .0 .1)) at (c .before .before .before .before .before .before .continuous-of .ensures), rw (result-reads w32 (c .before .before .before .before .before .before .before .before .args .l .p3) (c .before .before .before .before .before .struct-told2 .given .1 .0 .1)) at (c .before .before .before .before .continuous-of2 .ensures), rw (result-reads w32 (c .before .before .before .before .before .before .before .before .args .l .p4) (c .before .before .before .struct-told3 .given .1 .1 .0 .1)) at (c .before .before .continuous-of3 .ensures), rw (result-reads w32 (c .before .before .before .before .before .before .before .before .args .l .p5) (c .before .struct-told4 .given .1 .1 .1 .0 .1)) at (c .continuous-of4 .ensures))
 
@@ -25,8 +13,8 @@ pub continuous-linear-spec : {M : Type 1} → statement M
 continuous-linear-spec =
     tie.close
     (tie.spec
-    continuous-of-requires
-    continuous-of-requires-2
-    continuous-of-requires-3
-    continuous-of-requires-4
+    (search needs)
+    (search needs)
+    (search needs)
+    (search needs)
     returns)

@@ -7,23 +7,11 @@ use borrow.Author.Needs.{needs}
 use Rattle.quantize.proofs.quantize_model.Statement.{statement}
 use Rattle.quantize.proofs.quantize_model.Tie as tie
 
-rejected-model-requires : tie.Need-rejected-model-requires
-rejected-model-requires c κs = search needs
-
 returns : tie.Need-returns
 returns c = rw (lt-ltb _ _ (c .before .if1 .taken)) (c .rejected-model .ensures)
 
-kind-of-requires : tie.Need-kind-of-requires
-kind-of-requires c κs = search needs
-
-rejected-model-requires-2 : tie.Need-rejected-model-requires-2
-rejected-model-requires-2 c κs = search needs
-
 returns-2 : tie.Need-returns-2
 returns-2 c = rw (le-ltb _ _ (c .before .before .before .if1 .left), ← c .before .before .kind-of .ensures, eq-eqb _ _ (c .before .if2 .taken)) (c .rejected-model2 .ensures)
-
-rejected-model-requires-3 : tie.Need-rejected-model-requires-3
-rejected-model-requires-3 c κs = search needs
 
 returns-3 : tie.Need-returns-3
 returns-3 c = rw (le-ltb _ _ (c .before .before .before .before .if1 .left), ← c .before .before .before .kind-of .ensures, ne-eqb _ _ (c .before .before .if2 .left), lt-ltb _ _ (c .before .if3 .taken)) (c .rejected-model3 .ensures)
@@ -38,12 +26,12 @@ pub quantize-model-spec : {M : Type 1} → statement M
 quantize-model-spec =
     tie.close
     (tie.spec
-    rejected-model-requires
+    (search needs)
     returns
-    kind-of-requires
-    rejected-model-requires-2
+    (search needs)
+    (search needs)
     returns-2
-    rejected-model-requires-3
+    (search needs)
     returns-3
     accepted-model-requires
     returns-4)

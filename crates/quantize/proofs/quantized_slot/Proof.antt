@@ -1,7 +1,6 @@
 -- `quantize::quantized_slot` meets its contract: the grid accepts the slot, and its answer is read back from its bits.
 -- Assumes nothing.
 use Rattle.grid.specs.declared.Quantized.{Quantized}
-use Rattle.grid_number.specs.GridNumber.{gridNumber}
 use Rattle.quantize.proofs.Slots.{accepted-answer}
 use mathlib.Core.Path.{ap, _∙_}
 use mir.Syntax.{w32}
@@ -10,12 +9,6 @@ use borrow.Author.Needs.{needs}
 use Rattle.quantize.proofs.quantized_slot.Statement.{statement}
 use Rattle.quantize.proofs.quantized_slot.Tie as tie
 
-grid-number-requires : tie.Need-grid-number-requires
-grid-number-requires c κs = search needs
-
-quantize-global-param-requires : tie.Need-quantize-global-param-requires
-quantize-global-param-requires c κs = search needs
-
 returns : tie.Need-returns
 returns c = rw (result-reads w32 (c .before .quantize-global-param .result .value) (c .struct-told .given .1 .0 .1), ← c .before .before .grid-number .ensures)
     (ap (λ (q : Quantized). q .value) (rw (result-reads w32 (c .before .before .grid-number .result) (c .before .before .grid-number .ok)) at (c .before .quantize-global-param .ensures))
@@ -23,4 +16,4 @@ returns c = rw (result-reads w32 (c .before .quantize-global-param .result .valu
 
 pub quantized-slot-spec : {M : Type 1} → statement M
 quantized-slot-spec =
-    tie.close (tie.spec grid-number-requires quantize-global-param-requires returns)
+    tie.close (tie.spec (search needs) (search needs) returns)

@@ -6,18 +6,9 @@ use borrow.Author.Needs.{needs}
 use Rattle.quantize.proofs.refit.Statement.{statement}
 use Rattle.quantize.proofs.refit.Tie as tie
 
-continuous-linear-requires : tie.Need-continuous-linear-requires
-continuous-linear-requires c κs = search needs
-
-refit-sums-requires : tie.Need-refit-sums-requires
-refit-sums-requires c κs = search needs
-
 returns : tie.Need-returns
 unfolding refitted
 returns c = rw (eq-eqb _ _ (c .if1 .taken))
-
-count-of-requires : tie.Need-count-of-requires
-count-of-requires c κs = search needs
 
 returns-2 : tie.Need-returns-2
 unfolding refitted
@@ -26,4 +17,4 @@ returns-2 c = rw (ne-eqb _ _ (c .before .before .before .if1 .left), ← c .befo
 pub refit-spec : {M : Type 1} → statement M
 refit-spec =
     tie.close
-    (tie.spec continuous-linear-requires refit-sums-requires returns count-of-requires returns-2)
+    (tie.spec (search needs) (search needs) returns (search needs) returns-2)

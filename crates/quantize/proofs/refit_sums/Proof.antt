@@ -19,29 +19,11 @@ Inv-loop m words t₀ centres i₀ t i = fold (reading (refitStep m) sampleOf) (
 abbrev μ-loop : tie.MeasureT-loop
 μ-loop m words t₀ centres i₀ t i = length words - i
 
-centres-requires : tie.Need-centres-requires Inv-loop μ-loop
-centres-requires c κs = search needs
-
 loop-holds : tie.Need-loop-holds Inv-loop μ-loop
 loop-holds c = refl
 
-mul-sample-by : tie.Need-mul-sample-by Inv-loop μ-loop
-mul-sample-by c = search needs
-
-shared-slice-read-sample-by : tie.Need-shared-slice-read-sample-by Inv-loop μ-loop
-shared-slice-read-sample-by c = search needs
-
 sample-by-requires : tie.Need-sample-by-requires Inv-loop μ-loop
 sample-by-requires c κs = c .before .before .before .before .centres .ensures
-
-refit-step-requires : tie.Need-refit-step-requires Inv-loop μ-loop
-refit-step-requires c κs = search needs
-
-add-i : tie.Need-add-i Inv-loop μ-loop
-add-i c = search needs
-
-loop-less : tie.Need-loop-less Inv-loop μ-loop
-loop-less c = search needs
 
 loop-again : tie.Need-loop-again Inv-loop μ-loop
 loop-again c = fold-again (reading (refitStep (c .before .before .before .before .before .before .before .before .args .m)) sampleOf) (c .before .before .before .before .before .before .before .before .args .words .now) (c .before .before .before .before .before .loop .i) 0
@@ -56,13 +38,13 @@ refit-sums-spec =
     (tie.spec
     Inv-loop
     μ-loop
-    centres-requires
+    (search needs)
     loop-holds
-    mul-sample-by
-    shared-slice-read-sample-by
+    (search needs)
+    (search needs)
     sample-by-requires
-    refit-step-requires
-    add-i
-    loop-less
+    (search needs)
+    (search needs)
+    (search needs)
     loop-again
     returns)

@@ -1,25 +1,15 @@
 -- `search::collect_motion_samples` meets its contract.
 -- Assumes nothing.
-use Prim.Native.Nat.{ℕ, _+_, _*_, _-_, _/_, _%_, _≤_, _<_}
-use mathlib.Core.List.{List}
-use mathlib.Core.Path.{_≡_, refl, sym, ap, _∙_}
-use native.Mathlib.Nat.{div-lt-iff-lt-mul, mod-lt}
+use Prim.Native.Nat.{_-_}
+use mathlib.Core.Path.{sym, _∙_}
 use native.Mathlib.Omega.{arith}
-use lib.ListN.{length, take, drop, getD, length-set}
-use borrow.Author.Tests.{lt-ltb, le-ltb, eq-eqb, ne-eqb}
+use lib.ListN.{length}
 use Rattle.search.specs.Refusal.{task, lent}
 use Rattle.search.proofs.Rows.{ready, count-small, small-sides}
 use Rattle.search.proofs.Ending.{done-refused, done-none, done-some}
 use borrow.Author.Needs.{needs}
 use Rattle.search.proofs.collect_motion_samples.Statement.{statement}
 use Rattle.search.proofs.collect_motion_samples.Tie as tie
-use Rattle.search.proofs.collect_motion_samples.Reads as reads
-use Rattle.search.proofs.collect_motion_samples.Lts as lts
-use Rattle.search.proofs.refusals.refusal_of.Reads as refusal-of-reads
-use Rattle.search.proofs.search_into.Reads as search-into-reads
-
-refusal-of-requires : tie.Need-refusal-of-requires
-refusal-of-requires c κs = search needs
 
 returns : tie.Need-returns
 returns c = done-refused (task (c .before .before .before .before .before .before .before .before .args .input-y .now) (c .before .before .before .before .before .before .before .before .args .ref-y .now) (c .before .before .before .before .before .before .before .before .args .width) (c .before .before .before .before .before .before .before .before .args .height) (c .before .before .before .before .before .before .before .before .args .classes .now)) (lent (c .before .before .before .before .before .before .before .before .args .input-half .now) (c .before .before .before .before .before .before .before .before .args .ref-half .now) (c .before .before .before .before .before .before .before .before .args .words .now)) (c .before .refusal-of .ensures) (c .if1 .taken)
@@ -33,15 +23,6 @@ returns-2 c = done-none (task (c .before .before .before .before .before .before
 search-into-requires : tie.Need-search-into-requires
 search-into-requires c κs = ready (c .before .before .before .before .before .before .before .before .before .before .before .before .args .input-y .now) (c .before .before .before .before .before .before .before .before .before .before .before .before .args .ref-y .now) (c .before .before .before .before .before .before .before .before .before .before .before .before .args .width) (c .before .before .before .before .before .before .before .before .before .before .before .before .args .height) (c .before .before .before .before .before .before .before .before .before .before .before .before .args .classes .now) (c .before .before .before .before .before .before .before .before .before .before .before .before .args .input-half .now) (c .before .before .before .before .before .before .before .before .before .before .before .before .args .ref-half .now) (c .before .before .before .before .before .before .before .before .before .before .before .before .args .words .now) (sym (c .before .before .before .before .before .refusal-of .ensures) ∙ c .before .before .before .before .if1 .left) (omega arith)
 
-same-length : tie.Need-same-length
-same-length c = search needs
-
-same-length-2 : tie.Need-same-length-2
-same-length-2 c = search needs
-
-same-length-3 : tie.Need-same-length-3
-same-length-3 c = search needs
-
 returns-3 : tie.Need-returns-3
 returns-3 c = done-some (task (c .before .before .before .before .before .before .before .before .before .before .before .before .before .before .before .before .before .before .before .args .input-y .now) (c .before .before .before .before .before .before .before .before .before .before .before .before .before .before .before .before .before .before .before .args .ref-y .now) (c .before .before .before .before .before .before .before .before .before .before .before .before .before .before .before .before .before .before .before .args .width) (c .before .before .before .before .before .before .before .before .before .before .before .before .before .before .before .before .before .before .before .args .height) (c .before .before .before .before .before .before .before .before .before .before .before .before .before .before .before .before .before .before .before .args .classes .now)) (lent (c .before .before .before .before .before .before .before .before .before .before .before .before .before .before .before .before .before .before .before .args .input-half .now) (c .before .before .before .before .before .before .before .before .before .before .before .before .before .before .before .before .before .before .before .args .ref-half .now) (c .before .before .before .before .before .before .before .before .before .before .before .before .before .before .before .before .before .before .before .args .words .now)) (sym (c .before .before .before .before .before .before .before .before .before .before .before .before .refusal-of .ensures) ∙ c .before .before .before .before .before .before .before .before .before .before .before .if1 .left) (c .before .before .before .before .before .before .before .before .before .before .if2 .left) (c .before .before .before .before .before .before .search-into .ensures .0) (c .before .before .before .before .before .before .search-into .ensures .1 .0) (c .before .before .before .before .before .before .search-into .ensures .1 .1)
 
@@ -49,12 +30,12 @@ pub collect-motion-samples-spec : {M : Type 1} → statement M
 collect-motion-samples-spec =
     tie.close
     (tie.spec
-    refusal-of-requires
+    (search needs)
     returns
     mul-samples
     returns-2
     search-into-requires
-    same-length
-    same-length-2
-    same-length-3
+    (search needs)
+    (search needs)
+    (search needs)
     returns-3)

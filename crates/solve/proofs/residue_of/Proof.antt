@@ -15,26 +15,8 @@ Inv-loop size s u row acc₀ k₀ acc k = run (residueStep s u row) k size acc �
 abbrev μ-loop : tie.MeasureT-loop
 μ-loop size s u row acc₀ k₀ acc k = size - k
 
-mul-acc : tie.Need-mul-acc Inv-loop μ-loop
-mul-acc c = search needs
-
-array-read-acc : tie.Need-array-read-acc Inv-loop μ-loop
-array-read-acc c = search needs
-
-add-k : tie.Need-add-k Inv-loop μ-loop
-add-k c = search needs
-
 loop-holds : tie.Need-loop-holds Inv-loop μ-loop
 loop-holds c = refl
-
-residue-step-requires : tie.Need-residue-step-requires Inv-loop μ-loop
-residue-step-requires c κs = search needs
-
-add-k-2 : tie.Need-add-k-2 Inv-loop μ-loop
-add-k-2 c = search needs
-
-loop-less : tie.Need-loop-less Inv-loop μ-loop
-loop-less c = search needs
 
 loop-again : tie.Need-loop-again Inv-loop μ-loop
 loop-again c = again (residueStep (c .before .before .before .before .args .s) (c .before .before .before .before .args .u) (c .before .before .before .before .args .row)) (c .before .loop-test .taken) (c .residue-step .ensures) (c .before .before .loop .inv)
@@ -49,12 +31,12 @@ residue-of-spec =
     (tie.spec
     Inv-loop
     μ-loop
-    mul-acc
-    array-read-acc
-    add-k
+    (search needs)
+    (search needs)
+    (search needs)
     loop-holds
-    residue-step-requires
-    add-k-2
-    loop-less
+    (search needs)
+    (search needs)
+    (search needs)
     loop-again
     returns)

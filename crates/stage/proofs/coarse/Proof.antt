@@ -19,17 +19,8 @@ Inv-loop input reference width height r c best₀ k₀ best k = Turns (consider 
 abbrev μ-loop : tie.MeasureT-loop
 μ-loop input reference width height r c best₀ k₀ best k = 625 - k
 
-sad-half-requires : tie.Need-sad-half-requires Inv-loop μ-loop
-sad-half-requires c κs = search needs
-
 loop-holds : tie.Need-loop-holds Inv-loop μ-loop
 loop-holds c = begins _ _ _
-
-coarse-candidate-requires : tie.Need-coarse-candidate-requires Inv-loop μ-loop
-coarse-candidate-requires c κs = search needs
-
-add-k : tie.Need-add-k Inv-loop μ-loop
-add-k c = search needs
 
 loop-less : tie.Need-loop-less Inv-loop μ-loop
 loop-less c = omega arith
@@ -50,10 +41,10 @@ coarse-spec =
     (tie.spec
     Inv-loop
     μ-loop
-    sad-half-requires
+    (search needs)
     loop-holds
-    coarse-candidate-requires
-    add-k
+    (search needs)
+    (search needs)
     loop-less
     loop-again
     returns)

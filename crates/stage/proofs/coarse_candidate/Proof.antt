@@ -17,15 +17,6 @@ returns c =
     let a = c .before .before .before .args in
     consider-centre (withOffset (blockCost 8 (a .input .now) (a .reference .now) (a .width) (a .height) (a .r) (a .c))) 12 1 (offset 12 12) (offset 12 12) (a .k) (seen 12 (a .best)) (c .if1 .taken)
 
-sad-half-requires : tie.Need-sad-half-requires
-sad-half-requires c κs = search needs
-
-with-offset-requires : tie.Need-with-offset-requires
-with-offset-requires c κs = search needs
-
-better-requires : tie.Need-better-requires
-better-requires c κs = search needs
-
 returns-2 : tie.Need-returns-2
 returns-2 c =
     let a = c .before .before .before .before .before .before .args in
@@ -38,4 +29,4 @@ returns-2 c =
 
 pub coarse-candidate-spec : {M : Type 1} → statement M
 coarse-candidate-spec =
-    tie.close (tie.spec returns sad-half-requires with-offset-requires better-requires returns-2)
+    tie.close (tie.spec returns (search needs) (search needs) (search needs) returns-2)

@@ -36,9 +36,6 @@ sub-u c = omega arith
 sad-subpel-requires : tie.Need-sad-subpel-requires
 sad-subpel-requires c κs = (search needs, omega (arith, mul-le-mul-right (c .before .before .before .args .step) (let q : c .before .before .before .args .k / 3 ≤ 2 = omega arith in q), mul-le-mul-right (c .before .before .before .args .step) (let q : c .before .before .before .args .k % 3 ≤ 2 = omega arith in q)))
 
-better-requires : tie.Need-better-requires
-better-requires c κs = search needs
-
 returns-2 : tie.Need-returns-2
 returns-2 c =
     ap (seen 223) (c .better .ensures)
@@ -56,5 +53,5 @@ eighths-candidate-spec =
     add-u
     sub-u
     sad-subpel-requires
-    better-requires
+    (search needs)
     returns-2)

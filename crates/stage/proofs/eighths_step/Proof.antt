@@ -22,12 +22,6 @@ abbrev μ-loop : tie.MeasureT-loop
 loop-holds : tie.Need-loop-holds Inv-loop μ-loop
 loop-holds c = begins _ _ _
 
-eighths-candidate-requires : tie.Need-eighths-candidate-requires Inv-loop μ-loop
-eighths-candidate-requires c κs = search needs
-
-add-k : tie.Need-add-k Inv-loop μ-loop
-add-k c = search needs
-
 loop-less : tie.Need-loop-less Inv-loop μ-loop
 loop-less c = omega arith
 
@@ -48,8 +42,8 @@ eighths-step-spec =
     Inv-loop
     μ-loop
     loop-holds
-    eighths-candidate-requires
-    add-k
+    (search needs)
+    (search needs)
     loop-less
     loop-again
     returns)

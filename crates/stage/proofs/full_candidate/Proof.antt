@@ -17,27 +17,6 @@ returns c =
     let a = c .before .before .before .args in
     consider-centre (withOffset (blockCost 16 (a .input .now) (a .reference .now) (a .width) (a .height) (a .r) (a .c))) 3 1 (offset 27 (a .cy)) (offset 27 (a .cx)) (a .k) (seen 27 (a .best)) (c .if1 .taken)
 
-add-y : tie.Need-add-y
-add-y c = search needs
-
-sub-y : tie.Need-sub-y
-sub-y c = search needs
-
-add-x : tie.Need-add-x
-add-x c = search needs
-
-sub-x : tie.Need-sub-x
-sub-x c = search needs
-
-sad-int-requires : tie.Need-sad-int-requires
-sad-int-requires c κs = search needs
-
-with-offset-requires : tie.Need-with-offset-requires
-with-offset-requires c κs = search needs
-
-better-requires : tie.Need-better-requires
-better-requires c κs = search needs
-
 returns-2 : tie.Need-returns-2
 returns-2 c =
     let a = c .before .before .before .before .before .before .args in
@@ -54,11 +33,11 @@ full-candidate-spec =
     tie.close
     (tie.spec
     returns
-    add-y
-    sub-y
-    add-x
-    sub-x
-    sad-int-requires
-    with-offset-requires
-    better-requires
+    (search needs)
+    (search needs)
+    (search needs)
+    (search needs)
+    (search needs)
+    (search needs)
+    (search needs)
     returns-2)

@@ -20,17 +20,8 @@ Inv-loop cy cx input reference width height r c best₀ k₀ best k = Turns (con
 abbrev μ-loop : tie.MeasureT-loop
 μ-loop cy cx input reference width height r c best₀ k₀ best k = 49 - k
 
-sad-int-requires : tie.Need-sad-int-requires Inv-loop μ-loop
-sad-int-requires c κs = search needs
-
 loop-holds : tie.Need-loop-holds Inv-loop μ-loop
 loop-holds c = begins _ _ _
-
-full-candidate-requires : tie.Need-full-candidate-requires Inv-loop μ-loop
-full-candidate-requires c κs = search needs
-
-add-k : tie.Need-add-k Inv-loop μ-loop
-add-k c = search needs
 
 loop-less : tie.Need-loop-less Inv-loop μ-loop
 loop-less c = omega arith
@@ -53,10 +44,10 @@ full-pel-spec =
     (tie.spec
     Inv-loop
     μ-loop
-    sad-int-requires
+    (search needs)
     loop-holds
-    full-candidate-requires
-    add-k
+    (search needs)
+    (search needs)
     loop-less
     loop-again
     returns)

@@ -7,18 +7,6 @@ use Rattle.stage.proofs.Stages.{refined-is}
 use Rattle.stage.proofs.refine.Statement.{statement}
 use Rattle.stage.proofs.refine.Tie as tie
 
-sad-subpel-requires : tie.Need-sad-subpel-requires
-sad-subpel-requires c κs = search needs
-
-eighths-step-requires : tie.Need-eighths-step-requires
-eighths-step-requires c κs = search needs
-
-eighths-step-requires-2 : tie.Need-eighths-step-requires-2
-eighths-step-requires-2 c κs = search needs
-
-eighths-step-requires-3 : tie.Need-eighths-step-requires-3
-eighths-step-requires-3 c κs = search needs
-
 returns : tie.Need-returns
 returns c =
     record {
@@ -31,8 +19,8 @@ pub refine-spec : {M : Type 1} → statement M
 refine-spec =
     tie.close
     (tie.spec
-    sad-subpel-requires
-    eighths-step-requires
-    eighths-step-requires-2
-    eighths-step-requires-3
+    (search needs)
+    (search needs)
+    (search needs)
+    (search needs)
     returns)

@@ -2,7 +2,7 @@
 use borrow.Author.Needs.{needs}
 use Rattle.subexp.proofs.decode_subexp.Statement.{statement}
 use Rattle.subexp.proofs.decode_subexp.Tie as tie
-use Prim.Native.Nat.{_-_, _+_}
+use Prim.Native.Nat.{_-_}
 use mathlib.Core.Path.{_∙_}
 use native.Mathlib.Omega.{arith}
 use lib.Pow.{pow-mono}
@@ -11,15 +11,6 @@ use Rattle.bits.proofs.Buffer.{bitAt-lt}
 use Rattle.bits.proofs.Fields.{field-lt}
 use Rattle.bits.proofs.Ns.{ns-lt}
 use Rattle.subexp.proofs.Climbing.{next-le, last-is, stop-is}
-
-climb-requires : tie.Need-climb-requires
-climb-requires c κs = search needs
-
-rung-start-requires : tie.Need-rung-start-requires
-rung-start-requires c κs = search needs
-
-sub-ns : tie.Need-sub-ns
-sub-ns c = search needs
 
 ns-requires : tie.Need-ns-requires
 ns-requires c κs = omega (arith, c .before .before .before .climb .ensures .below, c .before .rung-start .ensures .0, next-le (bitAt (c .before .before .before .before .before .args .bytes .now)) (c .before .before .before .before .before .args .num-syms) (c .before .before .before .before .before .args .cursor .at) (c .before .before .before .climb .result) (c .before .before .before .climb .ensures))
@@ -31,9 +22,6 @@ returns : tie.Need-returns
 returns c =
     let e = last-is (bitAt (c .before .before .before .before .before .before .before .args .bytes .now)) (c .before .before .before .before .before .before .before .args .num-syms) (c .before .before .before .before .before .before .before .args .cursor .at) (c .before .before .before .before .before .climb .result) (c .before .before .before .before .before .climb .ensures) (c .before .before .before .rung-start .result) (c .before .ns .result .value) (c .before .ns .result .next .at) (c .before .before .before .rung-start .ensures .0) (c .before .before .if1 .taken) (c .before .ns .ensures .value) (c .before .ns .ensures .next) in
     record { value = c .from-start .ensures .value ∙ e .0; next = c .from-start .ensures .next ∙ e .1 }
-
-rung-bits-requires : tie.Need-rung-bits-requires
-rung-bits-requires c κs = search needs
 
 f-requires : tie.Need-f-requires
 f-requires c κs = omega (arith, c .rung-bits .ensures .1, next-le (bitAt (c .before .before .before .before .before .before .args .bytes .now)) (c .before .before .before .before .before .before .args .num-syms) (c .before .before .before .before .before .before .args .cursor .at) (c .before .before .before .before .climb .result) (c .before .before .before .before .climb .ensures))
@@ -50,13 +38,13 @@ pub decode-subexp-spec : {M : Type 1} → statement M
 decode-subexp-spec =
     tie.close
     (tie.spec
-    climb-requires
-    rung-start-requires
-    sub-ns
+    (search needs)
+    (search needs)
+    (search needs)
     ns-requires
     from-start-requires
     returns
-    rung-bits-requires
+    (search needs)
     f-requires
     from-start-requires-2
     returns-2)

@@ -9,9 +9,6 @@ use Rattle.bits.proofs.Buffer.{bitAt-lt}
 use Rattle.subexp.specs.Recenter.{symbolOf}
 use Rattle.subexp.proofs.Coefficient.{subexp-again}
 
-decode-subexp-requires : tie.Need-decode-subexp-requires
-decode-subexp-requires c κs = search needs
-
 symbol-of-requires : tie.Need-symbol-of-requires
 symbol-of-requires c κs = (omega arith, omega (arith, c .before .decode-subexp .ensures .value, subexp-again (bitAt (c .before .before .before .args .bytes .now)) (bitAt-lt (c .before .before .before .args .bytes .now)) (c .before .before .before .args .mx) (omega arith) (c .before .before .before .args .cursor .at) .within), omega arith)
 
@@ -20,4 +17,4 @@ returns c = (record { value = c .symbol-of .ensures .0 ∙ ap (symbolOf (c .befo
 
 pub decode-unsigned-subexp-with-ref-spec : {M : Type 1} → statement M
 decode-unsigned-subexp-with-ref-spec =
-    tie.close (tie.spec decode-subexp-requires symbol-of-requires returns)
+    tie.close (tie.spec (search needs) symbol-of-requires returns)

@@ -9,9 +9,6 @@ use lib.ListN.{replicate, length-replicate}
 use Rattle.bits.proofs.Buffer.{wrote-as, wrote-both, room-as, room-front, room-back}
 use Rattle.subexp.specs.Ends.{rungCode}
 
-rung-of-requires : tie.Need-rung-of-requires
-rung-of-requires c κs = search needs
-
 write-climb-requires : tie.Need-write-climb-requires
 write-climb-requires c κs =
     let r = c .before .rung-of .ensures in
@@ -28,13 +25,10 @@ write-rung-code-requires c κs =
           (room-as (c .before .before .before .before .before .before .before .args .buffer .now) (c .before .before .before .before .before .before .before .args .cursor .at) _ _ (r .bits) (c .before .before .before .before .before .before .before .pre .2)),
     )
 
-same-length : tie.Need-same-length
-same-length c = search needs
-
 returns : tie.Need-returns
 returns c = wrote-as _ _ (sym (c .before .before .before .before .before .before .before .before .rung-of .ensures .bits)) (wrote-both _ _ (c .before .before .before .before .before .before .write-climb .ensures) (c .before .before .write-rung-code .ensures))
 
 pub encode-subexp-spec : {M : Type 1} → statement M
 encode-subexp-spec =
     tie.close
-    (tie.spec rung-of-requires write-climb-requires write-rung-code-requires same-length returns)
+    (tie.spec (search needs) write-climb-requires write-rung-code-requires (search needs) returns)

@@ -8,15 +8,6 @@ use native.Mathlib.Omega.{arith}
 use lib.ListN.{length, replicate, length-replicate, length-append}
 use Rattle.subexp.specs.Ends.{rungCode}
 
-rung-of-requires : tie.Need-rung-of-requires
-rung-of-requires c κs = search needs
-
-rung-code-length-requires : tie.Need-rung-code-length-requires
-rung-code-length-requires c κs = search needs
-
-add-result : tie.Need-add-result
-add-result c = search needs
-
 returns : tie.Need-returns
 returns c =
     let r = c .before .rung-of .ensures in
@@ -24,4 +15,4 @@ returns c =
 
 pub subexp-length-spec : {M : Type 1} → statement M
 subexp-length-spec =
-    tie.close (tie.spec rung-of-requires rung-code-length-requires add-result returns)
+    tie.close (tie.spec (search needs) (search needs) (search needs) returns)

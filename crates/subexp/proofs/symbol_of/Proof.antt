@@ -8,28 +8,10 @@ use native.Mathlib.Omega.{arith}
 use Rattle.subexp.specs.Recenter.{symbolOf}
 use Rattle.subexp.proofs.Centring.{symbol-near, symbol-far, symbol-lt, inverse-within}
 
-mul-if1 : tie.Need-mul-if1
-mul-if1 c = search needs
-
-inverse-recenter-requires : tie.Need-inverse-recenter-requires
-inverse-recenter-requires c κs = search needs
-
 returns : tie.Need-returns
 returns c =
     let e : c .inverse-recenter .result ≡ symbolOf (c .before .before .args .mx) (c .before .before .args .r) (c .before .before .args .x) = c .inverse-recenter .ensures ∙ sym (symbol-near (c .before .before .args .mx) (c .before .before .args .r) (c .before .before .args .x) (c .before .if1 .taken)) in
     (e, omega (arith, e, symbol-lt (c .before .before .args .mx) (c .before .before .args .r) (omega arith) (c .before .before .args .x) (omega arith)))
-
-sub-result : tie.Need-sub-result
-sub-result c = search needs
-
-sub-inverse-recenter : tie.Need-sub-inverse-recenter
-sub-inverse-recenter c = search needs
-
-sub-inverse-recenter-2 : tie.Need-sub-inverse-recenter-2
-sub-inverse-recenter-2 c = search needs
-
-inverse-recenter-requires-2 : tie.Need-inverse-recenter-requires-2
-inverse-recenter-requires-2 c κs = search needs
 
 sub-result-2 : tie.Need-sub-result-2
 sub-result-2 c = omega (arith, c .inverse-recenter2 .ensures, inverse-within (c .before .before .args .mx) (c .before .before .args .mx - 1 - c .before .before .args .r) (c .before .before .args .x) (omega arith) (omega arith))
@@ -43,12 +25,12 @@ pub symbol-of-spec : {M : Type 1} → statement M
 symbol-of-spec =
     tie.close
     (tie.spec
-    mul-if1
-    inverse-recenter-requires
+    (search needs)
+    (search needs)
     returns
-    sub-result
-    sub-inverse-recenter
-    sub-inverse-recenter-2
-    inverse-recenter-requires-2
+    (search needs)
+    (search needs)
+    (search needs)
+    (search needs)
     sub-result-2
     returns-2)

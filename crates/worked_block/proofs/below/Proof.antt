@@ -4,14 +4,8 @@ use native.Mathlib.Nat.{mod-le}
 use Rattle.worked_block.proofs.below.Statement.{statement}
 use Rattle.worked_block.proofs.below.Tie as tie
 
-returns : tie.Need-returns
-returns c = search needs
-
-rem-result : tie.Need-rem-result
-rem-result c = search needs
-
 returns-2 : tie.Need-returns-2
 returns-2 c = mod-le _ _
 
 pub below-spec : {M : Type 1} → statement M
-below-spec = tie.close (tie.spec returns rem-result returns-2)
+below-spec = tie.close (tie.spec (search needs) (search needs) returns-2)

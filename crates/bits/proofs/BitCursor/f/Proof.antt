@@ -35,20 +35,11 @@ ended g j left value {t} e r =
 loop-holds : tie.Need-loop-holds Inv-loop μ-loop
 loop-holds c = omega arith
 
-read-bit-requires : tie.Need-read-bit-requires Inv-loop μ-loop
-read-bit-requires c κs = search needs
-
 mul-value : tie.Need-mul-value Inv-loop μ-loop
 mul-value c = omega (arith, next c)
 
 add-value : tie.Need-add-value Inv-loop μ-loop
 add-value c = omega (arith, next (c .before))
-
-sub-left : tie.Need-sub-left Inv-loop μ-loop
-sub-left c = search needs
-
-loop-less : tie.Need-loop-less Inv-loop μ-loop
-loop-less c = search needs
 
 loop-again : tie.Need-loop-again Inv-loop μ-loop
 loop-again c =
@@ -71,10 +62,10 @@ f-spec =
     Inv-loop
     μ-loop
     loop-holds
-    read-bit-requires
+    (search needs)
     mul-value
     add-value
-    sub-left
-    loop-less
+    (search needs)
+    (search needs)
     loop-again
     returns)

@@ -2,7 +2,7 @@
 use borrow.Author.Needs.{needs}
 use Rattle.bits.proofs.BitCursor.ns.Statement.{statement}
 use Rattle.bits.proofs.BitCursor.ns.Tie as tie
-use Prim.Native.Nat.{ℕ, _+_, _-_, _*_, _^_, _≤_, _<_}
+use Prim.Native.Nat.{_+_, _-_, _*_, _≤_, _<_}
 use mathlib.Core.Path.{_≡_, sym, ap, _∙_}
 use native.Mathlib.Omega.{arith}
 use lib.Pow.{pow-mono}
@@ -17,29 +17,14 @@ small c =
     let sixteen : c .before .before .before .before .before .before .before .ns-width .result .w - 1 ≤ 16 = omega arith in
     omega (arith, c .before .before .before .before .before .before .f .ensures .value, field-lt (bitAt (c .before .before .before .before .before .before .before .before .before .args .bytes .now)) (bitAt-lt (c .before .before .before .before .before .before .before .before .before .args .bytes .now)) (c .before .before .before .before .before .before .before .before .before .args .self .at) (c .before .before .before .before .before .before .before .ns-width .result .w - 1), pow-mono sixteen)
 
-ns-width-requires : tie.Need-ns-width-requires
-ns-width-requires c κs = search needs
-
-sub-f : tie.Need-sub-f
-sub-f c = search needs
-
-f-requires : tie.Need-f-requires
-f-requires c κs = search needs
-
 returns : tie.Need-returns
 returns c =
     let w = c .before .before .before .ns-width .ensures in
     let e = short-read (c .before .before .before .before .before .args .n) (c .before .before .f .result .value) (c .before .before .before .ns-width .result .w) (c .before .before .before .ns-width .result .m) (w .w) (w .m) (bitAt (c .before .before .before .before .before .args .bytes .now)) (c .before .before .before .before .before .args .self .at) (c .before .before .f .ensures .value) (c .if1 .taken) in
     record { value = sym (ap (λ (t : Taken). t .value) e); next = c .before .before .f .ensures .next ∙ sym (ap (λ (t : Taken). c .before .before .before .before .before .args .self .at + t .bits) e) }
 
-read-bit-requires : tie.Need-read-bit-requires
-read-bit-requires c κs = search needs
-
 mul-t11 : tie.Need-mul-t11
 mul-t11 c = omega (arith, small c)
-
-sub-t13 : tie.Need-sub-t13
-sub-t13 c = search needs
 
 add-t14 : tie.Need-add-t14
 add-t14 c = omega (arith, small (c .before), c .before .before .before .read-bit .ensures .value, bitAt-lt (c .before .before .before .before .before .before .before .before .before .before .args .bytes .now) (c .before .before .before .before .before .before .before .f .result .next .at))
@@ -55,12 +40,12 @@ pub ns-spec : {M : Type 1} → statement M
 ns-spec =
     tie.close
     (tie.spec
-    ns-width-requires
-    sub-f
-    f-requires
+    (search needs)
+    (search needs)
+    (search needs)
     returns
-    read-bit-requires
+    (search needs)
     mul-t11
-    sub-t13
+    (search needs)
     add-t14
     returns-2)

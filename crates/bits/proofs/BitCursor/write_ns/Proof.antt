@@ -7,20 +7,11 @@ use native.Mathlib.Omega.{arith}
 use Rattle.bits.proofs.Buffer.{wrote-as}
 use Rattle.bits.proofs.Ns.{short-code, long-code, short-length, long-length}
 
-ns-width-requires : tie.Need-ns-width-requires
-ns-width-requires c κs = search needs
-
-sub-write-bits : tie.Need-sub-write-bits
-sub-write-bits c = search needs
-
 write-bits-requires : tie.Need-write-bits-requires
 write-bits-requires c κs =
     let w = c .before .before .ns-width .ensures in
     let l = short-length (c .before .before .before .before .args .n) (c .before .before .before .before .args .v) (c .before .before .ns-width .result .w) (c .before .before .ns-width .result .m) (w .w) (w .m) (c .before .if1 .taken) in
     (omega arith, record { within = omega (arith, l, c .before .before .before .before .pre .2 .within); small = omega (arith, l, c .before .before .before .before .pre .2 .small) })
-
-add-write-bits : tie.Need-add-write-bits
-add-write-bits c = search needs
 
 write-bits-requires-2 : tie.Need-write-bits-requires-2
 write-bits-requires-2 c κs =
@@ -28,16 +19,10 @@ write-bits-requires-2 c κs =
     let l = long-length (c .before .before .before .before .args .n) (c .before .before .before .before .args .v) (c .before .before .ns-width .result .w) (c .before .before .ns-width .result .m) (w .w) (w .m) (c .before .if1 .left) in
     (omega arith, record { within = omega (arith, l, c .before .before .before .before .pre .2 .within); small = omega (arith, l, c .before .before .before .before .pre .2 .small) })
 
-same-length : tie.Need-same-length
-same-length c = search needs
-
 returns : tie.Need-returns
 returns c =
     let w = c .before .before .before .before .before .ns-width .ensures in
     wrote-as _ _ (sym (short-code (c .before .before .before .before .before .before .before .args .n) (c .before .before .before .before .before .before .before .args .v) (c .before .before .before .before .before .ns-width .result .w) (c .before .before .before .before .before .ns-width .result .m) (w .w) (w .m) (c .before .before .before .before .if1 .taken))) (c .before .before .write-bits .ensures)
-
-same-length-2 : tie.Need-same-length-2
-same-length-2 c = search needs
 
 returns-2 : tie.Need-returns-2
 returns-2 c =
@@ -48,12 +33,12 @@ pub write-ns-spec : {M : Type 1} → statement M
 write-ns-spec =
     tie.close
     (tie.spec
-    ns-width-requires
-    sub-write-bits
+    (search needs)
+    (search needs)
     write-bits-requires
-    add-write-bits
+    (search needs)
     write-bits-requires-2
-    same-length
+    (search needs)
     returns
-    same-length-2
+    (search needs)
     returns-2)

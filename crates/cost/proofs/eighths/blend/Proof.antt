@@ -7,12 +7,6 @@ use Rattle.cost.proofs.Bilinear.{weighted-le}
 use Rattle.cost.proofs.eighths.blend.Statement.{statement}
 use Rattle.cost.proofs.eighths.blend.Tie as tie
 
-weighted-requires : tie.Need-weighted-requires
-weighted-requires c κs = search needs
-
-weighted-requires-2 : tie.Need-weighted-requires-2
-weighted-requires-2 c κs = search needs
-
 weighted-requires-3 : tie.Need-weighted-requires-3
 weighted-requires-3 c κs = omega (arith, weighted-le 65535 (c .before .before .args .p00) (c .before .before .args .p01) (c .before .before .args .fx) (omega arith) (omega arith) (omega arith), weighted-le 65535 (c .before .before .args .p10) (c .before .before .args .p11) (c .before .before .args .fx) (omega arith) (omega arith) (omega arith))
 
@@ -30,8 +24,8 @@ pub blend-spec : {M : Type 1} → statement M
 blend-spec =
     tie.close
     (tie.spec
-    weighted-requires
-    weighted-requires-2
+    (search needs)
+    (search needs)
     weighted-requires-3
     add-result
     cast-result

@@ -19,39 +19,8 @@ Inv-loop n input reference width height r c y x bias first cost₀ j₀ cost j =
 abbrev μ-loop : tie.MeasureT-loop
 μ-loop n input reference width height r c y x bias first cost₀ j₀ cost j = n - j
 
-row-start-requires : tie.Need-row-start-requires Inv-loop μ-loop
-row-start-requires c κs = search needs
-
 loop-holds : tie.Need-loop-holds Inv-loop μ-loop
 loop-holds c = none _ _ _
-
-add-absolute-difference : tie.Need-add-absolute-difference Inv-loop μ-loop
-add-absolute-difference c = search needs
-
-mul-absolute-difference : tie.Need-mul-absolute-difference Inv-loop μ-loop
-mul-absolute-difference c = search needs
-
-shared-slice-read-absolute-difference :
-    tie.Need-shared-slice-read-absolute-difference Inv-loop μ-loop
-shared-slice-read-absolute-difference c = search needs
-
-add-displaced : tie.Need-add-displaced Inv-loop μ-loop
-add-displaced c = search needs
-
-displaced-requires : tie.Need-displaced-requires Inv-loop μ-loop
-displaced-requires c κs = search needs
-
-absolute-difference-requires : tie.Need-absolute-difference-requires Inv-loop μ-loop
-absolute-difference-requires c κs = search needs
-
-add-cost : tie.Need-add-cost Inv-loop μ-loop
-add-cost c = search needs
-
-add-j : tie.Need-add-j Inv-loop μ-loop
-add-j c = search needs
-
-loop-less : tie.Need-loop-less Inv-loop μ-loop
-loop-less c = search needs
 
 loop-again : tie.Need-loop-again Inv-loop μ-loop
 loop-again c = let a = c .before .before .before .before .before .before .before .before .args in more (c .before .before .before .before .loop .inv) (omega arith) (c .absolute-difference .ensures .same ∙ pel-differs (a .input .now) (a .width) (a .r) (a .c) (c .before .before .before .before .loop .j) (c .before .before .before .before .before .row-start .ensures .same) (c .before .displaced .ensures)) (c .absolute-difference .ensures .small)
@@ -66,16 +35,16 @@ clamped-row-spec =
     (tie.spec
     Inv-loop
     μ-loop
-    row-start-requires
+    (search needs)
     loop-holds
-    add-absolute-difference
-    mul-absolute-difference
-    shared-slice-read-absolute-difference
-    add-displaced
-    displaced-requires
-    absolute-difference-requires
-    add-cost
-    add-j
-    loop-less
+    (search needs)
+    (search needs)
+    (search needs)
+    (search needs)
+    (search needs)
+    (search needs)
+    (search needs)
+    (search needs)
+    (search needs)
     loop-again
     returns)

@@ -1,12 +1,10 @@
 -- `search::blocks::fill_words` meets its contract.
 -- Assumes nothing.
-use Prim.Native.Nat.{ℕ, _+_, _*_, _-_, _/_, _%_, _≤_, _<_}
-use mathlib.Core.List.{List}
-use mathlib.Core.Path.{_≡_, refl, sym, ap, _∙_}
+use Prim.Native.Nat.{ℕ, _*_, _-_, _/_, _≤_}
+use mathlib.Core.Path.{_≡_, refl, ap, _∙_}
 use native.Mathlib.Nat.{div-lt-iff-lt-mul, mod-lt}
 use native.Mathlib.Omega.{arith}
-use lib.ListN.{length, take, drop, getD, length-set}
-use borrow.Author.Tests.{lt-ltb, le-ltb, eq-eqb, ne-eqb}
+use lib.ListN.{length, length-set}
 use Rattle.laws.specs.Buffer.{onto}
 use Rattle.plane.specs.Plane.{listing}
 use Rattle.plane.proofs.Listing.{listing-more}
@@ -15,9 +13,6 @@ use Rattle.search.proofs.Rows.{count-small, factor-pos}
 use borrow.Author.Needs.{needs}
 use Rattle.search.proofs.blocks.fill_words.Statement.{statement}
 use Rattle.search.proofs.blocks.fill_words.Tie as tie
-use Rattle.search.proofs.blocks.fill_words.Reads as reads
-use Rattle.search.proofs.blocks.fill_words.Lts as lts
-use Rattle.search.proofs.blocks.word_at.Reads as word-at-reads
 
 abbrev Inv-loop : tie.InvT-loop
 Inv-loop input reference input-half ref-half width height classes words₀ columns samples k₀ words k =
@@ -45,14 +40,8 @@ shared-slice-read-word-at c = omega arith
 word-at-requires : tie.Need-word-at-requires Inv-loop μ-loop
 word-at-requires c κs = (c .before .before .before .before .before .before .before .before .before .pre .0, record { row = div-lt-iff-lt-mul (factor-pos (c .before .before .before .before .before .before .before .before .before .args .height / 16) (c .before .before .before .before .before .before .before .before .before .args .width / 16) (c .before .before .loop .k) (omega arith)) .1 (omega arith); column = mod-lt (c .before .before .loop .k) (factor-pos (c .before .before .before .before .before .before .before .before .before .args .height / 16) (c .before .before .before .before .before .before .before .before .before .args .width / 16) (c .before .before .loop .k) (omega arith)); class-small = c .before .before .before .before .before .before .before .before .before .pre .1 .in-range (c .before .before .loop .k) })
 
-mul-words : tie.Need-mul-words Inv-loop μ-loop
-mul-words c = search needs
-
 slice-write-words : tie.Need-slice-write-words Inv-loop μ-loop
 slice-write-words c = omega arith
-
-add-k : tie.Need-add-k Inv-loop μ-loop
-add-k c = search needs
 
 loop-less : tie.Need-loop-less Inv-loop μ-loop
 loop-less c = omega arith
@@ -80,9 +69,9 @@ fill-words-spec =
     rem-word-at
     shared-slice-read-word-at
     word-at-requires
-    mul-words
+    (search needs)
     slice-write-words
-    add-k
+    (search needs)
     loop-less
     loop-again
     same-length

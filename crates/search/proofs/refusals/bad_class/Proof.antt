@@ -1,9 +1,8 @@
 -- `search::refusals::bad_class` meets its contract.
 -- Assumes nothing.
-use mathlib.Core.Path.{_≡_, refl, sym, ap, _∙_}
-use native.Mathlib.Nat.{mul-le-mul}
+use mathlib.Core.Path.{_≡_, refl, sym}
 use native.Mathlib.Omega.{arith}
-use borrow.Author.Tests.{lt-ltb, le-ltb, eq-eqb, ne-eqb}
+use borrow.Author.Tests.{lt-ltb, le-ltb}
 use Prim.Native.Nat.{_≤_, _-_}
 use lib.Dec.{ltb}
 use lib.ListN.{length, drop, getD}
@@ -13,8 +12,6 @@ use Rattle.search.proofs.Rows.{any-here, any-later, any-never}
 use borrow.Author.Needs.{needs}
 use Rattle.search.proofs.refusals.bad_class.Statement.{statement}
 use Rattle.search.proofs.refusals.bad_class.Tie as tie
-use Rattle.search.proofs.refusals.bad_class.Reads as reads
-use Rattle.search.proofs.refusals.bad_class.Lts as lts
 
 abbrev Inv-loop : tie.InvT-loop
 Inv-loop classes k₀ k = (k ≤ length classes) × (any (ltb 3) (drop k classes) ≡ any (ltb 3) classes)
@@ -25,15 +22,9 @@ abbrev μ-loop : tie.MeasureT-loop
 loop-holds : tie.Need-loop-holds Inv-loop μ-loop
 loop-holds c = (omega arith, refl)
 
-shared-slice-read-if1 : tie.Need-shared-slice-read-if1 Inv-loop μ-loop
-shared-slice-read-if1 c = search needs
-
 returns : tie.Need-returns Inv-loop μ-loop
 unfolding badClass
 returns c = sym (any-here (ltb 3) (c .before .before .before .before .args .classes .now) (c .before .before .before .loop .k) (omega arith) (c .before .before .before .loop .inv .1) (lt-ltb 3 (getD (c .before .before .before .before .args .classes .now) (c .before .before .before .loop .k) 0) (c .if1 .taken)))
-
-add-k : tie.Need-add-k Inv-loop μ-loop
-add-k c = search needs
 
 loop-less : tie.Need-loop-less Inv-loop μ-loop
 loop-less c = omega arith
@@ -52,9 +43,9 @@ bad-class-spec =
     Inv-loop
     μ-loop
     loop-holds
-    shared-slice-read-if1
+    (search needs)
     returns
-    add-k
+    (search needs)
     loop-less
     loop-again
     returns-2)

@@ -1,26 +1,12 @@
 -- `search::refusals::refusal_of` meets its contract.
 -- Assumes nothing.
-use Prim.Native.Nat.{ℕ, _+_, _*_, _-_, _/_, _%_, _≤_, _<_}
-use mathlib.Core.List.{List}
-use mathlib.Core.Path.{_≡_, refl, sym, ap, _∙_}
-use native.Mathlib.Nat.{div-lt-iff-lt-mul, mod-lt}
-use native.Mathlib.Omega.{arith}
-use lib.ListN.{length, take, drop, getD, length-set}
-use borrow.Author.Tests.{lt-ltb, le-ltb, eq-eqb, ne-eqb}
+use Prim.Native.Nat.{_-_}
+use mathlib.Core.Path.{sym, _∙_}
 use Rattle.search.specs.Refusal.{verdict}
 use Rattle.search.proofs.Rows.{small}
 use borrow.Author.Needs.{needs}
 use Rattle.search.proofs.refusals.refusal_of.Statement.{statement}
 use Rattle.search.proofs.refusals.refusal_of.Tie as tie
-use Rattle.search.proofs.refusals.refusal_of.Reads as reads
-use Rattle.search.proofs.refusals.refusal_of.Lts as lts
-use Rattle.search.proofs.refusals.bad_class.Reads as bad-class-reads
-use Rattle.search.proofs.refusals.too_large.Reads as too-large-reads
-use Rattle.search.proofs.refusals.too_short.Reads as too-short-reads
-use Rattle.search.proofs.refusals.wrong_length.Reads as wrong-length-reads
-
-too-large-requires : tie.Need-too-large-requires
-too-large-requires c κs = search needs
 
 returns : tie.Need-returns
 unfolding verdict
@@ -32,9 +18,6 @@ wrong-length-requires c κs = small (c .before .before .before .before .before .
 returns-2 : tie.Need-returns-2
 unfolding verdict
 returns-2 c = rw ((sym (c .before .before .before .too-large .ensures) ∙ c .before .before .if1 .left), (sym (c .before .wrong-length .ensures) ∙ c .if2 .taken))
-
-bad-class-requires : tie.Need-bad-class-requires
-bad-class-requires c κs = search needs
 
 returns-3 : tie.Need-returns-3
 unfolding verdict
@@ -55,11 +38,11 @@ pub refusal-of-spec : {M : Type 1} → statement M
 refusal-of-spec =
     tie.close
     (tie.spec
-    too-large-requires
+    (search needs)
     returns
     wrong-length-requires
     returns-2
-    bad-class-requires
+    (search needs)
     returns-3
     too-short-requires
     returns-4

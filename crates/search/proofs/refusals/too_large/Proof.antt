@@ -1,14 +1,8 @@
 -- `search::refusals::too_large` meets its contract.
 -- Assumes nothing.
-use mathlib.Core.Path.{_≡_, refl, ap, _∙_}
-use native.Mathlib.Nat.{mul-le-mul}
-use native.Mathlib.Omega.{arith}
-use borrow.Author.Tests.{lt-ltb, le-ltb, eq-eqb, ne-eqb}
-use borrow.Author.Needs.{needs}
+use borrow.Author.Tests.{lt-ltb, le-ltb}
 use Rattle.search.proofs.refusals.too_large.Statement.{statement}
 use Rattle.search.proofs.refusals.too_large.Tie as tie
-use Rattle.search.proofs.refusals.too_large.Reads as reads
-use Rattle.search.proofs.refusals.too_large.Lts as lts
 
 returns : tie.Need-returns
 returns c = rw (lt-ltb 1024 (c .before .args .width) (c .if1 .taken))

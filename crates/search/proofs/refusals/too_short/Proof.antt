@@ -1,18 +1,11 @@
 -- `search::refusals::too_short` meets its contract.
 -- Assumes nothing.
-use Prim.Native.Nat.{ℕ, _+_, _*_, _-_, _/_, _%_, _≤_, _<_}
-use mathlib.Core.List.{List}
-use mathlib.Core.Path.{_≡_, refl, sym, ap, _∙_}
-use native.Mathlib.Nat.{div-lt-iff-lt-mul, mod-lt}
+use Prim.Native.Nat.{_*_, _-_, _/_}
 use native.Mathlib.Omega.{arith}
-use lib.ListN.{length, take, drop, getD, length-set}
-use borrow.Author.Tests.{lt-ltb, le-ltb, eq-eqb, ne-eqb}
+use borrow.Author.Tests.{lt-ltb, le-ltb}
 use Rattle.search.proofs.Rows.{count-small, half-small}
-use borrow.Author.Needs.{needs}
 use Rattle.search.proofs.refusals.too_short.Statement.{statement}
 use Rattle.search.proofs.refusals.too_short.Tie as tie
-use Rattle.search.proofs.refusals.too_short.Reads as reads
-use Rattle.search.proofs.refusals.too_short.Lts as lts
 
 mul-samples : tie.Need-mul-samples
 mul-samples c = omega (arith, count-small (c .args .width) (c .args .height) (c .pre .narrow) (c .pre .low))
