@@ -9,7 +9,8 @@ use lib.ListN.{length}
 use lib.Arith.{digits-lt}
 use lib.Dec.{lit<}
 use lib.Pow.{high, mod-pow-add, pow-mono, pow-pos}
-use Rattle.bits.specs.Bits.{bitOf, putBit, putBits, Holds, AreBits}
+use Rattle.bits.specs.Bits.{bitOf, putBit, putBits}
+use Rattle.bits.proofs.Held.{Holds, AreBits}
 use Rattle.bits.specs.Fields.{field, fieldBits, padding}
 use Rattle.bits.proofs.Byte.{bitOf-lt, bit-from-low}
 

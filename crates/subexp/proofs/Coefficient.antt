@@ -4,7 +4,7 @@ use Prim.Native.Nat.{ℕ, _-_, _*_, _≤_, _<_}
 use mathlib.Core.Path.{_≡_, ap, _∙_}
 use native.Mathlib.Omega.{arith}
 use lib.ListN.{length}
-use Rattle.bits.specs.Bits.{Holds, AreBits}
+use Rattle.bits.proofs.Held.{Holds, AreBits}
 use Rattle.bits.specs.Ns.{Taken}
 use Rattle.subexp.specs.Coefficient.{symbols, symbol, symbolBits}
 use Rattle.subexp.specs.Ladder.{subexp, subexpBits}

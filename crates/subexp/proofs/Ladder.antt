@@ -8,7 +8,7 @@ use native.Mathlib.Omega.{arith}
 use borrow.Author.Tests.{lt-ltb, le-ltb, le-leb, lt-leb, eq-eqb, ne-eqb}
 use lib.Dec.{lit<}
 use lib.ListN.{length}
-use Rattle.bits.specs.Bits.{Holds, AreBits}
+use Rattle.bits.proofs.Held.{Holds, AreBits}
 use Rattle.bits.specs.Fields.{field, fieldBits}
 use Rattle.bits.specs.Ns.{Taken, ns, nsBits}
 use Rattle.bits.proofs.Fields.{length-fieldBits, fieldBits-are-bits, field-read, field-lt, field-again}

@@ -11,7 +11,8 @@ use lib.ListN.{length}
 use lib.Pow.{pow-mono}
 use Rattle.bits.specs.Ns.{bitLength, nsBits}
 use Rattle.bits.proofs.Fields.{length-fieldBits}
-use Rattle.bits.proofs.Ns.{bitLength-is, nsBits-length}
+use Rattle.bits.proofs.Ns.{nsBits-length}
+use Rattle.bits.proofs.BitLength.{bitLength-is}
 use Rattle.subexp.specs.Coefficient.{symbols}
 use Rattle.subexp.specs.Ladder.{climbBits, subexpBits}
 use Rattle.subexp.specs.Rungs.{rungStart, rungStep, reach}

@@ -7,7 +7,7 @@ use mathlib.Core.Path.{_≡_, ap, _∙_}
 use native.Mathlib.Omega.{arith}
 use lib.Pow.{pow-mono}
 use Rattle.bits.specs.Ns.{bitLength}
-use Rattle.bits.proofs.Ns.{bitLength-length, bitLength-le, bitLength-step}
+use Rattle.bits.proofs.BitLength.{bitLength-length, bitLength-le, bitLength-step}
 
 power-requires : tie.Need-power-requires
 power-requires c κs = omega (arith, bitLength-le (c .before .args .n) 17 (omega arith))
