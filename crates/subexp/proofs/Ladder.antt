@@ -14,7 +14,7 @@ use Rattle.bits.specs.Ns.{Taken, ns, nsBits}
 use Rattle.bits.proofs.Fields.{length-fieldBits, fieldBits-are-bits, field-read, field-lt, field-again}
 use Rattle.bits.proofs.Ns.{ns-read, ns-lt, ns-again, ns-again-length, nsBits-are-bits}
 use Rattle.subexp.specs.Ladder.{raised, counted, climb, climbBits}
-use Rattle.subexp.specs.Rungs.{rungBits, rungStart, rungStep, reach}
+use Rattle.subexp.specs.Inner.{rungBits, rungStart, rungStep, reach}
 use Rattle.subexp.proofs.Rungs.{step-is, width-is, next-start, step-pos}
 
 module _ (n S i : ℕ) where

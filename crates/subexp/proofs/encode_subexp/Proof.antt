@@ -7,7 +7,7 @@ use mathlib.Core.Path.{sym}
 use native.Mathlib.Omega.{arith}
 use lib.ListN.{replicate, length-replicate}
 use Rattle.bits.proofs.Buffer.{wrote-as, wrote-both, room-as, room-front, room-back}
-use Rattle.subexp.specs.Ends.{rungCode}
+use Rattle.subexp.specs.Inner.{rungCode}
 
 write-climb-requires : tie.Need-write-climb-requires
 write-climb-requires c κs =

@@ -10,4 +10,4 @@ returns-2 c = (c .rung-step .ensures .0 ∙ later-start (c .before .before .args
 
 pub rung-start-spec : {M : Type 1} → statement M
 rung-start-spec =
-    tie.close (tie.spec (search needs) (λ c. search needs) returns-2)
+    tie.close (tie.spec (λ c. search needs) (search needs) returns-2)

@@ -6,7 +6,7 @@ use Prim.Native.Nat.{ℕ}
 use mathlib.Core.Path.{ap}
 use native.Mathlib.Omega.{arith}
 use lib.ListN.{length, replicate, length-replicate, length-append}
-use Rattle.subexp.specs.Ends.{rungCode}
+use Rattle.subexp.specs.Inner.{rungCode}
 
 returns : tie.Need-returns
 returns c =
