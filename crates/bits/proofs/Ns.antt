@@ -115,7 +115,8 @@ module _ (g : ℕ → ℕ) (bits : (i : ℕ) → g i < 2) (j n : ℕ) (pos : 0 <
 pub nsBits-are-bits : (n v : ℕ) → AreBits (nsBits n v)
 unfolding nsBits
 nsBits-are-bits n v =
-    chosen (ltb v (shortCodes n)) (fieldBits (bitLength n - 1) v) (fieldBits (bitLength n) (v + shortCodes n)) (fieldBits-are-bits (bitLength n - 1) v) (fieldBits-are-bits (bitLength n) (v + shortCodes n))
+    chosen (ltb v (shortCodes n)) (fieldBits (bitLength n - 1) v) (fieldBits (bitLength n) (v + shortCodes n)) (fieldBits-are-bits (bitLength n - 1) v)
+    (fieldBits-are-bits (bitLength n) (v + shortCodes n))
   where
     chosen : (b : Bool) (xs ys : List ℕ) → AreBits xs → AreBits ys → AreBits (choose b xs ys)
     chosen true xs ys p q = p

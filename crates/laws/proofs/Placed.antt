@@ -25,7 +25,13 @@ module _ {A : Type 0} where
   set-after n a old x e h =
       rw (← e)
       (let l : length a < length old = omega arith in
-      rw (drop-cons old (length a) x l, set-append-seam a (getD old (length a) x) (drop (suc (length a)) old) x, length-append a (x ∷ []), add-one (length a), append-assoc a (x ∷ []) (drop (suc (length a)) old)))
+      rw (
+        drop-cons old (length a) x l,
+        set-append-seam a (getD old (length a) x) (drop (suc (length a)) old) x,
+        length-append a (x ∷ []),
+        add-one (length a),
+        append-assoc a (x ∷ []) (drop (suc (length a)) old),
+      ))
 
   -- a part in its place is the front up to it, written over
   pub placed-front : (at : ℕ) (new old : List A) → at ≤ length old → placed at new old ≡ onto (take at old ++ new) old
