@@ -2,11 +2,11 @@
 -- Assumes nothing.
 use Prim.Native.Nat.{ℕ, suc, _+_, _≤_, _<_, _-_}
 use mathlib.Core.List.{List, [], _∷_, _++_, append-nil, append-assoc}
-use mathlib.Core.Path.{_≡_, refl, sym, ap, _∙_}
+use mathlib.Core.Path.{_≡_, sym, ap, _∙_}
 use native.Mathlib.Numerals.{add-one}
 use native.Mathlib.Omega.{arith}
 use lib.ListN.{length, take, drop, set, getD, length-append, length-take, length-drop}
-use lib.Seq.{take-append-seam, drop-append-seam, drop-drop, sets, sets-eq, drop-cons, set-append-seam, take-suc, take-all, length-take-le}
+use lib.Seq.{take-append-seam, drop-append-seam, drop-drop, sets, sets-eq, drop-cons, set-append-seam, take-all, length-take-le}
 use Rattle.laws.specs.Buffer.{onto}
 use Rattle.laws.specs.Placed.{placed}
 
