@@ -6,6 +6,9 @@ ghost use Prim.Native.Nat.{_<_};
 ghost use Rattle.sample.specs.Word.{rowOf, colOf, vOf, uOf, classOf, wordOf, Held, inRange, placeOf, motions};
 ghost use Rattle.sample.specs.Sample.{sampleOf, centreOf, pelsOf, Centres};
 
+// Document 01: a list holds at most so many samples.
+pub const MOST_SAMPLES: usize = 4096;
+
 const ROW_UNIT: u32 = 67108864;
 
 const COL_UNIT: u32 = 1048576;
