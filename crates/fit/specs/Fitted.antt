@@ -6,7 +6,7 @@ use mathlib.Core.List.{List, [], _∷_}
 use lib.Dec.{ltb, eqb}
 use lib.ListN.{length, getD}
 use lib.Ieee.{Float, nan, neg}
-use Rattle.laws.specs.Refusal.{row, judge, choose, either}
+use Rattle.laws.specs.Refusal.{row, judge, orElse, choose, either}
 use Rattle.laws.specs.Call.{answered}
 use Rattle.laws.specs.Binary64.{_⊕_, _⊘_, nought, one}
 use Rattle.sample.specs.Sample.{mostSamples, sampleOf}
@@ -132,8 +132,11 @@ fitAnswer samples f = answered Refused (listRefusal samples) f
 abbrev pub noType : ℕ → Bool
 noType gmType = either (eqb gmType 0) (ltb 3 gmType)
 
+abbrev pub typeRefusal : ℕ → ℕ
+typeRefusal gmType = judge (row 4 (noType gmType) ∷ [])
+
 abbrev pub fitRefusal : ℕ → ℕ → ℕ
-fitRefusal gmType samples = judge (row 1 (tooMany samples) ∷ row 4 (noType gmType) ∷ [])
+fitRefusal gmType samples = orElse (listRefusal samples) (typeRefusal gmType)
 
 -- the fit of a type: 1 TRANSLATION, 2 ROTZOOM, and 3 AFFINE
 abbrev pub fitOf : ℕ → List ℕ → Fitted

@@ -16,7 +16,8 @@ ghost use lib.Ieee.{binary64, ofInt};
 ghost use Rattle.sample.specs.Sample.{mostSamples};
 ghost use Rattle.fit.specs.Sums.{translationSums, rotZoomSums, affineSums};
 ghost use Rattle.fit.specs.Inner.{translationStep, rotZoomStep, affineStep};
-ghost use Rattle.fit.specs.Fitted.{translationFit, rotZoomFit, affineFit, fitOf, listRefusal, fitRefusal, fitAnswer, fitted, rotZoomOf, affineOf, refusalOf, typeOf, rotZoomSystem, affineSystem};
+ghost use Rattle.fit.specs.Fitted.{refusalOf, typeOf, rotZoomSystem, affineSystem, rotZoomOf, affineOf};
+ghost use Rattle.fit.specs.Fitted.{translationFit, rotZoomFit, affineFit, fitOf, listRefusal, typeRefusal, fitRefusal, fitAnswer, fitted};
 
 // The type codes of the three fits.
 pub const TRANSLATION: u8 = 1;
@@ -403,13 +404,10 @@ pub fn fit_affine(words: &[u32]) -> Fitted
     affine_fit(words)
 }
 
-// Rows 1 and 4: the list, and the type code.
-fn fit_refusal(gm_type: u8, samples: usize) -> u32
-    ensures { λ r. ⌜ r ≡ fitRefusal «gm_type» samples ⌝ }
+// Row 4: no type of a fit.
+fn type_refusal(gm_type: u8) -> u32
+    ensures { λ r. ⌜ r ≡ typeRefusal «gm_type» ⌝ }
 {
-    if samples > MOST_SAMPLES {
-        return TOO_MANY;
-    }
     if gm_type == 0 {
         return NO_SUCH_CODE;
     }
@@ -417,6 +415,16 @@ fn fit_refusal(gm_type: u8, samples: usize) -> u32
         return NO_SUCH_CODE;
     }
     0
+}
+
+fn fit_refusal(gm_type: u8, samples: usize) -> u32
+    ensures { λ r. ⌜ r ≡ fitRefusal «gm_type» samples ⌝ }
+{
+    let first = list_refusal(samples);
+    if first != 0 {
+        return first;
+    }
+    type_refusal(gm_type)
 }
 
 fn fit_of(gm_type: u8, words: &[u32]) -> Fitted

@@ -11,20 +11,21 @@ use lib.IntN.{ℤ}
 use lib.ListN.{length}
 use Rattle.laws.specs.Refusal.{row, choose}
 use Rattle.laws.specs.Call.{answered}
-use Rattle.laws.proofs.Refusal.{quiet}
-use Rattle.sample.specs.Sample.{mostSamples}
+use Rattle.laws.proofs.Refusal.{quiet, or-else-quiet}
 use Rattle.fit.specs.declared.Fitted.{Fitted}
-use Rattle.fit.specs.Fitted.{typeOf, tooMany}
-use Rattle.quantize.specs.Quantize.{params, quantizedAs, refusedModel, noModel, quantizeRefusal, quantizedModel, exchange, rowFirst}
+use Rattle.fit.specs.Fitted.{typeOf, listRefusal}
+use Rattle.fit.proofs.Accepted.{list-few}
+use Rattle.quantize.specs.Quantize.{params, quantizedAs, refusedModel, noModel, modelRefusal, quantizeRefusal, quantizedModel, exchange, rowFirst}
 use Rattle.quantize.specs.Inner.{Accepted}
 
 pub accepted : (f : Fitted) (flag samples : ℕ) → quantizeRefusal f flag samples ≡ 0 → Accepted f flag samples
 accepted f flag samples e =
-    let q = quiet (row 1 (tooMany samples) ∷ row 4 (noModel f) ∷ row 4 (ltb 1 flag) ∷ []) tt e in
+    let groups = or-else-quiet (listRefusal samples) (modelRefusal f flag) e in
+    let q = quiet (row 4 (noModel f) ∷ row 4 (ltb 1 flag) ∷ []) tt (groups .1) in
     record {
-      few = ltb-false mostSamples samples (q .0);
-      model = eqb-false (typeOf f) 0 (q .1 .0);
-      flagged = ltb-false 1 flag (q .1 .1 .0);
+      few = list-few samples (groups .0);
+      model = eqb-false (typeOf f) 0 (q .0);
+      flagged = ltb-false 1 flag (q .1 .0);
     }
 
 refusal-shown : (n : ℕ) (p : List ℤ) → answered refusedModel n (quantizedAs 0 p) .refusal ≡ n

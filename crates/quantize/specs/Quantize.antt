@@ -7,7 +7,7 @@ use lib.Dec.{ltb, eqb}
 use lib.IntN.{ℤ, pos, negℤ}
 use lib.ListN.{length, replicate, set}
 use lib.Ieee.{Float}
-use Rattle.laws.specs.Refusal.{row, judge, choose}
+use Rattle.laws.specs.Refusal.{row, judge, orElse, choose}
 use Rattle.laws.specs.Call.{answered}
 use Rattle.laws.specs.Binary64.{_⊕_, _⊖_, _⊗_, _⊘_, nought, one}
 use Rattle.grid.specs.Grid.{quantized}
@@ -17,7 +17,7 @@ use Rattle.fit.specs.declared.Fitted.the-variants.{Refused, Translation, RotZoo
 use Rattle.fit.specs.declared.TranslationSums.{TranslationSums}
 use Rattle.sample.specs.Sample.{sampleOf}
 use Rattle.fit.specs.Sums.{Summing, sumsOf, countAs}
-use Rattle.fit.specs.Fitted.{typeOf, tooMany}
+use Rattle.fit.specs.Fitted.{typeOf, listRefusal}
 use Rattle.score.specs.declared.ContinuousModel.{ContinuousModel}
 use Rattle.quantize.specs.declared.Linear.{Linear}
 use Rattle.quantize.specs.declared.Motion.{Motion}
@@ -89,8 +89,11 @@ params f flag ws = paramsOf (typeOf f) flag (linearOf f flag) (refitted (linearO
 abbrev pub noModel : Fitted → Bool
 noModel f = eqb (typeOf f) 0
 
+abbrev pub modelRefusal : Fitted → ℕ → ℕ
+modelRefusal f flag = judge (row 4 (noModel f) ∷ row 4 (ltb 1 flag) ∷ [])
+
 abbrev pub quantizeRefusal : Fitted → ℕ → ℕ → ℕ
-quantizeRefusal f flag samples = judge (row 1 (tooMany samples) ∷ row 4 (noModel f) ∷ row 4 (ltb 1 flag) ∷ [])
+quantizeRefusal f flag samples = orElse (listRefusal samples) (modelRefusal f flag)
 
 abbrev pub quantizedAs : ℕ → List ℤ → Quantized
 quantizedAs n p = record { refusal = n; params = p }

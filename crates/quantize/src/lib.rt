@@ -5,10 +5,8 @@ use fit::AFFINE;
 use fit::Fitted;
 use fit::NO_SUCH_CODE;
 use fit::ROTZOOM;
-use fit::TOO_MANY;
 use fit::TRANSLATION;
 use fit::TranslationSums;
-use sample::MOST_SAMPLES;
 use sample::MotionSample;
 use score::ContinuousModel;
 ghost use mathlib.Core.Path.{_≡_};
@@ -17,7 +15,8 @@ ghost use lib.IntN.{natAbs};
 ghost use lib.ListN.{length};
 ghost use Rattle.sample.specs.Sample.{mostSamples};
 ghost use Rattle.fit.specs.Fitted.{typeOf};
-ghost use Rattle.quantize.specs.Quantize.{slotOf, rotZoomLinear, identityLinear, linearOf, continuousLinear, refitted, paramsOf, params, quantizeRefusal, refusedModel, quantizedModel, rowFirst};
+ghost use Rattle.quantize.specs.Quantize.{slotOf, rotZoomLinear, identityLinear, linearOf, continuousLinear, refitted, paramsOf, params};
+ghost use Rattle.quantize.specs.Quantize.{modelRefusal, quantizeRefusal, refusedModel, quantizedModel, rowFirst};
 ghost use Rattle.quantize.specs.Inner.{refitStep, refitSums, Accepted};
 
 // Slots 2 to 5 of a model.
@@ -173,13 +172,10 @@ fn model_params(fitted: Fitted, flag: u8, words: &[u32]) -> [i32; 6]
     params_of(fit::type_of(fitted), flag, l, refit(l, words))
 }
 
-// Rows 1 and 4: the list, the fitted model and the flag.
-fn quantize_refusal(fitted: Fitted, flag: u8, samples: usize) -> u32
-    ensures { λ r. ⌜ r ≡ quantizeRefusal fitted flag samples ⌝ }
+// Row 4: no fitted model, or no such flag.
+fn model_refusal(fitted: Fitted, flag: u8) -> u32
+    ensures { λ r. ⌜ r ≡ modelRefusal fitted flag ⌝ }
 {
-    if samples > MOST_SAMPLES {
-        return TOO_MANY;
-    }
     if fit::type_of(fitted) == 0 {
         return NO_SUCH_CODE;
     }
@@ -187,6 +183,16 @@ fn quantize_refusal(fitted: Fitted, flag: u8, samples: usize) -> u32
         return NO_SUCH_CODE;
     }
     0
+}
+
+fn quantize_refusal(fitted: Fitted, flag: u8, samples: usize) -> u32
+    ensures { λ r. ⌜ r ≡ quantizeRefusal fitted flag samples ⌝ }
+{
+    let first = fit::list_refusal(samples);
+    if first != 0 {
+        return first;
+    }
+    model_refusal(fitted, flag)
 }
 
 fn refused_model(number: u32) -> Quantized

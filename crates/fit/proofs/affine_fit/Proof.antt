@@ -9,8 +9,14 @@ returns : tie.Need-returns
 unfolding affineFit
 returns c =
     let sums = c .before .before .before .before .before in
-    rw (← sums .affine-sums .ensures, ← sums .before .count-of .ensures, ← c .before .before .before .before .affine-system .ensures,
-        ← c .before .before .affine-system2 .ensures, ← c .before .before .before .solve-linear .ensures, ← c .before .solve-linear2 .ensures)
+    rw (
+      ← sums .affine-sums .ensures,
+      ← sums .before .count-of .ensures,
+      ← c .before .before .before .before .affine-system .ensures,
+      ← c .before .before .affine-system2 .ensures,
+      ← c .before .before .before .solve-linear .ensures,
+      ← c .before .solve-linear2 .ensures,
+    )
     (c .affine-of .ensures)
 
 pub affine-fit-spec : {M : Type 1} → statement M

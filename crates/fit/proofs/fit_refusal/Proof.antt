@@ -1,20 +1,22 @@
--- `fit::fit_refusal`: the tests are those of the rows, in their order.
+-- `fit::fit_refusal`: the list's row answers first, then the type's.
 -- Assumes nothing.
-use borrow.Author.Tests.{lt-ltb, le-ltb, eq-eqb, ne-eqb}
+use Rattle.laws.proofs.Refusal.{or-else-refused, or-else-none}
+use Rattle.fit.specs.Fitted.{typeRefusal}
+use mathlib.Core.Path.{_∙_}
+use borrow.Author.Needs.{needs}
 use Rattle.fit.proofs.fit_refusal.Statement.{statement}
 use Rattle.fit.proofs.fit_refusal.Tie as tie
 
 returns : tie.Need-returns
-returns c = rw (lt-ltb _ _ (c .if1 .taken))
+returns c =
+    rw (← c .before .list-refusal .ensures)
+    (or-else-refused (c .before .list-refusal .result) (typeRefusal (c .before .before .args .gm-type)) (c .if1 .taken))
 
 returns-2 : tie.Need-returns-2
-returns-2 c = rw (le-ltb _ _ (c .before .if1 .left), eq-eqb _ _ (c .if2 .taken))
-
-returns-3 : tie.Need-returns-3
-returns-3 c = rw (le-ltb _ _ (c .before .before .if1 .left), ne-eqb _ _ (c .before .if2 .left), lt-ltb _ _ (c .if3 .taken))
-
-returns-4 : tie.Need-returns-4
-returns-4 c = rw (le-ltb _ _ (c .before .before .if1 .left), ne-eqb _ _ (c .before .if2 .left), le-ltb _ _ (c .if3 .left))
+returns-2 c =
+    let entry = c .before .before .before in
+    rw (← c .before .before .list-refusal .ensures)
+    (c .type-refusal .ensures ∙ or-else-none (c .before .before .list-refusal .result) (typeRefusal (entry .args .gm-type)) (c .before .if1 .left))
 
 pub fit-refusal-spec : {M : Type 1} → statement M
-fit-refusal-spec = tie.close (tie.spec returns returns-2 returns-3 returns-4)
+fit-refusal-spec = tie.close (tie.spec (λ c κs. search needs) returns (λ c κs. search needs) returns-2)

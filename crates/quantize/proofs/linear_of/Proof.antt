@@ -38,9 +38,17 @@ returns-4 c =
     let p3 = c .before .before .quantized-slot4 in
     let p4 = c .before .quantized-slot5 in
     let p5 = c .quantized-slot6 in
-    rw (c .before .before .before .before .before .fitted2 .given .1,
-        result-reads w32 (p2 .result) (p2 .ok), result-reads w32 (p3 .result) (p3 .ok), result-reads w32 (p4 .result) (p4 .ok), result-reads w32 (p5 .result) (p5 .ok),
-        ← p2 .ensures, ← p3 .ensures, ← p4 .ensures, ← p5 .ensures)
+    rw (
+      c .before .before .before .before .before .fitted2 .given .1,
+      result-reads w32 (p2 .result) (p2 .ok),
+      result-reads w32 (p3 .result) (p3 .ok),
+      result-reads w32 (p4 .result) (p4 .ok),
+      result-reads w32 (p5 .result) (p5 .ok),
+      ← p2 .ensures,
+      ← p3 .ensures,
+      ← p4 .ensures,
+      ← p5 .ensures,
+    )
 
 pub linear-of-spec : {M : Type 1} → statement M
 linear-of-spec =

@@ -17,7 +17,7 @@ unfolding scoreOf
 returns-2 c = rw (← c .before .before .list-refusal .ensures, c .before .if1 .left, eq-eqb _ _ (c .if2 .taken))
 
 count-of-requires : tie.Need-count-of-requires
-count-of-requires c κs = list-few (sym (c .before .before .list-refusal .ensures) ∙ c .before .if1 .left)
+count-of-requires c κs = list-few (c .before .before .before .args .samples) (sym (c .before .before .list-refusal .ensures) ∙ c .before .if1 .left)
 
 returns-3 : tie.Need-returns-3
 unfolding scoreOf

@@ -1,4 +1,4 @@
--- `solve::exchange_rows` meets its contract: what is left to exchange, from here as from the first column; the right side goes before.
+-- `solve::exchange_rows`: what is left to exchange, from here as from the first column; the right side goes before.
 -- Assumes nothing.
 use Prim.Native.Nat.{_-_}
 use mathlib.Core.Path.{_≡_, refl, sym, _∙_}
