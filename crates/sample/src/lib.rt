@@ -12,6 +12,9 @@ ghost use Rattle.sample.specs.Inner.{Held, Centres};
 // The samples of the largest frame.
 pub const MOST_SAMPLES: usize = 4096;
 
+// Document 01: a list holds at most so many samples.
+pub const MOST_SAMPLES: usize = 4096;
+
 const ROW_UNIT: u32 = 67108864;
 
 const COL_UNIT: u32 = 1048576;

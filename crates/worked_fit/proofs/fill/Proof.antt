@@ -1,4 +1,4 @@
--- `fill` meets its contract: the part keeps its length.
+-- `worked_fit::fill`: writing a word keeps the length.
 -- Assumes nothing.
 use lib.ListN.{length}
 use Prim.Native.Nat.{_-_}
