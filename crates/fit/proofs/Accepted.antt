@@ -6,7 +6,7 @@ use mathlib.Core.Path.{_≡_}
 use borrow.Author.Tests.{ltb-false}
 use Rattle.laws.specs.Refusal.{row}
 use Rattle.laws.proofs.Refusal.{quiet, or-else-quiet}
-use Rattle.sample.specs.Sample.{mostSamples}
+use Rattle.sample.specs.Word.{mostSamples}
 use Rattle.fit.specs.Fitted.{tooMany, listRefusal, typeRefusal, fitRefusal}
 
 pub list-few : (samples : ℕ) → listRefusal samples ≡ 0 → samples ≤ mostSamples

@@ -9,7 +9,8 @@ use lib.Ieee.{Float, nan, neg}
 use Rattle.laws.specs.Refusal.{row, judge, orElse, choose, either}
 use Rattle.laws.specs.Call.{answered}
 use Rattle.laws.specs.Binary64.{_⊕_, _⊘_, nought, one}
-use Rattle.sample.specs.Sample.{mostSamples, sampleOf}
+use Rattle.sample.specs.Word.{mostSamples}
+use Rattle.sample.specs.Sample.{sampleOf}
 use Rattle.solve.specs.declared.System.{System}
 use Rattle.solve.specs.declared.Solution.{Solution}
 use Rattle.solve.specs.Elimination.{unlessSingular}

@@ -13,7 +13,7 @@ ghost use Prim.Native.Nat.{_≤_};
 ghost use lib.IntN.{pos};
 ghost use lib.ListN.{length};
 ghost use lib.Ieee.{binary64, ofInt};
-ghost use Rattle.sample.specs.Sample.{mostSamples};
+ghost use Rattle.sample.specs.Word.{mostSamples};
 ghost use Rattle.fit.specs.Sums.{translationSums, rotZoomSums, affineSums};
 ghost use Rattle.fit.specs.Inner.{translationStep, rotZoomStep, affineStep};
 ghost use Rattle.fit.specs.Fitted.{refusalOf, typeOf, rotZoomSystem, affineSystem, rotZoomOf, affineOf};

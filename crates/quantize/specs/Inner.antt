@@ -5,7 +5,8 @@ use mathlib.Core.List.{List}
 use mathlib.Core.Path.{_≡_}
 use lib.ListN.{length}
 use Rattle.sample.specs.declared.MotionSample.{MotionSample}
-use Rattle.sample.specs.Sample.{mostSamples, sampleOf}
+use Rattle.sample.specs.Word.{mostSamples}
+use Rattle.sample.specs.Sample.{sampleOf}
 use Rattle.fit.specs.declared.Fitted.{Fitted}
 use Rattle.fit.specs.declared.TranslationSums.{TranslationSums}
 use Rattle.fit.specs.Sums.{plus, sumsOf}

@@ -13,7 +13,7 @@ ghost use mathlib.Core.Path.{_≡_};
 ghost use Prim.Native.Nat.{_≤_};
 ghost use lib.IntN.{natAbs};
 ghost use lib.ListN.{length};
-ghost use Rattle.sample.specs.Sample.{mostSamples};
+ghost use Rattle.sample.specs.Word.{mostSamples};
 ghost use Rattle.fit.specs.Fitted.{typeOf};
 ghost use Rattle.quantize.specs.Quantize.{slotOf, rotZoomLinear, identityLinear, linearOf, continuousLinear, refitted, paramsOf, params};
 ghost use Rattle.quantize.specs.Quantize.{modelRefusal, quantizeRefusal, refusedModel, quantizedModel, rowFirst};

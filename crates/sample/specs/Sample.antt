@@ -6,10 +6,6 @@ use lib.Ieee.{Float, binary64, add, div, ofInt, ofBits}
 use Rattle.sample.specs.declared.MotionSample.{MotionSample}
 use Rattle.sample.specs.Word.{rowOf, colOf, vOf, uOf}
 
--- document 01: a list holds at most so many samples
-abbrev pub mostSamples : ℕ
-mostSamples = 4096
-
 -- a stored motion is its eighths plus this
 abbrev pub motionBias : ℕ
 motionBias = 223

@@ -9,10 +9,7 @@ ghost use Rattle.sample.specs.Sample.{sampleOf, centreOf, pelsOf};
 ghost use Rattle.sample.specs.Storable.{storableFrom};
 ghost use Rattle.sample.specs.Inner.{Held, Centres};
 
-// The samples of the largest frame.
-pub const MOST_SAMPLES: usize = 4096;
-
-// Document 01: a list holds at most so many samples.
+// The samples of the largest frame, and of the longest list.
 pub const MOST_SAMPLES: usize = 4096;
 
 const ROW_UNIT: u32 = 67108864;
