@@ -6,7 +6,7 @@ use mathlib.Core.Path.{_≡_, sym, ap, _∙_}
 use native.Mathlib.Nat.{mul-add, mul-le-mul-right}
 use native.Mathlib.Omega.{arith}
 use lib.ListN.{take, drop}
-use Rattle.pels.specs.Clamp.{offset}
+use Rattle.plane.specs.Clamp.{offset}
 use Rattle.cost.specs.Cost.{weighted, predicted, bilinearRowCost, bilinearCost, eighthsCost}
 use Rattle.cost.specs.Ready.{bilinearDifference}
 use Rattle.cost.proofs.Stored.{whole-of-stored, fraction-of-stored}

@@ -7,12 +7,12 @@ use native.Mathlib.Omega.{arith}
 use lib.ListN.{take, drop, getD}
 use lib.Seq.{getD-take, getD-drop}
 use Rattle.plane.specs.Plane.{pel}
-use Rattle.pels.specs.Clamp.{displaced, offset}
-use Rattle.pels.specs.Difference.{difference}
+use Rattle.plane.specs.Clamp.{displaced, offset}
+use Rattle.plane.specs.Difference.{difference}
 use Rattle.cost.specs.Cost.{rowCost}
 use Rattle.cost.specs.Ready.{rowDifference}
 use Rattle.cost.proofs.Sum.{sum-same}
-use Rattle.pels.proofs.Clamped.{displaced-is}
+use Rattle.plane.proofs.Clamped.{displaced-is}
 
 -- the element at i of the n elements from the a-th on
 pub part-at : (p : List ℕ) (a n i : ℕ) → i < n → getD (take (a + n - a) (drop a p)) i 0 ≡ getD p (a + i) 0

@@ -6,8 +6,8 @@ use mathlib.Core.List.{List}
 use lib.IntN.{ℤ, pos, negsuc}
 use Rattle.laws.specs.Loops.{sum}
 use Rattle.plane.specs.Plane.{pel}
-use Rattle.pels.specs.Clamp.{displaced}
-use Rattle.pels.specs.Difference.{difference}
+use Rattle.plane.specs.Clamp.{displaced}
+use Rattle.plane.specs.Difference.{difference}
 
 -- n pels of the input from row r, column c against the reference displaced by (dy, dx)
 unfoldable pub rowCost : ℕ → List ℕ → List ℕ → ℕ → ℕ → ℕ → ℕ → ℤ → ℤ → ℕ

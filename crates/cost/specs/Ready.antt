@@ -5,7 +5,7 @@ use mathlib.Core.List.{List}
 use mathlib.Core.Path.{_≡_}
 use lib.ListN.{length, getD}
 use Rattle.laws.specs.Loops.{sum}
-use Rattle.pels.specs.Difference.{difference}
+use Rattle.plane.specs.Difference.{difference}
 use Rattle.cost.specs.Cost.{bilinear}
 
 -- two planes of sides w and h

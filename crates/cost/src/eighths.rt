@@ -1,8 +1,8 @@
 // The cost between pels: 16×16, bilinear at eighths (`sad_subpel`).
 ghost use mathlib.Core.Path.{_≡_};
 ghost use Prim.Native.Nat.{_+_};
-ghost use Rattle.pels.specs.Clamp.{offset};
-ghost use Rattle.pels.specs.Ready.{Is, Near};
+ghost use Rattle.plane.specs.Clamp.{offset};
+ghost use Rattle.plane.specs.Inner.{Is, Near};
 ghost use Rattle.cost.specs.Cost as cost;
 ghost use Rattle.cost.specs.Cost.{bilinear, predicted, bilinearRowCost, bilinearCost, eighthsCost};
 ghost use Rattle.cost.specs.Ready.{bilinearDifference, Planes, RowAt, BlockAt, Inside, BilinearRows, Fractions, Weighable};
@@ -44,7 +44,7 @@ fn row_of_16(input: &[u16], top: &[u16], bottom: &[u16], fy: u32, fx: u32) -> u3
     let mut cost: u32 = 0;
     let mut j = 0;
     while j < BLOCK {
-        cost += pels::absolute_difference(
+        cost += plane::absolute_difference(
             input[j],
             blend(top[j], top[j + 1], bottom[j], bottom[j + 1], fy, fx),
         );
@@ -71,9 +71,9 @@ fn inside_row(
     requires { ⌜ Fractions fy fx ⌝ }
     ensures { λ s. ⌜ Is (bilinearRowCost 16 (now (input .entry)) (now (reference .entry)) width height r c (offset 28 y) (offset 28 x) fy fx) 1048560 s ⌝ }
 {
-    let a = pels::row_start(BLOCK, width, height, r, c);
-    let top = pels::displaced_start(ROW, width, height, r, c, y, x, WHOLE_BIAS);
-    let bottom = pels::displaced_start(ROW, width, height, r + 1, c, y, x, WHOLE_BIAS);
+    let a = plane::row_start(BLOCK, width, height, r, c);
+    let top = plane::displaced_start(ROW, width, height, r, c, y, x, WHOLE_BIAS);
+    let bottom = plane::displaced_start(ROW, width, height, r + 1, c, y, x, WHOLE_BIAS);
     row_of_16(
         &input[a..a + BLOCK],
         &reference[top..top + ROW],
@@ -98,10 +98,10 @@ fn clamped_pel(
     requires { ⌜ Fractions fy fx ⌝ }
     ensures { λ s. ⌜ s ≡ predicted (now (reference .entry)) width height r c (offset 28 y) (offset 28 x) fy fx ⌝ }
 {
-    let p00 = pels::displaced(reference, width, height, r, c, y, x, WHOLE_BIAS);
-    let p01 = pels::displaced(reference, width, height, r, c + 1, y, x, WHOLE_BIAS);
-    let p10 = pels::displaced(reference, width, height, r + 1, c, y, x, WHOLE_BIAS);
-    let p11 = pels::displaced(reference, width, height, r + 1, c + 1, y, x, WHOLE_BIAS);
+    let p00 = plane::displaced(reference, width, height, r, c, y, x, WHOLE_BIAS);
+    let p01 = plane::displaced(reference, width, height, r, c + 1, y, x, WHOLE_BIAS);
+    let p10 = plane::displaced(reference, width, height, r + 1, c, y, x, WHOLE_BIAS);
+    let p11 = plane::displaced(reference, width, height, r + 1, c + 1, y, x, WHOLE_BIAS);
     blend(p00, p01, p10, p11, fy, fx)
 }
 
@@ -122,11 +122,11 @@ fn clamped_row(
     requires { ⌜ Fractions fy fx ⌝ }
     ensures { λ s. ⌜ Is (bilinearRowCost 16 (now (input .entry)) (now (reference .entry)) width height r c (offset 28 y) (offset 28 x) fy fx) 1048560 s ⌝ }
 {
-    let first = pels::row_start(BLOCK, width, height, r, c);
+    let first = plane::row_start(BLOCK, width, height, r, c);
     let mut cost: u32 = 0;
     let mut j = 0;
     while j < BLOCK {
-        cost += pels::absolute_difference(
+        cost += plane::absolute_difference(
             input[first + j],
             clamped_pel(reference, width, height, r, c + j, y, x, fy, fx),
         );

@@ -1,8 +1,8 @@
 // Costs by whole pels: 8×8 on half planes (`sad_half`) and 16×16 on planes (`sad_int`).
 // A block whose displaced columns lie inside the plane goes by rows of constant width.
 ghost use Prim.Native.Nat.{_*_, _≤_};
-ghost use Rattle.pels.specs.Clamp.{offset};
-ghost use Rattle.pels.specs.Ready.{Is};
+ghost use Rattle.plane.specs.Clamp.{offset};
+ghost use Rattle.plane.specs.Inner.{Is};
 ghost use Rattle.cost.specs.Cost.{rowCost, blockCost};
 ghost use Rattle.cost.specs.Ready.{rowDifference, Planes, RowAt, BlockAt, Inside, Rows};
 
@@ -23,7 +23,7 @@ fn row_of_8(a: &[u16], b: &[u16]) -> u32
     let mut cost: u32 = 0;
     let mut j = 0;
     while j < HALF_BLOCK {
-        cost += pels::absolute_difference(a[j], b[j]);
+        cost += plane::absolute_difference(a[j], b[j]);
         j += 1;
     }
     cost
@@ -36,7 +36,7 @@ fn row_of_16(a: &[u16], b: &[u16]) -> u32
     let mut cost: u32 = 0;
     let mut j = 0;
     while j < BLOCK {
-        cost += pels::absolute_difference(a[j], b[j]);
+        cost += plane::absolute_difference(a[j], b[j]);
         j += 1;
     }
     cost
@@ -57,8 +57,8 @@ fn half_row(
     requires { ⌜ Inside 8 width c x 12 ⌝ }
     ensures { λ s. ⌜ Is (rowCost 8 (now (input .entry)) (now (reference .entry)) width height r c (offset 12 y) (offset 12 x)) 524280 s ⌝ }
 {
-    let a = pels::row_start(HALF_BLOCK, width, height, r, c);
-    let b = pels::displaced_start(HALF_BLOCK, width, height, r, c, y, x, COARSE_BIAS);
+    let a = plane::row_start(HALF_BLOCK, width, height, r, c);
+    let b = plane::displaced_start(HALF_BLOCK, width, height, r, c, y, x, COARSE_BIAS);
     row_of_8(&input[a..a + HALF_BLOCK], &reference[b..b + HALF_BLOCK])
 }
 
@@ -77,8 +77,8 @@ fn int_row(
     requires { ⌜ Inside 16 width c x 27 ⌝ }
     ensures { λ s. ⌜ Is (rowCost 16 (now (input .entry)) (now (reference .entry)) width height r c (offset 27 y) (offset 27 x)) 1048560 s ⌝ }
 {
-    let a = pels::row_start(BLOCK, width, height, r, c);
-    let b = pels::displaced_start(BLOCK, width, height, r, c, y, x, FULL_BIAS);
+    let a = plane::row_start(BLOCK, width, height, r, c);
+    let b = plane::displaced_start(BLOCK, width, height, r, c, y, x, FULL_BIAS);
     row_of_16(&input[a..a + BLOCK], &reference[b..b + BLOCK])
 }
 
@@ -99,13 +99,13 @@ fn clamped_row(
     requires { ⌜ RowAt n width height r c y x ⌝ }
     ensures { λ s. ⌜ Is (rowCost n (now (input .entry)) (now (reference .entry)) width height r c (offset bias y) (offset bias x)) (65535 * n) s ⌝ }
 {
-    let first = pels::row_start(n, width, height, r, c);
+    let first = plane::row_start(n, width, height, r, c);
     let mut cost: u32 = 0;
     let mut j = 0;
     while j < n {
-        cost += pels::absolute_difference(
+        cost += plane::absolute_difference(
             input[first + j],
-            pels::displaced(reference, width, height, r, c + j, y, x, bias),
+            plane::displaced(reference, width, height, r, c + j, y, x, bias),
         );
         j += 1;
     }

@@ -7,7 +7,8 @@ use native.Mathlib.Nat.{mul-le-mul-right}
 use native.Mathlib.Omega.{arith}
 use lib.ListN.{length, take, drop, getD}
 use lib.Seq.{getD-take, getD-drop}
-use Rattle.plane.specs.Plane.{listing, halfOfRows, halfPel, halfPlane}
+use Rattle.plane.specs.Plane.{listing, halfPel, halfPlane}
+use Rattle.plane.specs.Inner.{halfOfRows}
 use Rattle.plane.proofs.Listing.{listing-same, length-rowByRow}
 
 -- the element at i of the w elements from the a-th on

@@ -6,10 +6,10 @@ use mathlib.Core.Path.{_≡_, refl, ap, _∙_}
 use native.Mathlib.Omega.{arith}
 use lib.IntN.{ℤ, pos, _+ℤ_, _*ℤ_, natAbs}
 use Rattle.plane.specs.Plane.{halfPlane}
-use Rattle.pels.specs.Clamp.{offset}
-use Rattle.pels.specs.Difference.{difference}
+use Rattle.plane.specs.Clamp.{offset}
+use Rattle.plane.specs.Difference.{difference}
 use Rattle.cost.specs.Cost.{eighthsCost}
-use Rattle.pels.proofs.Offset.{offset-add, offset-magnitude}
+use Rattle.plane.proofs.Offset.{offset-add, offset-magnitude}
 use Rattle.stage.specs.Stage.{coarse, fullPel, eighthsStep, refined, priced}
 use Rattle.stage.proofs.Motion.{offset-same, offset-back, offset-twice, offset-eightfold}
 use Rattle.stage.proofs.Scan.{Within}

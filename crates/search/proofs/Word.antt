@@ -7,7 +7,7 @@ use native.Mathlib.Omega.{arith}
 use lib.IntN.{ℤ, pos, _*ℤ_}
 use Rattle.sample.specs.Word.{wordOf}
 use Rattle.plane.specs.Plane.{halfPlane}
-use Rattle.pels.specs.Clamp.{offset}
+use Rattle.plane.specs.Clamp.{offset}
 use Rattle.stage.specs.Stage.{Found, coarse, fullPel, refined}
 use Rattle.stage.specs.Ready.{seen}
 use Rattle.stage.specs.declared.Best.{Best}

@@ -11,9 +11,9 @@ use borrow.Author.Tests.{eq-eqb, ne-eqb}
 use Rattle.laws.specs.Loops.{run, turns}
 use Rattle.laws.specs.Refusal.{choose}
 use Rattle.laws.proofs.Loops.{again, done}
-use Rattle.pels.specs.Clamp.{offset}
-use Rattle.pels.proofs.Offset.{offset-add, offset-pos, offset-magnitude}
-use Rattle.pels.specs.Difference.{difference}
+use Rattle.plane.specs.Clamp.{offset}
+use Rattle.plane.proofs.Offset.{offset-add, offset-pos, offset-magnitude}
+use Rattle.plane.specs.Difference.{difference}
 use Rattle.stage.specs.declared.Best.{Best}
 use Rattle.stage.specs.Stage.{Found, priced, better, side, square, rowOffset, columnOffset, consider, scan, withOffset}
 use Rattle.stage.specs.Ready.{seen, replaced}

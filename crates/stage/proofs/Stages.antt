@@ -6,9 +6,9 @@ use mathlib.Core.Path.{_≡_, refl, subst}
 use native.Mathlib.Omega.{arith}
 use lib.IntN.{ℤ, pos}
 use Rattle.laws.specs.Loops.{run}
-use Rattle.pels.specs.Clamp.{offset}
+use Rattle.plane.specs.Clamp.{offset}
 use Rattle.cost.specs.Cost.{blockCost, eighthsCost}
-use Rattle.pels.proofs.Offset.{offset-pos}
+use Rattle.plane.proofs.Offset.{offset-pos}
 use Rattle.stage.specs.Stage.{Found, consider, scan, withOffset, coarse, fullPel, eighthsStep, refined}
 use Rattle.stage.proofs.Scan.{Inside, scan-inside}
 

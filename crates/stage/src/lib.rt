@@ -4,10 +4,10 @@
 // the signed one plus a bias: 12 in the coarse stage, 27 by full pels, 223 in eighths.
 ghost use mathlib.Core.Path.{_≡_};
 ghost use Prim.Native.Nat.{_+_, _≤_, _<_};
-ghost use Rattle.pels.specs.Clamp.{offset};
+ghost use Rattle.plane.specs.Clamp.{offset};
 ghost use Rattle.cost.specs.Cost as costs;
-ghost use Rattle.pels.specs.Difference.{difference};
-ghost use Rattle.pels.specs.Ready.{Is};
+ghost use Rattle.plane.specs.Difference.{difference};
+ghost use Rattle.plane.specs.Inner.{Is};
 ghost use Rattle.cost.specs.Ready.{Planes};
 ghost use Rattle.stage.specs.Stage as stages;
 ghost use Rattle.stage.specs.Stage.{consider, withOffset, fullPel, eighthsStep, refined};

@@ -6,7 +6,8 @@ use native.Mathlib.Omega.{arith}
 use lib.ListN.{length, length-set}
 use borrow.Author.Needs.{needs}
 use Rattle.laws.specs.Buffer.{onto}
-use Rattle.plane.specs.Plane.{listing, halfOfRows}
+use Rattle.plane.specs.Plane.{listing}
+use Rattle.plane.specs.Inner.{halfOfRows}
 use Rattle.plane.proofs.Listing.{listing-more, listing-all}
 use Rattle.plane.proofs.half_row.Statement.{statement}
 use Rattle.plane.proofs.half_row.Tie as tie

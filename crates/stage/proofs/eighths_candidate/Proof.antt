@@ -4,7 +4,7 @@ use Prim.Native.Nat.{_+_, _*_, _-_, _/_, _%_, _≤_}
 use mathlib.Core.Path.{ap, _∙_}
 use native.Mathlib.Nat.{mul-le-mul-right}
 use native.Mathlib.Omega.{arith}
-use Rattle.pels.specs.Clamp.{offset}
+use Rattle.plane.specs.Clamp.{offset}
 use Rattle.cost.specs.Cost.{eighthsCost}
 use Rattle.stage.specs.Ready.{seen}
 use Rattle.stage.proofs.Scan.{consider-centre, consider-other}

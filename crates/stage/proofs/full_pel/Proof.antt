@@ -4,7 +4,7 @@ use Prim.Native.Nat.{_-_}
 use mathlib.Core.Path.{_≡_, _∙_}
 use native.Mathlib.Nat.{le-trans}
 use native.Mathlib.Omega.{arith}
-use Rattle.pels.specs.Clamp.{offset}
+use Rattle.plane.specs.Clamp.{offset}
 use Rattle.cost.specs.Cost.{blockCost}
 use Rattle.stage.specs.Stage.{consider, withOffset, fullPel}
 use Rattle.stage.specs.Ready.{seen}

@@ -2,7 +2,7 @@
 -- Assumes nothing.
 use native.Mathlib.Omega.{arith}
 use borrow.Author.Needs.{needs}
-use Rattle.pels.specs.Clamp.{offset}
+use Rattle.plane.specs.Clamp.{offset}
 use Rattle.stage.proofs.Stages.{refined-is}
 use Rattle.stage.proofs.refine.Statement.{statement}
 use Rattle.stage.proofs.refine.Tie as tie

@@ -5,7 +5,7 @@ use mathlib.Core.Path.{ap, _∙_}
 use native.Mathlib.Omega.{arith}
 use lib.ListN.{getD}
 use borrow.Author.Needs.{needs}
-use Rattle.pels.specs.Difference.{difference}
+use Rattle.plane.specs.Difference.{difference}
 use Rattle.cost.specs.Cost.{bilinear}
 use Rattle.cost.specs.Ready.{bilinearDifference}
 use Rattle.cost.proofs.Sum.{Adds, none, more, all}

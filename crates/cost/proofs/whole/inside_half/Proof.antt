@@ -3,7 +3,7 @@
 use Prim.Native.Nat.{_+_, _-_}
 use native.Mathlib.Omega.{arith}
 use borrow.Author.Needs.{needs}
-use Rattle.pels.specs.Clamp.{offset}
+use Rattle.plane.specs.Clamp.{offset}
 use Rattle.cost.specs.Cost.{rowCost, blockCost}
 use Rattle.cost.proofs.Sum.{Adds, none, more, all}
 use Rattle.cost.proofs.whole.inside_half.Statement.{statement}

@@ -4,7 +4,7 @@ use Prim.Native.Nat.{_-_}
 use native.Mathlib.Omega.{arith}
 use lib.ListN.{getD}
 use borrow.Author.Needs.{needs}
-use Rattle.pels.specs.Difference.{difference}
+use Rattle.plane.specs.Difference.{difference}
 use Rattle.cost.specs.Ready.{rowDifference}
 use Rattle.cost.proofs.Sum.{Adds, none, more, all}
 use Rattle.cost.proofs.whole.row_of_8.Statement.{statement}

@@ -2,9 +2,9 @@
 -- Assumes nothing.
 use mathlib.Core.Path.{refl}
 use native.Mathlib.Omega.{arith}
-use Rattle.pels.proofs.Clamped.{row-end, plane-small}
-use Rattle.pels.proofs.row_start.Statement.{statement}
-use Rattle.pels.proofs.row_start.Tie as tie
+use Rattle.plane.proofs.Clamped.{row-end, plane-small}
+use Rattle.plane.proofs.row_start.Statement.{statement}
+use Rattle.plane.proofs.row_start.Tie as tie
 
 mul-result : tie.Need-mul-result
 mul-result c = omega (arith, row-end (c .args .width) (c .args .height) (c .args .r) (c .args .c) (c .args .n) (c .pre .row) (c .pre .columns), plane-small (c .args .width) (c .args .height) (c .pre .narrow) (c .pre .low))

@@ -6,9 +6,9 @@ use mathlib.Core.Path.{_≡_}
 use native.Mathlib.Nat.{mul-le-mul, mul-le-mul-right}
 use native.Mathlib.Omega.{arith}
 use lib.IntN.{pos, _+ℤ_}
 use Rattle.plane.specs.Plane.{pel}
-use Rattle.pels.specs.Clamp.{clamped, displaced, offset}
-use Rattle.pels.proofs.Offset.{sub-cases, offset-cases}
+use Rattle.plane.specs.Clamp.{clamped, displaced, offset}
+use Rattle.plane.proofs.Offset.{sub-cases, offset-cases}
 
 pub clamped-is : (n a b y : ℕ) → clamped n (pos a +ℤ offset b y) ≡ min (a + y - b) (n - 1)
 clamped-is n a b y =

@@ -1,9 +1,9 @@
 -- `displaced`: both coordinates are clamped.
 -- Assumes nothing.
-use Rattle.pels.proofs.Clamped.{displaced-is}
+use Rattle.plane.proofs.Clamped.{displaced-is}
 use borrow.Author.Needs.{needs}
-use Rattle.pels.proofs.displaced.Statement.{statement}
-use Rattle.pels.proofs.displaced.Tie as tie
+use Rattle.plane.proofs.displaced.Statement.{statement}
+use Rattle.plane.proofs.displaced.Tie as tie
 
 returns : tie.Need-returns
 returns c = rw (displaced-is (c .before .before .before .before .before .args .plane .now) (c .before .before .before .before .before .args .width) (c .before .before .before .before .before .args .height) (c .before .before .before .before .before .args .r) (c .before .before .before .before .before .args .c) (c .before .before .before .before .before .args .bias) (c .before .before .before .before .before .args .y) (c .before .before .before .before .before .args .x), ← c .before .before .before .clamp .ensures, ← c .before .before .clamp2 .ensures, ← c .before .row-start .ensures .same)

@@ -3,8 +3,8 @@
 use Prim.Native.Nat.{ℕ, _+_, _*_, _-_}
 use mathlib.Core.Path.{ap, _∙_}
 use borrow.Author.Needs.{needs}
-use Rattle.pels.proofs.displaced_start.Statement.{statement}
-use Rattle.pels.proofs.displaced_start.Tie as tie
+use Rattle.plane.proofs.displaced_start.Statement.{statement}
+use Rattle.plane.proofs.displaced_start.Tie as tie
 
 returns : tie.Need-returns
 returns c = record { same = c .row-start .ensures .same ∙ ap (λ (q : ℕ). q * c .before .before .args .width + (c .before .before .args .c + c .before .before .args .x - c .before .before .args .bias)) (c .before .clamp .ensures); inside = c .row-start .ensures .inside }
