@@ -1,4 +1,4 @@
 pub mod Listing
 pub mod Halves
-pub mod Offset
+pub mod Offsets
 pub mod Clamped

@@ -2,7 +2,12 @@
 -- Assumes nothing.
 use Prim.Native.Nat.{ℕ, zero, suc, _+_, _*_, _/_}
 use mathlib.Core.List.{List, [], _∷_, _++_}
-use lib.ListN.{length, getD, take, drop}
+use lib.ListN.{getD}
+use Rattle.plane.specs.declared.Place.{Place}
+
+-- the longest side that row 1 lets pass
+abbrev pub largestSide : ℕ
+largestSide = 1024
 
 -- f 0, f 1, .., f (n - 1)
 abbrev pub listing : {A : Type 0} → (ℕ → A) → ℕ → List A
@@ -14,13 +19,20 @@ abbrev pub rowByRow : {A : Type 0} → (ℕ → ℕ → A) → ℕ → ℕ → L
 rowByRow f w zero = []
 rowByRow f w (suc h) = rowByRow f w h ++ listing (f h) w
 
--- a list with ys in the place of as many elements from the a-th on
-abbrev pub over : {A : Type 0} → ℕ → List A → List A → List A
-over a ys xs = take a xs ++ (ys ++ drop (a + length ys) xs)
-
 -- the pel at row r, column c of a plane of width w
 abbrev pub pel : List ℕ → ℕ → ℕ → ℕ → ℕ
 pel p w r c = getD p (r * w + c) 0
+
+-- the pel at a place
+abbrev pub pelAt : List ℕ → Place → ℕ
+pelAt p place = pel p (place .width) (place .r) (place .c)
+
+-- the place so many rows further down, and so many columns further right
+abbrev pub down : Place → ℕ → Place
+down place i = record { width = place .width; height = place .height; r = place .r + i; c = place .c }
+
+abbrev pub right : Place → ℕ → Place
+right place j = record { width = place .width; height = place .height; r = place .r; c = place .c + j }
 
 -- four pels + 2, divided by 4, rounded down
 abbrev pub meanOfFour : ℕ → ℕ → ℕ → ℕ → ℕ

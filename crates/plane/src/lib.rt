@@ -7,11 +7,37 @@ ghost use mathlib.Core.Path.{_≡_};
 ghost use Prim.Native.Nat.{_+_, _*_, _-_, _/_, _<_, min};
 ghost use lib.ListN.{length};
 ghost use Rattle.laws.specs.Buffer.{onto};
-ghost use Rattle.plane.specs.Plane.{listing, over, meanOfFour, halfPel, halfPlane};
+ghost use Rattle.laws.specs.Placed.{placed};
+ghost use Rattle.plane.specs.Plane.{listing, meanOfFour, halfPel, halfPlane};
 ghost use Rattle.plane.specs.Clamp as clamped;
 ghost use Rattle.plane.specs.Clamp.{offset};
 ghost use Rattle.plane.specs.Difference.{difference};
-ghost use Rattle.plane.specs.Inner.{halfOfRows, RowPair, RowRoom, Halvable, Is, Near, RowIn, Lands, Starts};
+ghost use Rattle.plane.specs.Inner.{halfOfRows, RowPair, RowRoom, Halvable, landing, Is, Near, RowIn, Lands, Starts};
+
+// The search goes by blocks of 16 × 16 pels, on half planes 8 × 8.
+pub const BLOCK: usize = 16;
+
+pub const HALF_BLOCK: usize = 8;
+
+// The sides of a plane.
+pub struct Sides {
+    pub width: usize,
+    pub height: usize,
+}
+
+// A place in a plane of these sides: a pel, or the first pel of a row or of a block.
+pub struct Place {
+    pub width: usize,
+    pub height: usize,
+    pub r: usize,
+    pub c: usize,
+}
+
+// An offset as the code holds it: each number is the signed one plus a bias.
+pub struct Offset {
+    pub y: usize,
+    pub x: usize,
+}
 
 fn half_pel(a: u16, b: u16, c: u16, d: u16) -> u16
     ensures { λ r. ⌜ r ≡ meanOfFour a b c d ⌝ }
@@ -35,7 +61,7 @@ fn half_row(top: &[u16], bottom: &[u16], out: &mut [u16])
 // Row r of the half plane, written where it lies in the buffer.
 fn halve_row(p: &[u16], width: usize, r: usize, out: &mut [u16])
     requires { ⌜ RowRoom (now p) (now out) width r ⌝ }
-    ensures { λ _. ⌜ now (out .exit) ≡ over (r * (width / 2)) (listing (halfPel (now (p .entry)) width r) (width / 2)) (now (out .entry)) ⌝ }
+    ensures { λ _. ⌜ now (out .exit) ≡ placed (r * (width / 2)) (listing (halfPel (now (p .entry)) width r) (width / 2)) (now (out .entry)) ⌝ }
 {
     let half_width = width / 2;
     let top = 2 * r * width;
@@ -86,48 +112,45 @@ pub fn clamp(place: usize, bias: usize, side: usize) -> usize
     }
 }
 
-// Where the n pels from row r, column c begin.
-pub fn row_start(n: usize, width: usize, height: usize, r: usize, c: usize) -> usize
-    requires { ⌜ RowIn n width height r c ⌝ }
-    ensures { λ s. ⌜ Starts n width height r c s ⌝ }
+// Where the n pels from a place on begin.
+pub fn row_start(n: usize, place: Place) -> usize
+    requires { ⌜ RowIn n place ⌝ }
+    ensures { λ s. ⌜ Starts n place s ⌝ }
 {
-    r * width + c
+    place.r * place.width + place.c
 }
 
-// Where the n pels begin that lie (y, x) less the bias from them, their columns being inside.
-pub fn displaced_start(
-    n: usize,
-    width: usize,
-    height: usize,
-    r: usize,
-    c: usize,
-    y: usize,
-    x: usize,
-    bias: usize,
-) -> usize
-    requires { ⌜ Lands n width height r c y x bias ⌝ }
-    ensures { λ s. ⌜ Starts n width height (min (r + y - bias) (height - 1)) (c + x - bias) s ⌝ }
+// Where the n pels begin that lie so much less the bias from a place, their columns being inside.
+pub fn displaced_start(n: usize, place: Place, by: Offset, bias: usize) -> usize
+    requires { ⌜ Lands n place by bias ⌝ }
+    ensures { λ s. ⌜ Starts n (landing place by bias) s ⌝ }
 {
-    let row = clamp(r + y, bias, height);
-    row_start(n, width, height, row, c + x - bias)
+    let row = clamp(place.r + by.y, bias, place.height);
+    let column = place.c + by.x - bias;
+    row_start(
+        n,
+        Place {
+            r: row,
+            c: column,
+            ..place
+        },
+    )
 }
 
-// The pel that lies (y, x) less the bias from row r, column c.
-pub fn displaced(
-    plane: &[u16],
-    width: usize,
-    height: usize,
-    r: usize,
-    c: usize,
-    y: usize,
-    x: usize,
-    bias: usize,
-) -> u16
-    requires { ⌜ Near (now plane) width height r c y x ⌝ }
-    ensures { λ p. ⌜ p ≡ clamped.displaced (now (plane .entry)) width height r c (offset bias y) (offset bias x) ⌝ }
+// The pel that lies so much less the bias from a place.
+pub fn displaced(plane: &[u16], place: Place, by: Offset, bias: usize) -> u16
+    requires { ⌜ Near (now plane) place by ⌝ }
+    ensures { λ p. ⌜ p ≡ clamped.displaced (now (plane .entry)) place (offset bias (by .y)) (offset bias (by .x)) ⌝ }
 {
-    let row = clamp(r + y, bias, height);
-    let column = clamp(c + x, bias, width);
-    let at = row_start(1, width, height, row, column);
+    let row = clamp(place.r + by.y, bias, place.height);
+    let column = clamp(place.c + by.x, bias, place.width);
+    let at = row_start(
+        1,
+        Place {
+            r: row,
+            c: column,
+            ..place
+        },
+    );
     plane[at]
 }
