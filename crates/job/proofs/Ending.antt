@@ -160,7 +160,7 @@ module _ (j : Task) (l : Lent) (quiet : early j (roomOf l) ≡ 0) {found : Searc
   by-words : (ws : List ℕ) → ws ≡ words j → {report : Report} → report ≡ finished (j .settings) (j .types) (j .models) (j .prior) ws (length (l .header)) →
       {blocks : List ℕ} → blocks ≡ blocksFinished (j .settings) (j .types) (j .models) ws (l .blocks) →
       {header : List ℕ} → header ≡ headerFinished (j .settings) (j .types) (j .models) (j .prior) ws (l .header) →
-      ended report (lend (left .input-half) (left .ref-half) (left .words) blocks header) ≡ outcome j l
+      ended report (lend (left .inputHalf) (left .refHalf) (left .words) blocks header) ≡ outcome j l
   by-words ws e er eb eh =
       let r = ready j l quiet in
       ⊎-elim
@@ -173,7 +173,7 @@ module _ (j : Task) (l : Lent) (quiet : early j (roomOf l) ≡ 0) {found : Searc
   pub ended-found : {report : Report} → report ≡ finished (j .settings) (j .types) (j .models) (j .prior) (take (found .samples) (left .words)) (length (l .header)) →
       {blocks : List ℕ} → blocks ≡ blocksFinished (j .settings) (j .types) (j .models) (take (found .samples) (left .words)) (l .blocks) →
       {header : List ℕ} → header ≡ headerFinished (j .settings) (j .types) (j .models) (j .prior) (take (found .samples) (left .words)) (l .header) →
-      ended report (lend (left .input-half) (left .ref-half) (left .words) blocks header) ≡ outcome j l
+      ended report (lend (left .inputHalf) (left .refHalf) (left .words) blocks header) ≡ outcome j l
   ended-found er eb eh = by-words (take (found .samples) (left .words)) (found-words j l (ready j l quiet) d) er eb eh
 
 -- ---- the code's two ways through `finish`, and the call's refusal

@@ -26,8 +26,8 @@ use Rattle.job_outcome.proofs.Written.{writable, fitted-right}
 
 -- half planes and words as the search leaves them; blocks and header as they were
 pub record AsSearched (j : Task) (l : Lent) (left : Lent) : Type 0 where
-  pub input-half : left .inputHalf ≡ search.leaves (searchTask j) (searchLent l) .input-half
-  pub ref-half : left .refHalf ≡ search.leaves (searchTask j) (searchLent l) .ref-half
+  pub input-half : left .inputHalf ≡ search.leaves (searchTask j) (searchLent l) .inputHalf
+  pub ref-half : left .refHalf ≡ search.leaves (searchTask j) (searchLent l) .refHalf
   pub words : left .words ≡ search.leaves (searchTask j) (searchLent l) .words
   pub blocks : left .blocks ≡ l .blocks
   pub header : left .header ≡ l .header

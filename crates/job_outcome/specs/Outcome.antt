@@ -83,12 +83,12 @@ searched j l = search.leaves (searchTask j) (searchLent l)
 
 -- half planes and words as the search leaves them, blocks and header as they were
 abbrev pub leftBySearch : Task → Lent → Lent
-leftBySearch j l = lend (searched j l .input-half) (searched j l .ref-half) (searched j l .words) (l .blocks) (l .header)
+leftBySearch j l = lend (searched j l .inputHalf) (searched j l .refHalf) (searched j l .words) (l .blocks) (l .header)
 
 -- and with the blocks and the header
 abbrev pub leftByJob : Task → Lent → Lent
 leftByJob j l =
-    lend (searched j l .input-half) (searched j l .ref-half) (searched j l .words)
+    lend (searched j l .inputHalf) (searched j l .refHalf) (searched j l .words)
     (onto (frameBytes (j .settings .frame) (words j)) (l .blocks))
     (placed 0 (bits j) (l .header))
 

@@ -32,7 +32,7 @@ numbers-there w h input ref classes types models prior e =
 search-accepts : (t : search.Task) (l : search.Lent) → search.tooLarge (t .width) (t .height) ≡ false
     → search.wrongLength (t .width) (t .height) (length (t .input)) (length (t .ref)) (length (t .classes)) ≡ false
     → search.badClass (t .classes) ≡ false
-    → search.tooShort (t .width) (t .height) (length (l .input-half)) (length (l .ref-half)) (length (l .words)) ≡ false
+    → search.tooShort (t .width) (t .height) (length (l .inputHalf)) (length (l .refHalf)) (length (l .words)) ≡ false
     → search.refusal t l ≡ 0
 unfolding search.verdict
 search-accepts t l a b c d = rw (a, b, c, d)
@@ -43,7 +43,7 @@ classes-in-range : (t : search.Task) (l : search.Lent) (cs : List ℕ) → t .cl
 classes-in-range t l [] e z n k = zero-le
 classes-in-range t l (x ∷ cs) e z n k =
     let some : 0 < sampleCount (t .width) (t .height) = omega (arith, ap length e) in
-    let r = search-rows.ready (t .input) (t .ref) (t .width) (t .height) (t .classes) (l .input-half) (l .ref-half) (l .words) z some in
+    let r = search-rows.ready (t .input) (t .ref) (t .width) (t .height) (t .classes) (l .inputHalf) (l .refHalf) (l .words) z some in
     rw e at (r .classed .in-range k)
 
 module _ (j : Task) (l : Lent) where

@@ -4,7 +4,7 @@
 ghost use mathlib.Core.Path.{_≡_};
 ghost use Prim.Native.Nat.{_*_, _≤_};
 ghost use lib.ListN.{length};
-ghost use Rattle.search.specs.Refusal.{Small};
+ghost use Rattle.plane.specs.Inner.{Small};
 ghost use Rattle.job_task.specs.Task.{task, room};
 ghost use Rattle.job_task.specs.Rows.{wrongLengths, badCodes, noReference, tooLittle, early};
 

@@ -1,10 +1,12 @@
--- The best candidate as the code holds it, under a bias, and what its stages ask.
+-- What the functions below the public calls ask and answer; no public contract cites it.
 -- Assumes nothing.
 use Prim.Native.Nat.{ℕ, _+_, _≤_}
 use mathlib.Core.Path.{_≡_}
 use lib.Dec.{ltb}
 use Rattle.laws.specs.Refusal.{choose}
-use Rattle.pels.specs.Clamp.{offset}
+use Rattle.plane.specs.declared.Place.{Place}
+use Rattle.plane.specs.declared.Offset.{Offset}
+use Rattle.plane.specs.Clamp.{offset}
 use Rattle.stage.specs.declared.Best.{Best}
 use Rattle.stage.specs.Stage.{Found}
 
@@ -12,8 +14,8 @@ use Rattle.stage.specs.Stage.{Found}
 abbrev pub seen : ℕ → Best → Found
 seen bias best = record { cost = best .cost; dy = offset bias (best .y); dx = offset bias (best .x) }
 
-abbrev pub replaced : Best → ℕ → ℕ → ℕ → Best
-replaced best cost y x = choose (ltb cost (best .cost)) (record { cost = cost; y = y; x = x }) best
+abbrev pub replaced : Best → ℕ → Offset → Best
+replaced best cost by = choose (ltb cost (best .cost)) (record { cost = cost; y = by .y; x = by .x }) best
 
 -- it stands for this motion, and lies in 0 .. last
 pub record Leads (bias last : ℕ) (found : Found) (best : Best) : Type 0 where
@@ -29,10 +31,10 @@ pub record Steps (step : ℕ) (start : Best) (found : Found) (best : Best) : Typ
   pub x-low : start .x ≤ best .x + step
   pub x-high : best .x ≤ start .x + step
 
--- a block of n × n pels inside sides w and h
-pub record Block (n w h r c : ℕ) : Type 0 where
-  pub rows : r + n ≤ h
-  pub columns : c + n ≤ w
+-- a block of n × n pels inside its sides
+pub record Block (n : ℕ) (place : Place) : Type 0 where
+  pub rows : place .r + n ≤ place .height
+  pub columns : place .c + n ≤ place .width
 
 -- a centre from which every candidate within n stays in 0 .. last
 pub record Roomy (n last cy cx : ℕ) : Type 0 where
@@ -42,8 +44,8 @@ pub record Roomy (n last cy cx : ℕ) : Type 0 where
   pub x-high : cx + n ≤ last
 
 -- a block's cost, and a biased offset that is small
-pub record Priceable (cost y x bias : ℕ) : Type 0 where
+pub record Priceable (cost : ℕ) (by : Offset) (bias : ℕ) : Type 0 where
   pub cost-small : cost ≤ 16776960
-  pub y-small : y ≤ 512
-  pub x-small : x ≤ 512
+  pub y-small : by .y ≤ 512
+  pub x-small : by .x ≤ 512
   pub bias-small : bias ≤ 512

@@ -1,38 +1,35 @@
--- What the functions of this crate ask of their arguments.
+-- What the functions below the public calls ask and answer; no public contract cites it.
 -- Assumes nothing.
 use Prim.Native.Nat.{ℕ, _+_, _*_, _≤_, _<_}
 use mathlib.Core.List.{List}
 use mathlib.Core.Path.{_≡_}
 use lib.ListN.{length, getD}
 use Rattle.laws.specs.Loops.{sum}
-use Rattle.pels.specs.Difference.{difference}
+use Rattle.plane.specs.declared.Place.{Place}
+use Rattle.plane.specs.declared.Offset.{Offset}
+use Rattle.plane.specs.Difference.{difference}
+use Rattle.plane.specs.Inner.{Small}
 use Rattle.cost.specs.Cost.{bilinear}
 
--- two planes of sides w and h
-pub record Planes (input ref : List ℕ) (w h : ℕ) : Type 0 where
-  pub narrow : w ≤ 1024
-  pub low : h ≤ 1024
-  pub input-pels : h * w ≡ length input
-  pub ref-pels : h * w ≡ length ref
+-- two planes of the place's sides
+pub record Planes (input ref : List ℕ) (place : Place) : Type 0 where
+  pub small : Small (place .width) (place .height)
+  pub input-pels : place .height * place .width ≡ length input
+  pub ref-pels : place .height * place .width ≡ length ref
 
--- n pels from row r, column c lie inside, and the biased offset (y, x) is small
-pub record RowAt (n w h r c y x : ℕ) : Type 0 where
-  pub row : r < h
-  pub columns : c + n ≤ w
-  pub y-small : y ≤ 512
-  pub x-small : x ≤ 512
+-- n pels from a place on lie inside, and the biased offset is small
+pub record RowAt (n : ℕ) (place : Place) (by : Offset) : Type 0 where
+  pub row : place .r < place .height
+  pub columns : place .c + n ≤ place .width
+  pub y-small : by .y ≤ 512
+  pub x-small : by .x ≤ 512
 
--- an n × n block at row r, column c lies inside, and the biased offset (y, x) is small
-pub record BlockAt (n w h r c y x : ℕ) : Type 0 where
-  pub rows : r + n ≤ h
-  pub columns : c + n ≤ w
-  pub y-small : y ≤ 512
-  pub x-small : x ≤ 512
-
--- the n columns from column c, displaced by x less the bias, lie inside
-pub record Inside (n w c x bias : ℕ) : Type 0 where
-  pub left : bias ≤ c + x
-  pub right : c + x + n ≤ w + bias
+-- an n × n block at a place lies inside, and the biased offset is small
+pub record BlockAt (n : ℕ) (place : Place) (by : Offset) : Type 0 where
+  pub rows : place .r + n ≤ place .height
+  pub columns : place .c + n ≤ place .width
+  pub y-small : by .y ≤ 512
+  pub x-small : by .x ≤ 512
 
 -- parts of n pels
 pub record Rows (n : ℕ) (a b : List ℕ) : Type 0 where

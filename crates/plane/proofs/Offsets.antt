@@ -6,8 +6,8 @@ use mathlib.Core.Path.{_≡_, refl, sym, ap, subst}
 use native.Mathlib.Omega.{arith}
 use lib.Dec.{T, ltb, ltb→lt, nltb→le}
 use lib.IntN.{ℤ, pos, negsuc, _+ℤ_, subℕ, natAbs}
-use Rattle.pels.specs.Clamp.{offset}
-use Rattle.pels.specs.Difference.{difference}
+use Rattle.plane.specs.Clamp.{offset}
+use Rattle.plane.specs.Difference.{difference}
 
 by-test : (t : Bool) (x y : ℤ) (P : ℤ → Type 0) → (T t → P x) → (T (not t) → P y) → P (cond t x y)
 by-test true x y P f g = f tt
