@@ -1,4 +1,4 @@
-pub mod Table
+pub mod Stages
 pub mod Samples
 pub mod Blocks
 pub mod OwnModel
