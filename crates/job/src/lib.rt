@@ -38,7 +38,8 @@ fn write_out(
     blocks: &mut [u8],
     header: &mut [u8],
 ) -> Report
-    ensures { λ r. ⌜ inner.finish r (now (blocks .exit)) (now (header .exit)) ≡ inner.writtenOut m settings (now (prior .entry)) (now (words .entry)) (now (blocks .entry)) (now (header .entry)) ⌝ }
+    ensures { λ r. ⌜ inner.finish r (now (blocks .exit)) (now (header .exit)) ≡
+          inner.writtenOut m settings (now (prior .entry)) (now (words .entry)) (now (blocks .entry)) (now (header .entry)) ⌝ }
 {
     let types = m.types;
     let models = m.models;
@@ -65,7 +66,8 @@ fn finish(
     header: &mut [u8],
 ) -> Report
     requires { ⌜ Modelling settings (now types) (now models) (now words) ⌝ }
-    ensures { λ r. ⌜ inner.finish r (now (blocks .exit)) (now (header .exit)) ≡ inner.finished settings (now (types .entry)) (now (models .entry)) (now (prior .entry)) (now (words .entry)) (now (blocks .entry)) (now (header .entry)) ⌝ }
+    ensures { λ r. ⌜ inner.finish r (now (blocks .exit)) (now (header .exit)) ≡
+          inner.finished settings (now (types .entry)) (now (models .entry)) (now (prior .entry)) (now (words .entry)) (now (blocks .entry)) (now (header .entry)) ⌝ }
 {
     let m = job_model::models_of(settings, types, models, words);
     if m.refusal != 0 {
@@ -91,8 +93,12 @@ fn run(
     blocks: &mut [u8],
     header: &mut [u8],
 ) -> Report
-    requires { ⌜ early (task (now input) (now reference) width height settings (now classes) (now types) (now models) (now prior)) (lend (now «input_half») (now «ref_half») (now words) (now blocks) (now header)) ≡ 0 ⌝ }
-    ensures { λ r. ⌜ ended r (lend (now («input_half» .exit)) (now («ref_half» .exit)) (now (words .exit)) (now (blocks .exit)) (now (header .exit))) ≡ outcome (task (now (input .entry)) (now (reference .entry)) width height settings (now (classes .entry)) (now (types .entry)) (now (models .entry)) (now (prior .entry))) (lend (now («input_half» .entry)) (now («ref_half» .entry)) (now (words .entry)) (now (blocks .entry)) (now (header .entry))) ⌝ }
+    requires { ⌜ early
+          (task (now input) (now reference) width height settings (now classes) (now types) (now models) (now prior))
+          (lend (now «input_half») (now «ref_half») (now words) (now blocks) (now header)) ≡ 0 ⌝ }
+    ensures { λ r. ⌜ ended r (lend (now («input_half» .exit)) (now («ref_half» .exit)) (now (words .exit)) (now (blocks .exit)) (now (header .exit))) ≡ outcome
+          (task (now (input .entry)) (now (reference .entry)) width height settings (now (classes .entry)) (now (types .entry)) (now (models .entry)) (now (prior .entry)))
+          (lend (now («input_half» .entry)) (now («ref_half» .entry)) (now (words .entry)) (now (blocks .entry)) (now (header .entry))) ⌝ }
 {
     let found = search::collect_motion_samples(
         input,
@@ -131,7 +137,10 @@ pub fn job(
     blocks: &mut [u8],
     header: &mut [u8],
 ) -> Report
-    ensures { λ r. ⌜ Done (task (now (input .entry)) (now (reference .entry)) width height settings (now (classes .entry)) (now (types .entry)) (now (models .entry)) (now (prior .entry))) (lend (now («input_half» .entry)) (now («ref_half» .entry)) (now (words .entry)) (now (blocks .entry)) (now (header .entry))) (ended r (lend (now («input_half» .exit)) (now («ref_half» .exit)) (now (words .exit)) (now (blocks .exit)) (now (header .exit)))) ⌝ }
+    ensures { λ r. ⌜ Done
+          (task (now (input .entry)) (now (reference .entry)) width height settings (now (classes .entry)) (now (types .entry)) (now (models .entry)) (now (prior .entry)))
+          (lend (now («input_half» .entry)) (now («ref_half» .entry)) (now (words .entry)) (now (blocks .entry)) (now (header .entry)))
+          (ended r (lend (now («input_half» .exit)) (now («ref_half» .exit)) (now (words .exit)) (now (blocks .exit)) (now (header .exit)))) ⌝ }
 {
     let sizes = Sizes {
         width,

@@ -8,3 +8,4 @@ pub mod Written
 pub mod Refused
 pub mod Six
 pub mod Demand3
+pub mod HeaderRead

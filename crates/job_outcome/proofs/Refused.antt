@@ -16,10 +16,17 @@ use Rattle.job_task.specs.Task.{Task, Lent, sizesOf}
 use Rattle.job_task.specs.Rows.{tooLittle, early}
 use Rattle.job_task.proofs.Accepted.{all-quiet, quiet-all, ready}
 use Rattle.job_outcome.specs.declared.Report.{Report}
-use Rattle.job_outcome.specs.Outcome.{Ended, words, ownType, fitWords, types, models, late, refusal, refused, leftBySearch, outcome}
+use Rattle.job_outcome.specs.Outcome.{Ended, words, ownType, fitWords, types, models, late, refusal, refused, searched, outcome}
 use Rattle.job_outcome.proofs.Stages.{refused-early, refused-late, ends-accepted, by-stages, early-never-twelve, refused-in-second}
 use Rattle.job_outcome.proofs.Blocks as blocks
 use Rattle.job_outcome.proofs.Written.{writable, fitted-right}
+
+-- half planes and words as the search leaves them; blocks and header as they were
+pub record AsSearched (j : Task) (l : Lent) (left : Lent) : Type 0 where
+  pub half-planes : (left .inputHalf ≡ searched j l .input-half) × (left .refHalf ≡ searched j l .ref-half)
+  pub words : left .words ≡ searched j l .words
+  pub blocks : left .blocks ≡ l .blocks
+  pub header : left .header ≡ l .header
 
 module _ (j : Task) (l : Lent) where
   -- ---- what a refusal leaves
@@ -28,9 +35,9 @@ module _ (j : Task) (l : Lent) where
   pub early-leaves : (early j l ≡ 0 → ⊥) → outcome j l .left ≡ l
   early-leaves h = ap (λ (o : Ended). o .left) (refused-early j l h)
 
-  -- after it, whatever the number: half planes and words as the search leaves them; blocks and header as they were
-  pub late-leaves : early j l ≡ 0 → (late j ≡ 0 → ⊥) → outcome j l .left ≡ leftBySearch j l
-  late-leaves quiet h = ap (λ (o : Ended). o .left) (refused-late j l quiet h)
+  -- after it, whatever the number
+  pub late-leaves : early j l ≡ 0 → (late j ≡ 0 → ⊥) → AsSearched j l (outcome j l .left)
+  late-leaves quiet h = rw (refused-late j l quiet h) (record { half-planes = (refl, refl); words = refl; blocks = refl; header = refl })
 
   -- a refusal reports its number and zeros
   pub refusal-reports : (refusal j l ≡ 0 → ⊥) → outcome j l .report ≡ refused (refusal j l)

@@ -15,7 +15,8 @@ returns-2 : tie.Need-returns-2
 returns-2 c =
     let a = c .before .before .before .before .before .before .before .before .before .before .before .before .before .before .args in
     finish-written (a .settings) (a .types .now) (a .models .now) (a .prior .now) (a .words .now) (a .blocks .now) (a .header .now)
-    (c .before .before .before .before .before .before .before .before .before .models-of .ensures) (c .before .before .before .before .before .before .before .if1 .left) (c .before .before .before .before .write-out .ensures)
+    (c .before .before .before .before .before .before .before .before .before .models-of .ensures)
+    (c .before .before .before .before .before .before .before .if1 .left) (c .before .before .before .before .write-out .ensures)
 
 pub finish-spec : {M : Type 1} → statement M
 finish-spec = tie.close (tie.spec (search needs) (search needs) returns (search needs) (search needs) (search needs) returns-2)

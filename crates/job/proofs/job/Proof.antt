@@ -10,7 +10,8 @@ use Rattle.job.proofs.job.Tie as tie
 
 returns : tie.Need-returns
 returns c =
-    let a = c .before .before .before .before .before .before .before .before .before .before .before .before .args in
+    let e = c .before .before .before .before .before .before .before .before .before .before .before .before in
+    let a = e .args in
     done-refused (task (a .input .now) (a .reference .now) (a .width) (a .height) (a .settings) (a .classes .now) (a .types .now) (a .models .now) (a .prior .now))
     (lend (a .input-half .now) (a .ref-half .now) (a .words .now) (a .blocks .now) (a .header .now))
     (c .before .before .refusal-of .ensures) (c .before .if1 .taken) (c .refused .ensures)
@@ -20,7 +21,9 @@ run-requires c κs = sym (c .before .before .before .before .before .before .ref
 
 returns-2 : tie.Need-returns-2
 returns-2 c =
-    let a = c .before .before .before .before .before .before .before .before .before .before .before .before .before .before .before .before .before .before .before .before .before .before .before .before .before .before .before .args in
+    let h = c .before .before .before .before .before .before .before .before .before .before .before .before .before in
+    let e = h .before .before .before .before .before .before .before .before .before .before .before .before .before .before in
+    let a = e .args in
     done (task (a .input .now) (a .reference .now) (a .width) (a .height) (a .settings) (a .classes .now) (a .types .now) (a .models .now) (a .prior .now))
     (lend (a .input-half .now) (a .ref-half .now) (a .words .now) (a .blocks .now) (a .header .now))
     (c .before .before .before .before .before .before .before .before .before .before .run .ensures)

@@ -9,31 +9,39 @@ use Rattle.job.proofs.run.Tie as tie
 
 slice-reshare-prefix-finish : tie.Need-slice-reshare-prefix-finish
 slice-reshare-prefix-finish c =
-    let a = c .before .before .before .before .before .before .before .before .before .before .before .before .before .before .before .before .before .before .before .args in
+    let h = c .before .before .before .before .before .before .before .before .before in
+    let e = h .before .before .before .before .before .before .before .before .before .before in
+    let a = e .args in
     let j : Task = task (a .input .now) (a .reference .now) (a .width) (a .height) (a .settings) (a .classes .now) (a .types .now) (a .models .now) (a .prior .now) in
     let l : Lent = lend (a .input-half .now) (a .ref-half .now) (a .words .now) (a .blocks .now) (a .header .now) in
-    found-there j l (ready j l (c .before .before .before .before .before .before .before .before .before .before .before .before .before .before .before .before .before .before .before .pre)) (c .before .before .before .before .before .before .collect-motion-samples .ensures)
+    found-there j l (ready j l (e .pre)) (c .before .before .before .before .before .before .collect-motion-samples .ensures)
 
 slice-aggregate-finish : tie.Need-slice-aggregate-finish
 slice-aggregate-finish c =
-    let a = c .before .before .before .before .before .before .before .before .before .before .before .before .before .before .before .before .before .before .before .before .args in
+    let h = c .before .before .before .before .before .before .before .before .before .before in
+    let e = h .before .before .before .before .before .before .before .before .before .before in
+    let a = e .args in
     let j : Task = task (a .input .now) (a .reference .now) (a .width) (a .height) (a .settings) (a .classes .now) (a .types .now) (a .models .now) (a .prior .now) in
     let l : Lent = lend (a .input-half .now) (a .ref-half .now) (a .words .now) (a .blocks .now) (a .header .now) in
-    found-count j l (ready j l (c .before .before .before .before .before .before .before .before .before .before .before .before .before .before .before .before .before .before .before .before .pre)) (c .before .before .before .before .before .before .before .collect-motion-samples .ensures)
+    found-count j l (ready j l (e .pre)) (c .before .before .before .before .before .before .before .collect-motion-samples .ensures)
 
 finish-requires : tie.Need-finish-requires
 finish-requires c κs =
-    let a = c .before .before .before .before .before .before .before .before .before .before .before .before .before .before .before .before .before .before .before .before .before .before .args in
+    let h = c .before .before .before .before .before .before .before .before .before .before .before in
+    let e = h .before .before .before .before .before .before .before .before .before .before .before in
+    let a = e .args in
     let j : Task = task (a .input .now) (a .reference .now) (a .width) (a .height) (a .settings) (a .classes .now) (a .types .now) (a .models .now) (a .prior .now) in
     let l : Lent = lend (a .input-half .now) (a .ref-half .now) (a .words .now) (a .blocks .now) (a .header .now) in
-    found-modelling j l (ready j l (c .before .before .before .before .before .before .before .before .before .before .before .before .before .before .before .before .before .before .before .before .before .before .pre)) (c .before .before .before .before .before .before .before .before .before .collect-motion-samples .ensures)
+    found-modelling j l (ready j l (e .pre)) (c .before .before .before .before .before .before .before .before .before .collect-motion-samples .ensures)
 
 returns : tie.Need-returns
 returns c =
-    let a = c .before .before .before .before .before .before .before .before .before .before .before .before .before .before .before .before .before .before .before .before .before .before .before .before .before .before .before .args in
+    let h = c .before .before .before .before .before .before .before .before .before .before .before .before .before in
+    let e = h .before .before .before .before .before .before .before .before .before .before .before .before .before .before in
+    let a = e .args in
     let j : Task = task (a .input .now) (a .reference .now) (a .width) (a .height) (a .settings) (a .classes .now) (a .types .now) (a .models .now) (a .prior .now) in
     let l : Lent = lend (a .input-half .now) (a .ref-half .now) (a .words .now) (a .blocks .now) (a .header .now) in
-    ended-found j l (c .before .before .before .before .before .before .before .before .before .before .before .before .before .before .before .before .before .before .before .before .before .before .before .before .before .before .before .pre) (c .before .before .before .before .before .before .before .before .before .before .before .before .before .before .collect-motion-samples .ensures) (c .before .before .before .before .finish .ensures)
+    ended-found j l (e .pre) (c .before .before .before .before .before .before .before .before .before .before .before .before .before .before .collect-motion-samples .ensures) (c .before .before .before .before .finish .ensures)
 
 pub run-spec : {M : Type 1} → statement M
 run-spec =

@@ -19,7 +19,8 @@ returns : tie.Need-returns
 returns c =
     let a = c .before .before .before .before .before .before .before .before .args in
     composed (a .settings) (a .types .now) (a .models .now) (a .words .now) (c .before .before .before .before .before .before .before .before .pre)
-    (c .before .before .before .before .before .quantize-model .ensures) (c .before .before .mean-sq-residual .ensures) (c .before .before .before .row-first .ensures) (c .before .types-with .ensures) (c .models-with .ensures)
+    (c .before .before .before .before .before .quantize-model .ensures) (c .before .before .mean-sq-residual .ensures)
+    (c .before .before .before .row-first .ensures) (c .before .types-with .ensures) (c .models-with .ensures)
 
 pub with-model-spec : {M : Type 1} → statement M
 with-model-spec = tie.close (tie.spec (search needs) (search needs) (search needs) types-with-requires models-with-requires returns)

@@ -21,18 +21,21 @@ returns-2 c = goes-on (c .before .before .before .sizes-refusal .ensures) (c .be
 models-refusal-requires : tie.Need-models-refusal-requires
 models-refusal-requires c κs =
     let a = c .before .before .before .before .before .before .args in
-    let n = lengths (a .sizes) (length (a .classes .now)) (length (a .types .now)) (length (a .models .now)) (length (a .prior .now)) (sym (c .before .before .before .sizes-refusal .ensures) ∙ c .before .before .if1 .left) in
+    let n = lengths (a .sizes) (length (a .classes .now)) (length (a .types .now)) (length (a .models .now)) (length (a .prior .now))
+    (sym (c .before .before .before .sizes-refusal .ensures) ∙ c .before .before .if1 .left) in
     omega (arith, n .six, n .numbers)
 
 returns-3 : tie.Need-returns-3
 unfolding refusalBefore
 returns-3 c =
-    goes-on (c .before .before .before .before .before .sizes-refusal .ensures) (c .before .before .before .before .if1 .left) (goes-on (c .before .before .before .codes-refusal .ensures) (c .before .before .if2 .left) (stops _ (c .before .models-refusal .ensures) (c .if3 .taken)))
+    goes-on (c .before .before .before .before .before .sizes-refusal .ensures) (c .before .before .before .before .if1 .left)
+    (goes-on (c .before .before .before .codes-refusal .ensures) (c .before .before .if2 .left) (stops _ (c .before .models-refusal .ensures) (c .if3 .taken)))
 
 room-refusal-requires : tie.Need-room-refusal-requires
 room-refusal-requires c κs =
     let a = c .before .before .before .before .before .before .before .before .args in
-    lengths (a .sizes) (length (a .classes .now)) (length (a .types .now)) (length (a .models .now)) (length (a .prior .now)) (sym (c .before .before .before .before .before .sizes-refusal .ensures) ∙ c .before .before .before .before .if1 .left) .sides
+    lengths (a .sizes) (length (a .classes .now)) (length (a .types .now)) (length (a .models .now)) (length (a .prior .now))
+    (sym (c .before .before .before .before .before .sizes-refusal .ensures) ∙ c .before .before .before .before .if1 .left) .sides
 
 returns-4 : tie.Need-returns-4
 unfolding refusalBefore

@@ -13,15 +13,19 @@ returns : tie.Need-returns
 returns c = rw (sym (c .before .too-short .ensures) ∙ c .if1 .taken)
 
 mul-samples : tie.Need-mul-samples
-mul-samples c = let z = c .before .before .before .before .args .sizes in omega (arith, count-small (z .width) (z .height) (c .before .before .before .before .pre .narrow) (c .before .before .before .before .pre .low))
+mul-samples c =
+    let e = c .before .before .before .before in
+    omega (arith, count-small (e .args .sizes .width) (e .args .sizes .height) (e .pre .narrow) (e .pre .low))
 
 blocks-of-requires : tie.Need-blocks-of-requires
-blocks-of-requires c κs = let z = c .before .before .before .before .args .sizes in omega (arith, count-small (z .width) (z .height) (c .before .before .before .before .pre .narrow) (c .before .before .before .before .pre .low))
+blocks-of-requires c κs =
+    let e = c .before .before .before .before in
+    omega (arith, count-small (e .args .sizes .width) (e .args .sizes .height) (e .pre .narrow) (e .pre .low))
 
 mul-if2 : tie.Need-mul-if2
 mul-if2 c =
-    let z = c .before .before .before .before .before .args .sizes in
-    omega (arith, count-small (z .width) (z .height) (c .before .before .before .before .before .pre .narrow) (c .before .before .before .before .before .pre .low), c .blocks-of .ensures)
+    let e = c .before .before .before .before .before in
+    omega (arith, count-small (e .args .sizes .width) (e .args .sizes .height) (e .pre .narrow) (e .pre .low), c .blocks-of .ensures)
 
 returns-2 : tie.Need-returns-2
 returns-2 c =

@@ -14,11 +14,19 @@ returns-2 c = rw ((sym (c .before .before .wrong-length .ensures) ∙ c .before 
 
 returns-3 : tie.Need-returns-3
 returns-3 c =
-    rw ((sym (c .before .before .before .wrong-length .ensures) ∙ c .before .before .if1 .left), eq-eqb (c .before .before .before .before .args .types) 6 (c .before .if2 .left), ne-eqb (c .before .before .before .before .args .models) 36 (c .if3 .taken))
+    rw (
+      (sym (c .before .before .before .wrong-length .ensures) ∙ c .before .before .if1 .left),
+      eq-eqb (c .before .before .before .before .args .types) 6 (c .before .if2 .left),
+      ne-eqb (c .before .before .before .before .args .models) 36 (c .if3 .taken),
+    )
 
 returns-4 : tie.Need-returns-4
 returns-4 c =
-    rw ((sym (c .before .before .before .wrong-length .ensures) ∙ c .before .before .if1 .left), eq-eqb (c .before .before .before .before .args .types) 6 (c .before .if2 .left), eq-eqb (c .before .before .before .before .args .models) 36 (c .if3 .left))
+    rw (
+      (sym (c .before .before .before .wrong-length .ensures) ∙ c .before .before .if1 .left),
+      eq-eqb (c .before .before .before .before .args .types) 6 (c .before .if2 .left),
+      eq-eqb (c .before .before .before .before .args .models) 36 (c .if3 .left),
+    )
 
 pub wrong-lengths-spec : {M : Type 1} → statement M
 wrong-lengths-spec = tie.close (tie.spec (search needs) returns returns-2 returns-3 returns-4)
