@@ -1,4 +1,4 @@
-pub mod Table
+pub mod Stages
 pub mod Samples
 pub mod Blocks
 pub mod OwnModel
@@ -8,3 +8,4 @@ pub mod Written
 pub mod Refused
 pub mod Six
 pub mod Demand3
+pub mod HeaderRead

@@ -18,7 +18,7 @@ use Rattle.search.proofs.Range.{motion-within-223, stored-motion-le-446}
 use Rattle.search.proofs.Rows.{factor-pos}
 use Rattle.search.proofs.Words.{sampleWords-length, sampleCount-le-4096, sampleWords-at, sampleWords-storable}
 use Rattle.job_task.specs.Task.{Task}
-use Rattle.job_task.specs.Ready.{Sound}
+use Rattle.job_task.proofs.Ready.{Sound}
 use Rattle.job_outcome.specs.Outcome.{samples, words}
 use Rattle.job_outcome.specs.Demand3.{SampleIs, motionOf}
 

@@ -13,7 +13,9 @@ use Rattle.sample.specs.Word.{rowOf, colOf, vOf, uOf, classOf}
 use Rattle.sample.specs.Sample.{eighthsOf}
 use Rattle.stage.specs.Stage.{Found}
 use Rattle.search.specs.Search.{motion, blockColumns}
-use Rattle.block.specs.Frame.{blocksOf, readFrame, wordsLeft, samplesFrom, readAlone}
+use Rattle.layout.specs.Form.{blockBytes, blocksOf, countAt}
+use Rattle.form1.specs.Block.{form1}
+use Rattle.block.specs.Frame.{readFrame, wordsLeft, samplesFrom, readAlone}
 use Rattle.bits.specs.Bits.{bitAt}
 use Rattle.grid.specs.Grid.{absBits}
 use Rattle.header.specs.Reading.{ReadModels, modelsRead}
@@ -21,14 +23,15 @@ use Rattle.score.specs.Score.{meanSqResidual, slot}
 use Rattle.quantize.specs.Quantize.{params, rowFirst}
 use Rattle.quantize.specs.OnGrid.{gridNumberAt, NearestAt}
 use Rattle.job_task.specs.Task.{Task}
-use Rattle.job_outcome.specs.Outcome.{Ended, samples, words, fitIn}
+use Rattle.job_model.specs.Modelled as model
+use Rattle.job_outcome.specs.Outcome.{Ended, samples, words, ownType, fitIn, fitWords}
 use Rattle.job_outcome.specs.Count.{coefficientLength, typeBits, referencesLength}
 
 -- ---- the blocks
 
 -- the bytes of the job's own blocks, and nothing after them
 abbrev pub ownBlocks : Task → Ended → List ℕ
-ownBlocks j o = take (512 * blocksOf (samples j)) (o .left .blocks)
+ownBlocks j o = take (blockBytes * blocksOf form1 (samples j)) (o .left .blocks)
 
 -- the words of the frame read from them
 abbrev pub wordsRead : Task → Ended → List ℕ
@@ -50,8 +53,9 @@ pub record BlocksRead (j : Task) (o : Ended) : Type 0 where
   -- reading them as a frame is accepted by any buffer with room, and gives the number of samples and the frame number; with no samples there is no block to carry it
   pub frame : (room : ℕ) → samples j ≤ room
       → readFrame (ownBlocks j o) room ≡ record { refusal = 0; frame = choose (eqb (samples j) 0) 0 (j .settings .frame); samples = samples j }
-  -- each block carries the frame number
-  pub every-block : (k : ℕ) → k < blocksOf (samples j) → readAlone (drop (512 * k) (ownBlocks j o)) .frame ≡ j .settings .frame
+  -- each block alone is accepted, with the frame number, its place and how many samples it holds
+  pub every-block : (k : ℕ) → k < blocksOf form1 (samples j)
+      → readAlone (drop (blockBytes * k) (ownBlocks j o)) ≡ record { refusal = 0; frame = j .settings .frame; ordinal = k; count = countAt form1 (samples j) k }
   -- the words are the search's
   pub same : wordsRead j o ≡ words j
   pub left : (old : List ℕ) → samples j ≤ length old → wordsLeft (ownBlocks j o) old ≡ onto (wordsRead j o) old
@@ -72,8 +76,8 @@ abbrev pub otherPlace : Task → ℕ → ℕ
 otherPlace j k = choose (ltb k (ownPlace j)) k (k + 1)
 
 -- the model read at the job's reference, slots 0 and 1 exchanged back for a TRANSLATION
-abbrev pub modelRead : Task → Ended → List ℤ
-modelRead j o = rowFirst (j .settings .«gm_type») (take 6 (drop (6 * ownPlace j) (headerRead j o .params)))
+abbrev pub ownRead : Task → Ended → List ℤ
+ownRead j o = rowFirst (ownType j) (take 6 (drop (6 * ownPlace j) (headerRead j o .params)))
 
 pub record HeaderRead (j : Task) (o : Ended) : Type 0 where
   -- exactly the types and models of the report, and no byte is missing
@@ -83,16 +87,19 @@ pub record HeaderRead (j : Task) (o : Ended) : Type 0 where
   -- the six others are those handed in
   pub other-types : (k : ℕ) → k < 6 → getD (headerRead j o .types) (otherPlace j k) 0 ≡ getD (j .types) k 0
   pub other-models : (k i : ℕ) → k < 6 → i < 6 → getD (headerRead j o .params) (6 * otherPlace j k + i) (pos 0) ≡ getD (j .models) (6 * k + i) (pos 0)
-  -- at the job's reference stand the type asked for and the fitted model
-  pub own-type : getD (headerRead j o .types) (ownPlace j) 0 ≡ j .settings .«gm_type»
-  pub own-model : modelRead j o ≡ params (fitIn j) (j .settings .flag) (words j)
+  -- at the job's reference stand its own type and the fitted model
+  pub own-type : getD (headerRead j o .types) (ownPlace j) 0 ≡ ownType j
+  pub own-model : ownRead j o ≡ params (fitIn j) (j .settings .flag) (fitWords j)
 
 -- ---- the grid: each grid number of the fit, two of a TRANSLATION and six of the other types, against its own slot's codable numbers
 
+-- grid number i of the fit, over the words of the fit among those read
+abbrev pub numberRead : Task → Ended → ℕ → ℤ
+numberRead j o i = gridNumberAt (fitIn j) (j .settings .flag) (model.fitWords (j .settings) (wordsRead j o)) i
+
 abbrev pub NearestRead : Task → Ended → Type 0
 NearestRead j o =
-    (i : ℕ) → i < 6 → (i < 2) ⊎ (2 ≤ j .settings .«gm_type»)
-    → NearestAt (j .settings .«gm_type») (j .settings .flag) i (gridNumberAt (fitIn j) (j .settings .flag) (wordsRead j o) i) (slot (modelRead j o) i)
+    (i : ℕ) → i < 6 → (i < 2) ⊎ (2 ≤ ownType j) → NearestAt (ownType j) (j .settings .flag) i (numberRead j o i) (slot (ownRead j o) i)
 
 -- ---- the count
 
@@ -110,7 +117,7 @@ pub record CountRead (j : Task) (o : Ended) : Type 0 where
 pub record Demand3 (j : Task) (o : Ended) : Type 0 where
   pub blocks : BlocksRead j o
   pub header : HeaderRead j o
-  -- the score is that of the model read over the samples read
-  pub score : o .report .score ≡ meanSqResidual (modelRead j o) (wordsRead j o) .score
+  -- the score is that of the model read, over the words of the score among those read
+  pub score : o .report .score ≡ meanSqResidual (ownRead j o) (model.scoreWords (j .settings) (wordsRead j o)) .score
   pub nearest : NearestRead j o
   pub count : CountRead j o

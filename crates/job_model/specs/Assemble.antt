@@ -1,6 +1,6 @@
 -- Seven models in rising order of reference, from six others and the one at its reference: document 01, 'Job'.
 -- Assumes nothing.
-use Prim.Native.Nat.{ℕ, _*_, _-_, _≤_}
+use Prim.Native.Nat.{ℕ, _*_, _-_}
 use mathlib.Core.List.{List, [], _∷_, _++_}
 use lib.ListN.{take, drop}
 
@@ -14,8 +14,3 @@ typesWith reference own others = inserted (reference - 1) (own ∷ []) others
 
 abbrev pub modelsWith : {A : Type 0} → ℕ → List A → List A → List A
 modelsWith reference own others = inserted (6 * (reference - 1)) own others
-
--- a reference of 1 to 7
-pub record Reference (reference : ℕ) : Type 0 where
-  pub least : 1 ≤ reference
-  pub most : reference ≤ 7

@@ -11,10 +11,11 @@ use mir.Syntax.{w32}
 use Rattle.laws.proofs.Filled.{Filled}
 use Rattle.laws.proofs.Filled.{filled-none, filled-more, filled-all}
 use Rattle.laws.proofs.Signed.{result-reads}
-use Rattle.assemble.specs.Assemble.{inserted, Reference}
-use Rattle.assemble.proofs.Inserted.{length-inserted}
-use Rattle.assemble.proofs.models_with.Statement.{statement}
-use Rattle.assemble.proofs.models_with.Tie as tie
+use Rattle.job_model.specs.Assemble.{inserted}
+use Rattle.job_model.specs.Inner.{Reference}
+use Rattle.job_model.proofs.Inserted.{length-inserted}
+use Rattle.job_model.proofs.assemble.models_with.Statement.{statement}
+use Rattle.job_model.proofs.assemble.models_with.Tie as tie
 
 long : (models own : List ℤ) (reference : ℕ) → (length models ≡ 36) × Reference reference → length own ≡ 6 → length (inserted (6 * (reference - 1)) own models) ≡ 42
 long models own reference h six =

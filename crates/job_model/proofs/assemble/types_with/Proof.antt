@@ -8,10 +8,11 @@ use borrow.Author.Needs.{needs}
 use lib.ListN.{length}
 use Rattle.laws.proofs.Filled.{Filled}
 use Rattle.laws.proofs.Filled.{filled-none, filled-more, filled-all}
-use Rattle.assemble.specs.Assemble.{inserted, Reference}
-use Rattle.assemble.proofs.Inserted.{length-inserted}
-use Rattle.assemble.proofs.types_with.Statement.{statement}
-use Rattle.assemble.proofs.types_with.Tie as tie
+use Rattle.job_model.specs.Assemble.{inserted}
+use Rattle.job_model.specs.Inner.{Reference}
+use Rattle.job_model.proofs.Inserted.{length-inserted}
+use Rattle.job_model.proofs.assemble.types_with.Statement.{statement}
+use Rattle.job_model.proofs.assemble.types_with.Tie as tie
 
 long : (types : List ℕ) (reference own : ℕ) → (length types ≡ 6) × Reference reference → length (inserted (reference - 1) (own ∷ []) types) ≡ 7
 long types reference own h =

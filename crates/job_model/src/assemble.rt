@@ -6,7 +6,8 @@ ghost use mathlib.Core.List.{[], _∷_};
 ghost use Prim.Native.Nat.{_*_, _≤_, _<_};
 ghost use lib.IntN.{pos};
 ghost use lib.ListN.{length, getD};
-ghost use Rattle.assemble.specs.Assemble.{typesWith, modelsWith, inserted, Reference};
+ghost use Rattle.job_model.specs.Assemble.{typesWith, modelsWith, inserted};
+ghost use Rattle.job_model.specs.Inner.{Reference};
 
 // The type at place i.
 fn type_at(types: &[u8], own: u8, place: usize, i: usize) -> u8

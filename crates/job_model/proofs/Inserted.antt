@@ -6,7 +6,7 @@ use mathlib.Core.Path.{_≡_, sym, ap, _∙_}
 use native.Mathlib.Omega.{arith}
 use lib.ListN.{length, take, drop, getD, length-append, length-drop, List·getD-append}
 use lib.Seq.{length-take-le, getD-take, getD-drop, getD-append-add}
-use Rattle.assemble.specs.Assemble.{inserted}
+use Rattle.job_model.specs.Assemble.{inserted}
 
 module _ {A : Type 0} (d : A) (k : ℕ) (xs others : List A) (h : k ≤ length others) where
   pub length-inserted : length (inserted k xs others) ≡ length xs + length others

@@ -7,10 +7,10 @@ use lib.IntN.{pos}
 use lib.ListN.{length, getD}
 use mir.Syntax.{w32}
 use Rattle.laws.proofs.Signed.{result-reads}
-use Rattle.assemble.proofs.Inserted.{before, within, after}
+use Rattle.job_model.proofs.Inserted.{before, within, after}
 use borrow.Author.Needs.{needs}
-use Rattle.assemble.proofs.number_at.Statement.{statement}
-use Rattle.assemble.proofs.number_at.Tie as tie
+use Rattle.job_model.proofs.assemble.number_at.Statement.{statement}
+use Rattle.job_model.proofs.assemble.number_at.Tie as tie
 
 returns : tie.Need-returns
 returns c =

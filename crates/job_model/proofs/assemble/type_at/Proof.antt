@@ -6,9 +6,9 @@ use mathlib.Core.Path.{_≡_, sym, ap, _∙_}
 use native.Mathlib.Omega.{arith}
 use borrow.Author.Needs.{needs}
 use lib.ListN.{getD}
-use Rattle.assemble.proofs.Inserted.{before, within, after}
-use Rattle.assemble.proofs.type_at.Statement.{statement}
-use Rattle.assemble.proofs.type_at.Tie as tie
+use Rattle.job_model.proofs.Inserted.{before, within, after}
+use Rattle.job_model.proofs.assemble.type_at.Statement.{statement}
+use Rattle.job_model.proofs.assemble.type_at.Tie as tie
 
 returns : tie.Need-returns
 returns c =
