@@ -9,7 +9,7 @@ use borrow.Author.Tests.{ltb-false, eqb-false}
 use lib.Dec.{ltb, eqb}
 use lib.IntN.{ℤ}
 use lib.ListN.{length, getD}
-use Rattle.laws.specs.Refusal.{judge, orElse, either}
+use Rattle.laws.specs.Refusal.{judge}
 use Rattle.laws.proofs.Refusal.{neither, length-is, quiet, or-else-quiet}
 use Rattle.search.specs.Search.{sampleCount}
 use Rattle.search.specs.Refusal as search
@@ -21,7 +21,7 @@ use Rattle.block.specs.Frame.{blocksOf}
 use Rattle.job_task.specs.declared.Settings.{Settings}
 use Rattle.job_task.specs.declared.Sizes.{Sizes}
 use Rattle.job_task.specs.Task.{Task, Lent, sizesOf, searchTask, searchLent}
-use Rattle.job_task.specs.Rows.{otherTypes, otherNumbers, priorNumbers, headerBytes, wrongLengths, sizeRows, codeRows, modelRows, roomRows, refusalBefore, early}
+use Rattle.job_task.specs.Rows.{otherTypes, otherNumbers, priorNumbers, headerBytes, sizeRows, codeRows, modelRows, roomRows, refusalBefore, early}
 use Rattle.job_task.specs.Inner.{InRange}
 use Rattle.job_task.proofs.Ready.{Ready}
 

@@ -41,7 +41,7 @@ returns c =
     let a = e .args in
     let j : Task = task (a .input .now) (a .reference .now) (a .width) (a .height) (a .settings) (a .classes .now) (a .types .now) (a .models .now) (a .prior .now) in
     let l : Lent = lend (a .input-half .now) (a .ref-half .now) (a .words .now) (a .blocks .now) (a .header .now) in
-    ended-found j l (e .pre) (c .before .before .before .before .before .before .before .before .before .before .before .before .before .before .collect-motion-samples .ensures) (c .before .before .before .before .finish .ensures)
+    ended-found j l (e .pre) (h .before .collect-motion-samples .ensures) (c .before .before .before .before .finish .ensures)
 
 pub run-spec : {M : Type 1} → statement M
 run-spec =
