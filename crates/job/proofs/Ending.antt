@@ -18,14 +18,14 @@ use Rattle.laws.proofs.Cases.{eq-or-ne}
 use Rattle.search.specs.declared.Searched.{Searched}
 use Rattle.search.specs.Refusal as search
 use Rattle.block.specs.Frame.{blocksLeft, frameBytes, storeRefusal}
-use Rattle.header.specs.Writing.{written, headerAfter, placed}
+use Rattle.header.specs.Writing.{written, placed}
 use Rattle.job_task.specs.declared.Settings.{Settings}
 use Rattle.job_task.specs.Task.{Task, Lent, lend, searchTask, searchLent}
 use Rattle.job_task.specs.Rows.{early}
 use Rattle.job_task.proofs.Ready.{Ready}
 use Rattle.job_task.proofs.Accepted.{ready}
 use Rattle.job_model.specs.declared.Modelled.{Modelled}
-use Rattle.job_model.specs.Modelled.{modelRefusal, modelled, modelledAs, notModelled}
+use Rattle.job_model.specs.Modelled.{modelled, modelledAs, notModelled}
 use Rattle.job_model.specs.Inner.{Modelling}
 use Rattle.job_outcome.specs.declared.Report.{Report}
 use Rattle.job_outcome.specs.Outcome.{Ended, ended, samples, words, bits, late, refused, accepted, outcome}

@@ -39,7 +39,7 @@ fn write_out(
     header: &mut [u8],
 ) -> Report
     ensures { λ r. ⌜ inner.finish r (now (blocks .exit)) (now (header .exit)) ≡
-          inner.writtenOut m settings (now (prior .entry)) (now (words .entry)) (now (blocks .entry)) (now (header .entry)) ⌝ }
+        inner.writtenOut m settings (now (prior .entry)) (now (words .entry)) (now (blocks .entry)) (now (header .entry)) ⌝ }
 {
     let types = m.types;
     let models = m.models;
@@ -67,7 +67,7 @@ fn finish(
 ) -> Report
     requires { ⌜ Modelling settings (now types) (now models) (now words) ⌝ }
     ensures { λ r. ⌜ inner.finish r (now (blocks .exit)) (now (header .exit)) ≡
-          inner.finished settings (now (types .entry)) (now (models .entry)) (now (prior .entry)) (now (words .entry)) (now (blocks .entry)) (now (header .entry)) ⌝ }
+        inner.finished settings (now (types .entry)) (now (models .entry)) (now (prior .entry)) (now (words .entry)) (now (blocks .entry)) (now (header .entry)) ⌝ }
 {
     let m = job_model::models_of(settings, types, models, words);
     if m.refusal != 0 {
@@ -94,11 +94,11 @@ fn run(
     header: &mut [u8],
 ) -> Report
     requires { ⌜ early
-          (task (now input) (now reference) width height settings (now classes) (now types) (now models) (now prior))
-          (lend (now «input_half») (now «ref_half») (now words) (now blocks) (now header)) ≡ 0 ⌝ }
+        (task (now input) (now reference) width height settings (now classes) (now types) (now models) (now prior))
+        (lend (now «input_half») (now «ref_half») (now words) (now blocks) (now header)) ≡ 0 ⌝ }
     ensures { λ r. ⌜ ended r (lend (now («input_half» .exit)) (now («ref_half» .exit)) (now (words .exit)) (now (blocks .exit)) (now (header .exit))) ≡ outcome
-          (task (now (input .entry)) (now (reference .entry)) width height settings (now (classes .entry)) (now (types .entry)) (now (models .entry)) (now (prior .entry)))
-          (lend (now («input_half» .entry)) (now («ref_half» .entry)) (now (words .entry)) (now (blocks .entry)) (now (header .entry))) ⌝ }
+        (task (now (input .entry)) (now (reference .entry)) width height settings (now (classes .entry)) (now (types .entry)) (now (models .entry)) (now (prior .entry)))
+        (lend (now («input_half» .entry)) (now («ref_half» .entry)) (now (words .entry)) (now (blocks .entry)) (now (header .entry))) ⌝ }
 {
     let found = search::collect_motion_samples(
         input,
@@ -138,9 +138,9 @@ pub fn job(
     header: &mut [u8],
 ) -> Report
     ensures { λ r. ⌜ Done
-          (task (now (input .entry)) (now (reference .entry)) width height settings (now (classes .entry)) (now (types .entry)) (now (models .entry)) (now (prior .entry)))
-          (lend (now («input_half» .entry)) (now («ref_half» .entry)) (now (words .entry)) (now (blocks .entry)) (now (header .entry)))
-          (ended r (lend (now («input_half» .exit)) (now («ref_half» .exit)) (now (words .exit)) (now (blocks .exit)) (now (header .exit)))) ⌝ }
+        (task (now (input .entry)) (now (reference .entry)) width height settings (now (classes .entry)) (now (types .entry)) (now (models .entry)) (now (prior .entry)))
+        (lend (now («input_half» .entry)) (now («ref_half» .entry)) (now (words .entry)) (now (blocks .entry)) (now (header .entry)))
+        (ended r (lend (now («input_half» .exit)) (now («ref_half» .exit)) (now (words .exit)) (now (blocks .exit)) (now (header .exit)))) ⌝ }
 {
     let sizes = Sizes {
         width,

@@ -28,7 +28,8 @@ module _ (g : ℕ → ℕ) (flag : ℕ) (prior : List ℤ) where
 
   -- a pair of slots, then others, and a pair alone
   pair-then : (gmType first slot : ℕ) (rest : List ℕ) (p : ℕ)
-      → pairLength gmType first slot p + coefficientsLength g flag prior gmType first rest (p + pairLength gmType first slot p) ≡ coefficientsLength g flag prior gmType first (slot ∷ (slot + 1) ∷ rest) p
+      → pairLength gmType first slot p + coefficientsLength g flag prior gmType first rest (p + pairLength gmType first slot p)
+      ≡ coefficientsLength g flag prior gmType first (slot ∷ (slot + 1) ∷ rest) p
   unfolding pairRead
   pair-then gmType first slot rest p =
       let a : ℕ = coefficientLength g flag prior gmType first slot p in

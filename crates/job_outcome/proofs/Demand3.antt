@@ -1,6 +1,6 @@
 -- Demand 3 holds of every accepted job: blocks and header read back as what the search and the fit gave; and what attaches it to a job's contract.
 -- Assumes nothing.
-use Prim.Native.Nat.{ℕ, _*_, _-_}
+use Prim.Native.Nat.{ℕ, _*_}
 use mathlib.Core.List.{List}
 use mathlib.Core.Path.{_≡_, refl, sym, ap, _∙_, subst}
 use lib.IntN.{ℤ}

@@ -1,12 +1,10 @@
 -- What a refused job reports and leaves, and which rows a job never meets.
 -- Assumes nothing.
 use mathlib.Core.Bool.{false}
-use mathlib.Core.List.{[], _∷_}
 use mathlib.Core.Logic.{⊎-elim}
 use mathlib.Core.Path.{_≡_, refl, sym, ap, _∙_}
 use native.Mathlib.Omega.{arith}
 use lib.ListN.{length}
-use Rattle.laws.specs.Refusal.{judge}
 use Rattle.laws.proofs.Refusal.{or-else-refused, or-else-none}
 use Rattle.block.specs.Frame.{storeRefusal}
 use Rattle.models.specs.Models.{modelWrong, modelsWrong}
@@ -15,7 +13,6 @@ use Rattle.job_model.proofs.FitOfType.{refusal-or-six}
 use Rattle.job_task.specs.Task.{Task, Lent, sizesOf}
 use Rattle.job_task.specs.Rows.{tooLittle, early}
 use Rattle.job_task.proofs.Accepted.{all-quiet, quiet-all, ready}
-use Rattle.job_outcome.specs.declared.Report.{Report}
 use Rattle.job_outcome.specs.Outcome.{Ended, words, ownType, fitWords, types, models, late, refusal, refused, searched, outcome}
 use Rattle.job_outcome.proofs.Stages.{refused-early, refused-late, ends-accepted, by-stages, early-never-twelve, refused-in-second}
 use Rattle.job_outcome.proofs.Blocks as blocks

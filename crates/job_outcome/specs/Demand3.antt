@@ -1,4 +1,5 @@
--- Demand 3: what an accepted job left, read back. Over the definitions of the search, of reading a frame and of reading by the standard; none of a writer. Document 01, 'Job', 'Fits and score', 'Reading by the standard'.
+-- Demand 3: what an accepted job left, read back. Over the definitions of the search, of reading a frame and of reading by the standard; none of a writer.
+-- Document 01, 'Job', 'Fits and score', 'Reading by the standard'.
 -- Assumes nothing.
 use Prim.Native.Nat.{ℕ, _+_, _*_, _-_, _/_, _%_, _≤_, _<_}
 use mathlib.Core.Logic.{_⊎_}

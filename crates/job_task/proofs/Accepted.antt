@@ -9,7 +9,7 @@ use borrow.Author.Tests.{ltb-false, eqb-false}
 use lib.Dec.{ltb, eqb}
 use lib.IntN.{ℤ}
 use lib.ListN.{length, getD}
-use Rattle.laws.specs.Refusal.{judge, orElse, either}
+use Rattle.laws.specs.Refusal.{judge}
 use Rattle.laws.proofs.Refusal.{neither, length-is, quiet, or-else-quiet}
 use Rattle.plane.specs.Inner.{Small}
 use Rattle.search.specs.Search.{sampleCount}
@@ -22,7 +22,7 @@ use Rattle.form1.specs.Block.{form1}
 use Rattle.job_task.specs.declared.Settings.{Settings}
 use Rattle.job_task.specs.declared.Sizes.{Sizes}
 use Rattle.job_task.specs.Task.{Task, Lent, sizesOf, searchTask, searchLent}
-use Rattle.job_task.specs.Rows.{otherTypes, otherNumbers, priorNumbers, headerBytes, wrongLengths, sizeRows, codeRows, modelRows, roomRows, refusalBefore, early}
+use Rattle.job_task.specs.Rows.{otherTypes, otherNumbers, priorNumbers, headerBytes, sizeRows, codeRows, modelRows, roomRows, refusalBefore, early}
 use Rattle.job_task.specs.Inner.{InRange}
 use Rattle.job_task.proofs.Ready.{Ready}
 

@@ -190,13 +190,7 @@ pub fn refusal_of(
 ) -> u32
     ensures { λ r. ⌜ r ≡ refusalBefore sizes settings (now (classes .entry)) (now (types .entry)) (now (models .entry)) (now (prior .entry)) ⌝ }
 {
-    let lengths = sizes_refusal(
-        sizes,
-        classes.len(),
-        types.len(),
-        models.len(),
-        prior.len(),
-    );
+    let lengths = sizes_refusal(sizes, classes.len(), types.len(), models.len(), prior.len());
     if lengths != 0 {
         return lengths;
     }

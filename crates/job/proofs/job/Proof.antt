@@ -13,7 +13,7 @@ returns c =
     let e = c .before .before .before .before .before .before .before .before .before .before .before .before in
     let a = e .args in
     done-refused (task (a .input .now) (a .reference .now) (a .width) (a .height) (a .settings) (a .classes .now) (a .types .now) (a .models .now) (a .prior .now))
-    (lend (a .inputHalf .now) (a .refHalf .now) (a .words .now) (a .blocks .now) (a .header .now))
+    (lend (a .input-half .now) (a .ref-half .now) (a .words .now) (a .blocks .now) (a .header .now))
     (c .before .before .refusal-of .ensures) (c .before .if1 .taken) (c .refused .ensures)
 
 run-requires : tie.Need-run-requires
@@ -25,7 +25,7 @@ returns-2 c =
     let e = h .before .before .before .before .before .before .before .before .before .before .before .before .before .before in
     let a = e .args in
     done (task (a .input .now) (a .reference .now) (a .width) (a .height) (a .settings) (a .classes .now) (a .types .now) (a .models .now) (a .prior .now))
-    (lend (a .inputHalf .now) (a .refHalf .now) (a .words .now) (a .blocks .now) (a .header .now))
+    (lend (a .input-half .now) (a .ref-half .now) (a .words .now) (a .blocks .now) (a .header .now))
     (c .before .before .before .before .before .before .before .before .before .before .run .ensures)
 
 pub job-spec : {M : Type 1} → statement M

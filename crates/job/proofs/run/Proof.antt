@@ -13,7 +13,7 @@ slice-reshare-prefix-finish c =
     let e = h .before .before .before .before .before .before .before .before .before .before in
     let a = e .args in
     let j : Task = task (a .input .now) (a .reference .now) (a .width) (a .height) (a .settings) (a .classes .now) (a .types .now) (a .models .now) (a .prior .now) in
-    let l : Lent = lend (a .inputHalf .now) (a .refHalf .now) (a .words .now) (a .blocks .now) (a .header .now) in
+    let l : Lent = lend (a .input-half .now) (a .ref-half .now) (a .words .now) (a .blocks .now) (a .header .now) in
     found-there j l (ready j l (e .pre)) (c .before .before .before .before .before .before .collect-motion-samples .ensures)
 
 slice-aggregate-finish : tie.Need-slice-aggregate-finish
@@ -22,7 +22,7 @@ slice-aggregate-finish c =
     let e = h .before .before .before .before .before .before .before .before .before .before in
     let a = e .args in
     let j : Task = task (a .input .now) (a .reference .now) (a .width) (a .height) (a .settings) (a .classes .now) (a .types .now) (a .models .now) (a .prior .now) in
-    let l : Lent = lend (a .inputHalf .now) (a .refHalf .now) (a .words .now) (a .blocks .now) (a .header .now) in
+    let l : Lent = lend (a .input-half .now) (a .ref-half .now) (a .words .now) (a .blocks .now) (a .header .now) in
     found-count j l (ready j l (e .pre)) (c .before .before .before .before .before .before .before .collect-motion-samples .ensures)
 
 finish-requires : tie.Need-finish-requires
@@ -31,7 +31,7 @@ finish-requires c κs =
     let e = h .before .before .before .before .before .before .before .before .before .before .before in
     let a = e .args in
     let j : Task = task (a .input .now) (a .reference .now) (a .width) (a .height) (a .settings) (a .classes .now) (a .types .now) (a .models .now) (a .prior .now) in
-    let l : Lent = lend (a .inputHalf .now) (a .refHalf .now) (a .words .now) (a .blocks .now) (a .header .now) in
+    let l : Lent = lend (a .input-half .now) (a .ref-half .now) (a .words .now) (a .blocks .now) (a .header .now) in
     found-modelling j l (ready j l (e .pre)) (c .before .before .before .before .before .before .before .before .before .collect-motion-samples .ensures)
 
 returns : tie.Need-returns
@@ -40,8 +40,8 @@ returns c =
     let e = h .before .before .before .before .before .before .before .before .before .before .before .before .before .before in
     let a = e .args in
     let j : Task = task (a .input .now) (a .reference .now) (a .width) (a .height) (a .settings) (a .classes .now) (a .types .now) (a .models .now) (a .prior .now) in
-    let l : Lent = lend (a .inputHalf .now) (a .refHalf .now) (a .words .now) (a .blocks .now) (a .header .now) in
-    ended-found j l (e .pre) (c .before .before .before .before .before .before .before .before .before .before .before .before .before .before .collect-motion-samples .ensures) (c .before .before .before .before .finish .ensures)
+    let l : Lent = lend (a .input-half .now) (a .ref-half .now) (a .words .now) (a .blocks .now) (a .header .now) in
+    ended-found j l (e .pre) (h .before .collect-motion-samples .ensures) (c .before .before .before .before .finish .ensures)
 
 pub run-spec : {M : Type 1} → statement M
 run-spec =

@@ -6,7 +6,7 @@ use mathlib.Core.Path.{sym, _∙_}
 use borrow.Author.Needs.{needs}
 use Rattle.job_task.specs.Rows.{refusalBefore}
 use Rattle.job_task.proofs.Groups.{stops, goes-on}
-use Rattle.job_task.proofs.Accepted.{Lengths, lengths}
+use Rattle.job_task.proofs.Accepted.{lengths}
 use Rattle.job_task.proofs.refusal_of.Statement.{statement}
 use Rattle.job_task.proofs.refusal_of.Tie as tie
 
@@ -41,7 +41,8 @@ returns-4 : tie.Need-returns-4
 unfolding refusalBefore
 returns-4 c =
     goes-on (c .before .before .before .before .before .before .sizes-refusal .ensures) (c .before .before .before .before .before .if1 .left)
-    (goes-on (c .before .before .before .before .codes-refusal .ensures) (c .before .before .before .if2 .left) (goes-on (c .before .before .models-refusal .ensures) (c .before .if3 .left) (c .room-refusal .ensures)))
+    (goes-on (c .before .before .before .before .codes-refusal .ensures) (c .before .before .before .if2 .left)
+    (goes-on (c .before .before .models-refusal .ensures) (c .before .if3 .left) (c .room-refusal .ensures)))
 
 pub refusal-of-spec : {M : Type 1} → statement M
 refusal-of-spec = tie.close (tie.spec (search needs) returns (search needs) returns-2 models-refusal-requires returns-3 room-refusal-requires returns-4)
