@@ -31,4 +31,4 @@ returns-4 c =
     (record { places = c .before .before .before .before .if1 .left; within = sym (c .before .before .priors-out .ensures) ∙ c .before .if3 .left })
 
 pub read-global-motion-params-spec : {M : Type 1} → statement M
-read-global-motion-params-spec = tie.close (tie.spec (search needs) returns (search needs) returns-2 (search needs) (search needs) returns-3 read-from-requires returns-4)
+read-global-motion-params-spec = tie.close (tie.spec (λ c κs. search needs) returns (λ c κs. search needs) returns-2 (λ c κs. search needs) (λ c κs. search needs) returns-3 read-from-requires returns-4)

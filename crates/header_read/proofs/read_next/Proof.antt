@@ -21,4 +21,4 @@ returns c =
     }
 
 pub read-next-spec : {M : Type 1} → statement M
-read-next-spec = tie.close (tie.spec (search needs) (search needs) (search needs) (search needs) (search needs) returns)
+read-next-spec = tie.close (tie.spec (λ c. search needs) (λ c κs. search needs) (λ c. search needs) (λ c. search needs) (λ c κs. search needs) returns)

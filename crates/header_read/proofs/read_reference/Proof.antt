@@ -15,4 +15,4 @@ returns c =
     (c .before .before .before .read-type .ensures) (c .before .before .read-model .ensures) refl refl refl
 
 pub read-reference-spec : {M : Type 1} → statement M
-read-reference-spec = tie.close (tie.spec (search needs) (search needs) returns)
+read-reference-spec = tie.close (tie.spec (λ c κs. search needs) (λ c κs. search needs) returns)
