@@ -26,7 +26,7 @@ mul-samples c =
 returns-2 : tie.Need-returns-2
 returns-2 c =
     let a = c .before .before .before .before .before .before .before .before .before .args in
-    done-none (task (a .input-y .now) (a .ref-y .now) (a .width) (a .height) (a .classes .now)) (lent (a .input-half .now) (a .ref-half .now) (a .words .now)) (sym (c .before .before .refusal-of .ensures) ∙ c .before .if1 .left) (c .if2 .taken)
+    done-none (task (a .input-y .now) (a .ref-y .now) (a .width) (a .height) (a .classes .now)) (lent (a .input-half .now) (a .ref-half .now) (a .words .now)) (sym (c .before .before .refusal-of .ensures) ∙ c .before .if1 .left) (omega (arith, c .if2 .taken))
 
 search-into-requires : tie.Need-search-into-requires
 search-into-requires c κs =
