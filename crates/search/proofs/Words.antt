@@ -81,7 +81,10 @@ sampleWords-at input ref w h classes k l = getD-listing (sampleWord input ref w 
 
 module _ (input ref : List ℕ) (w h : ℕ) (classes : List ℕ) (narrow : w ≤ largestSide) (low : h ≤ largestSide) (in-range : (k : ℕ) → getD classes k 0 ≤ lastClass) where
   word-held : (k : ℕ) → k < sampleCount w h →
-      Held (k / blockColumns w) (k % blockColumns w) (stored (motion input ref w h (k / blockColumns w) (k % blockColumns w) .dy)) (stored (motion input ref w h (k / blockColumns w) (k % blockColumns w) .dx)) (getD classes k 0)
+      Held (k / blockColumns w) (k % blockColumns w)
+      (stored (motion input ref w h (k / blockColumns w) (k % blockColumns w) .dy))
+      (stored (motion input ref w h (k / blockColumns w) (k % blockColumns w) .dx))
+      (getD classes k 0)
   word-held k l =
       let p = factor-pos (h / 16) (w / 16) k l in
       let r : k / (w / 16) < h / 16 = div-lt-iff-lt-mul p .1 l in

@@ -26,7 +26,8 @@ abbrev μ-loop : tie.MeasureT-loop
 mul-samples : tie.Need-mul-samples Inv-loop μ-loop
 mul-samples c =
     let s = c .before .before .before .before .before .before .before .before .args .sides in
-    omega (arith, count-small (s .width) (s .height) (c .before .before .before .before .before .before .before .before .pre .0 .small .narrow) (c .before .before .before .before .before .before .before .before .pre .0 .small .low))
+    let small = c .before .before .before .before .before .before .before .before .pre .0 .small in
+    omega (arith, count-small (s .width) (s .height) (small .narrow) (small .low))
 
 loop-holds : tie.Need-loop-holds Inv-loop μ-loop
 loop-holds c = (omega arith, refl, refl)
@@ -49,7 +50,8 @@ word-at-requires c κs =
     let s = c .before .before .before .before .before .before .before .before .before .before .before .args .sides in
     let k = c .before .before .loop .k in
     let some = factor-pos (s .height / 16) (s .width / 16) k (omega arith) in
-    (c .before .before .before .before .before .before .before .before .before .before .before .pre .0, record { row = div-lt-iff-lt-mul some .1 (omega arith); column = mod-lt k some; class-small = c .before .before .before .before .before .before .before .before .before .before .before .pre .1 .in-range k })
+    let p = c .before .before .before .before .before .before .before .before .before .before .before .pre in
+    (p .0, record { row = div-lt-iff-lt-mul some .1 (omega arith); column = mod-lt k some; class-small = p .1 .in-range k })
 
 slice-write-words : tie.Need-slice-write-words Inv-loop μ-loop
 slice-write-words c = omega arith
@@ -81,4 +83,21 @@ returns c =
     ∙ ap (λ (n : ℕ). onto (listing word n) (a .words .now)) (let e : c .before .loop .k ≡ s .height / 16 * (s .width / 16) = omega arith in e)
 
 pub fill-words-spec : {M : Type 1} → statement M
-fill-words-spec = tie.close (tie.spec Inv-loop μ-loop mul-samples loop-holds div-row rem-column shared-slice-read-word-at word-at-requires (search needs) slice-write-words (search needs) loop-less loop-again same-length returns)
+fill-words-spec =
+    tie.close
+    (tie.spec
+    Inv-loop
+    μ-loop
+    mul-samples
+    loop-holds
+    div-row
+    rem-column
+    shared-slice-read-word-at
+    word-at-requires
+    (search needs)
+    slice-write-words
+    (search needs)
+    loop-less
+    loop-again
+    same-length
+    returns)

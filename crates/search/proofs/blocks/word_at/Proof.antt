@@ -46,15 +46,28 @@ refine-requires c κs =
     )
 
 cast-word-of : tie.Need-cast-word-of
-cast-word-of c = omega (arith, c .before .before .before .before .before .before .before .before .before .before .before .before .before .before .before .before .before .before .pre .0 .small .low, c .before .before .before .before .before .before .before .before .before .before .before .before .before .before .before .before .before .before .pre .1 .row)
+cast-word-of c =
+    let p = c .before .before .before .before .before .before .before .before .before .before .before .before .before .before .before .before .before .before .pre in
+    omega (arith, p .0 .small .low, p .1 .row)
 
 cast-word-of-2 : tie.Need-cast-word-of-2
-cast-word-of-2 c = omega (arith, c .before .before .before .before .before .before .before .before .before .before .before .before .before .before .before .before .before .before .before .pre .0 .small .narrow, c .before .before .before .before .before .before .before .before .before .before .before .before .before .before .before .before .before .before .before .pre .1 .column)
+cast-word-of-2 c =
+    let p = c .before .before .before .before .before .before .before .before .before .before .before .before .before .before .before .before .before .before .before .pre in
+    omega (arith, p .0 .small .narrow, p .1 .column)
 
 word-of-requires : tie.Need-word-of-requires
 word-of-requires c κs =
     let p = c .before .before .before .before .before .before .before .before .before .before .before .before .before .before .before .before .before .before .before .before .before .pre in
-    omega (arith, p .0 .small .low, p .0 .small .narrow, p .1 .row, p .1 .column, p .1 .class-small, c .before .before .before .before .refine .ensures .y-last, c .before .before .before .before .refine .ensures .x-last)
+    omega (
+      arith,
+      p .0 .small .low,
+      p .0 .small .narrow,
+      p .1 .row,
+      p .1 .column,
+      p .1 .class-small,
+      c .before .before .before .before .refine .ensures .y-last,
+      c .before .before .before .before .refine .ensures .x-last,
+    )
 
 returns : tie.Need-returns
 returns c =
@@ -64,9 +77,40 @@ returns c =
     let best = c .before .before .before .before .before .refine .result in
     let far = rw (p .input-halved, p .ref-halved) at (c .before .before .before .before .before .before .before .before .before .before .before .before .before .coarse .ensures .same) in
     let e =
-    motion-is (a .input .now) (a .reference .now) (b .width) (b .height) (b .r) (b .c) (c .before .before .before .before .before .before .before .before .before .before .before .before .before .coarse .result) (c .before .before .before .before .before .before .before .before .full-pel .result) best far (c .before .before .before .before .before .before .before .before .full-pel .ensures .same) (c .before .before .before .before .before .refine .ensures .same) in
+    motion-is (a .input .now) (a .reference .now) (b .width) (b .height) (b .r) (b .c)
+    (c .before .before .before .before .before .before .before .before .before .before .before .before .before .coarse .result)
+    (c .before .before .before .before .before .before .before .before .full-pel .result)
+    best
+    far
+    (c .before .before .before .before .before .before .before .before .full-pel .ensures .same)
+    (c .before .before .before .before .before .refine .ensures .same) in
     c .word-of .ensures
-    ∙ word-same (b .r) (b .c) (a .class) (stored-is (best .y) (ap (λ (f : Found). f .dy) e)) (stored-is (best .x) (ap (λ (f : Found). f .dx) e))
+    ∙ word-same (b .r) (b .c) (a .class)
+    (stored-is (best .y) (ap (λ (f : Found). f .dy) e))
+    (stored-is (best .x) (ap (λ (f : Found). f .dx) e))
 
 pub word-at-spec : {M : Type 1} → statement M
-word-at-spec = tie.close (tie.spec (search needs) (search needs) coarse-requires (search needs) (search needs) (search needs) (search needs) (search needs) (search needs) full-pel-requires (search needs) (search needs) (search needs) (search needs) refine-requires cast-word-of cast-word-of-2 (search needs) (search needs) word-of-requires returns)
+word-at-spec =
+    tie.close
+    (tie.spec
+    (search needs)
+    (search needs)
+    coarse-requires
+    (search needs)
+    (search needs)
+    (search needs)
+    (search needs)
+    (search needs)
+    (search needs)
+    full-pel-requires
+    (search needs)
+    (search needs)
+    (search needs)
+    (search needs)
+    refine-requires
+    cast-word-of
+    cast-word-of-2
+    (search needs)
+    (search needs)
+    word-of-requires
+    returns)

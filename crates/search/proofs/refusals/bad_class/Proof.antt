@@ -44,4 +44,14 @@ returns-2 c = any-never (ltb lastClass) (c .before .before .args .classes .now) 
 
 pub bad-class-spec : {M : Type 1} → statement M
 bad-class-spec =
-    tie.close (tie.spec Inv-loop μ-loop loop-holds (search needs) returns (search needs) loop-less loop-again returns-2)
+    tie.close
+    (tie.spec
+    Inv-loop
+    μ-loop
+    loop-holds
+    (search needs)
+    returns
+    (search needs)
+    loop-less
+    loop-again
+    returns-2)

@@ -32,4 +32,13 @@ returns-4 c =
     )
 
 pub unfit-spec : {M : Type 1} → statement M
-unfit-spec = tie.close (tie.spec (search needs) returns wrong-length-requires returns-2 (search needs) returns-3 returns-4)
+unfit-spec =
+    tie.close
+    (tie.spec
+    (search needs)
+    returns
+    wrong-length-requires
+    returns-2
+    (search needs)
+    returns-3
+    returns-4)
