@@ -13,7 +13,7 @@ use Rattle.subexp.specs.Ladder.{subexpBits}
 use Rattle.subexp.specs.Recenter.{codeOf}
 use Rattle.models.specs.Models.{typesOver, modelsWrong, modelWrong, slotWrong, filler, priorsOut}
 use Rattle.header.specs.Coefficient.{coefficientBits}
-use Rattle.header.specs.Writing.{headerBits, referenceBits, pairBits, writeRefusal, written, headerAfter}
+use Rattle.header.specs.Writing.{headerBits, referenceBits, modelBits, writeRefusal, written, headerAfter}
 
 -- six identities
 abbrev identities : List ℤ
@@ -57,11 +57,11 @@ pub record Worked : Type 0 where
   -- slot 3, prior 0, ordinal 4096
   pub last-of-slot-3 : coefficientBits 3 1 3 (pos 8192) (pos 0) ≡ replicate 23 1
   -- high, prior identity: 17 bits, A4 20 00
-  pub header-bits : written types params 1 prior 3 ≡ record { refusal = 0; bits = 17 }
-  pub header-bytes : headerAfter types params 1 prior (255 ∷ 255 ∷ 255 ∷ []) ≡ 0xA4 ∷ 0x20 ∷ 0x00 ∷ []
+  pub header-bits : written 0 types params 1 prior 3 ≡ record { refusal = 0; bits = 17 }
+  pub header-bytes : headerAfter 0 types params 1 prior (255 ∷ 255 ∷ 255 ∷ []) ≡ 0xA4 ∷ 0x20 ∷ 0x00 ∷ []
 
 pub worked : Worked
-unfolding quantize nearestOrdinal symbolOf placeOf putBit bitLength nsBits subexpBits codeOf typesOver modelsWrong modelWrong slotWrong filler priorsOut coefficientBits headerBits referenceBits pairBits writeRefusal written headerAfter
+unfolding quantize nearestOrdinal symbolOf placeOf putBit bitLength nsBits subexpBits codeOf typesOver modelsWrong modelWrong slotWrong filler priorsOut coefficientBits headerBits referenceBits modelBits writeRefusal written headerAfter
 worked =
     record {
       centre = refl;
