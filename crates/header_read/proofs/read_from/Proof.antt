@@ -9,7 +9,7 @@ use lib.ListN.{drop}
 use Rattle.laws.proofs.Placed.{tail-whole}
 use Rattle.bits.specs.Bits.{bitAt}
 use Rattle.header.specs.Reading.{referencesRead}
-use Rattle.header_read.specs.Contracts.{SevenIs}
+use Rattle.header_read.specs.Inner.{SevenIs}
 use Rattle.header_read.proofs.Answers.{ended, from-byte}
 use Rattle.header_read.proofs.read_from.Statement.{statement}
 use Rattle.header_read.proofs.read_from.Tie as tie
