@@ -5,9 +5,8 @@ use mathlib.Core.List.{List}
 use mathlib.Core.Path.{_≡_, refl, sym, ap, _∙_, subst}
 use lib.IntN.{ℤ}
 use lib.ListN.{length, take, drop}
-use Rattle.bits.specs.Bits.{bitAt}
-use Rattle.bits.proofs.Buffer.{bitAt-lt}
 use Rattle.header.specs.Reading.{ReadModels}
+use Rattle.header_read.proofs.Count.{counted}
 use Rattle.score.specs.Score.{slot}
 use Rattle.quantize.specs.Quantize.{rowFirst}
 use Rattle.quantize.specs.OnGrid.{gridNumberAt, NearestAt}
@@ -22,7 +21,6 @@ use Rattle.job_outcome.specs.Done.{Done}
 use Rattle.job_outcome.proofs.Stages.{ends-accepted, accepted-stages}
 use Rattle.job_outcome.proofs.Blocks.{blocks-read}
 use Rattle.job_outcome.proofs.Seven.{type-own, type-other, number-other}
-use Rattle.job_outcome.proofs.Count.{type-bits, coefficient-bits, models-length}
 use Rattle.job_outcome.proofs.Written.{place-le, type-is, some-model, stored-six, own-back, header-back, bits-end}
 
 module _ (j : Task) (l : Lent) (r : Ready j l) (fits : late j ≡ 0) where
@@ -69,14 +67,9 @@ module _ (j : Task) (l : Lent) (r : Ready j l) (fits : late j ≡ 0) where
 
   count-read : CountRead j o
   count-read =
-      let header = o .left .header in
       let consumed : length (bits j) ≡ headerRead j o .bits = sym (ap (λ (m : ReadModels). m .bits) back) in
-      record {
-        consumed = consumed;
-        sum = consumed ∙ models-length header flag (j .prior);
-        type-bits = type-bits (bitAt header) flag (j .prior);
-        coefficient-bits = coefficient-bits (bitAt header) flag (j .prior) (bitAt-lt header) (s .places) (s .within);
-      }
+      let parts = counted (o .left .header) 0 flag (j .prior) (s .places) (s .within) in
+      record { consumed = consumed; sum = consumed ∙ parts .adds-up; type-bits = parts .type-bits; coefficient-bits = parts .slot-bits }
 
   pub demand-3 : Demand3 j (ended (accepted j) (leftByJob j l))
   demand-3 =

@@ -3,7 +3,6 @@ pub mod Samples
 pub mod Blocks
 pub mod OwnModel
 pub mod Seven
-pub mod Count
 pub mod Written
 pub mod Refused
 pub mod Six

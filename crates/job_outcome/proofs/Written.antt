@@ -5,13 +5,13 @@ use mathlib.Core.Bool.{false}
 use mathlib.Core.List.{List}
 use mathlib.Core.Path.{_≡_, ap, _∙_, subst}
 use native.Mathlib.Omega.{arith}
-use borrow.Author.Tests.{le-ltb}
 use lib.IntN.{ℤ}
 use lib.ListN.{length, take, drop}
 use Rattle.bits.proofs.Buffer.{length-putBits}
 use Rattle.models.specs.Models.{modelWrong}
 use Rattle.header.specs.Reading.{modelsRead}
-use Rattle.header.specs.Writing.{placed, bytesFor, writeRefusal, written, headerAfter}
+use Rattle.header.specs.Writing.{bitsPlaced, bytesFor, writeRefusal, written, headerAfter}
+use Rattle.header.proofs.Accepted.{not-refused, answer-written, bytes-written}
 use Rattle.header.proofs.RoundTrip.{Writable, round-trip, at-most-124-bytes}
 use Rattle.fit.specs.Fitted.{typeOf}
 use Rattle.quantize.specs.Quantize.{rowFirst}
@@ -84,22 +84,19 @@ module _ (j : Task) (s : Sound j) (fits : late j ≡ 0) where
     room-enough : bytesFor 0 (length (bits j)) ≤ length old
     room-enough = omega (arith, at-most-124-bytes flag (types j) (models j) (j .prior))
 
-    pub header-back : modelsRead (placed 0 (bits j) old) 0 flag (j .prior) ≡ record { types = types j; params = models j; bits = length (bits j) }
+    pub header-back : modelsRead (bitsPlaced 0 (bits j) old) 0 flag (j .prior) ≡ record { types = types j; params = models j; bits = length (bits j) }
     header-back = round-trip (types j) (models j) flag (j .prior) writable 0 old room-enough
 
-    pub bits-end : length (bits j) ≤ 8 * length (placed 0 (bits j) old)
+    pub bits-end : length (bits j) ≤ 8 * length (bitsPlaced 0 (bits j) old)
     bits-end = rw (length-putBits old 0 _) (omega (arith, room-enough))
 
-    pub write-accepted : writeRefusal (types j) (models j) flag (j .prior) (length old) ≡ 0
-    unfolding writeRefusal
+    pub write-accepted : writeRefusal 0 (types j) (models j) flag (j .prior) (length old) ≡ 0
     write-accepted =
-        let w = writable in
-        rw (w .seven, w .models, w .priors, w .known, le-ltb 1 flag (s .range .flagged), w .right, w .within, le-ltb (length old) (bytesFor 0 (length (bits j))) room-enough)
+        not-refused (types j) (models j) flag (j .prior) 0 (length old)
+        (record { writable = writable; flagged = s .range .flagged; roomy = room-enough })
 
-    pub header-written : headerAfter (types j) (models j) flag (j .prior) old ≡ placed 0 (bits j) old
-    unfolding headerAfter
-    header-written = rw write-accepted
+    pub header-written : headerAfter 0 (types j) (models j) flag (j .prior) old ≡ bitsPlaced 0 (bits j) old
+    header-written = bytes-written (types j) (models j) flag (j .prior) 0 old write-accepted
 
-    pub bits-written : written (types j) (models j) flag (j .prior) (length old) ≡ record { refusal = 0; bits = length (bits j) }
-    unfolding written
-    bits-written = rw write-accepted
+    pub bits-written : written 0 (types j) (models j) flag (j .prior) (length old) ≡ record { refusal = 0; bits = length (bits j) }
+    bits-written = answer-written (types j) (models j) flag (j .prior) 0 (length old) write-accepted

@@ -1,4 +1,4 @@
--- Demand 3: what an accepted job left, read back. Over the definitions of the search, of reading a frame and of reading by the standard; none of a writer.
+-- Demand 3: what an accepted job left, read back. Over the definitions of the search, of reading a frame and of reading by the standard; of a writer only the lengths of codes that the count adds up.
 -- Document 01, 'Job', 'Fits and score', 'Reading by the standard'.
 -- Assumes nothing.
 use Prim.Native.Nat.{ℕ, _+_, _*_, _-_, _/_, _%_, _≤_, _<_}
@@ -17,16 +17,16 @@ use Rattle.search.specs.Search.{motion, blockColumns}
 use Rattle.layout.specs.Form.{blockBytes, blocksOf, countAt}
 use Rattle.form1.specs.Block.{form1}
 use Rattle.block.specs.Frame.{readFrame, wordsLeft, samplesFrom, readAlone}
-use Rattle.bits.specs.Bits.{bitAt}
 use Rattle.grid.specs.Grid.{absBits}
+use Rattle.header.specs.Count.{slotCount, headerCount}
 use Rattle.header.specs.Reading.{ReadModels, modelsRead}
+use Rattle.header.specs.Writing.{typeBits}
 use Rattle.score.specs.Score.{meanSqResidual, slot}
 use Rattle.quantize.specs.Quantize.{params, rowFirst}
 use Rattle.quantize.specs.OnGrid.{gridNumberAt, NearestAt}
 use Rattle.job_task.specs.Task.{Task}
 use Rattle.job_model.specs.Modelled as model
 use Rattle.job_outcome.specs.Outcome.{Ended, samples, words, ownType, fitIn, fitWords}
-use Rattle.job_outcome.specs.Count.{coefficientLength, typeBits, referencesLength}
 
 -- ---- the blocks
 
@@ -104,14 +104,18 @@ NearestRead j o =
 
 -- ---- the count
 
+-- the type read for the reference r + 1
+abbrev pub typeAt : Task → Ended → ℕ → ℕ
+typeAt j o r = getD (headerRead j o .types) r 0
+
 pub record CountRead (j : Task) (o : Ended) : Type 0 where
   -- the bits reported are those that the reading takes
   pub consumed : o .report .bits ≡ headerRead j o .bits
-  -- they are the sum of each reference's type bits and of each carried coefficient's bits
-  pub sum : o .report .bits ≡ referencesLength (bitAt (o .left .header)) (j .settings .flag) (j .prior) 7 0 0
-  pub type-bits : (p : ℕ) → typeBits (bitAt (o .left .header)) (j .settings .flag) (j .prior) p ≤ 3
-  pub coefficient-bits : (gmType r i p : ℕ) → r < 7 → i < 6
-      → coefficientLength (bitAt (o .left .header)) (j .settings .flag) (j .prior) gmType (6 * r) i p ≤ 2 * absBits gmType (j .settings .flag) i - 1
+  -- they are the sum of each reference's type bits and of each carried coefficient's bits, each within its bound
+  pub sum : o .report .bits ≡ headerCount (headerRead j o .types) (headerRead j o .params) (j .settings .flag) (j .prior)
+  pub type-bits : (r : ℕ) → length (typeBits (typeAt j o r)) ≤ 3
+  pub coefficient-bits : (r i : ℕ)
+      → slotCount (j .settings .flag) (headerRead j o .params) (j .prior) (typeAt j o r) (6 * r) i ≤ 2 * absBits (typeAt j o r) (j .settings .flag) i - 1
 
 -- ---- demand 3, whole
 

@@ -12,7 +12,7 @@ use Rattle.search.specs.Search.{sampleCount, sampleWords}
 use Rattle.search.specs.Refusal as search
 use Rattle.fit.specs.declared.Fitted.{Fitted}
 use Rattle.block.specs.Frame.{frameBytes}
-use Rattle.header.specs.Writing.{headerBits, placed}
+use Rattle.header.specs.Writing.{headerBits, bitsPlaced}
 use Rattle.job_task.specs.Task.{Task, Lent, lend, searchTask, searchLent}
 use Rattle.job_task.specs.Rows.{early}
 use Rattle.job_model.specs.Modelled as model
@@ -97,7 +97,7 @@ leftBySearch j l = leftWith j l (l .blocks) (l .header)
 
 -- accepted: the blocks of the words, and the header's bits
 abbrev pub leftByJob : Task → Lent → Lent
-leftByJob j l = leftWith j l (onto (frameBytes (j .settings .frame) (words j)) (l .blocks)) (placed 0 (bits j) (l .header))
+leftByJob j l = leftWith j l (onto (frameBytes (j .settings .frame) (words j)) (l .blocks)) (bitsPlaced 0 (bits j) (l .header))
 
 -- ---- the whole outcome, by stages
 
