@@ -1,4 +1,4 @@
--- `bit_reader::read_models` meets its contract: a walk of its MIR, by hand. A reader that one call returns is held in a local and passed to the next. All that the proof knows of `new` and of `read_global_motion_params` is that each meets its contract.
+-- `bit_reader::read_models`: the reader that `new` returns holds the bytes and the position that are read from.
 -- In a local of a body MIR erases the lifetime of the struct's type, so the value is shown to have the type at `erased`: what the struct owns does not say the lifetime's name.
 -- Assumes nothing.
 use mathlib.Core.Path.{_≡_, refl, ap, _∙_}

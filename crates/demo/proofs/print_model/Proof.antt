@@ -1,4 +1,4 @@
--- `demo::print_model` is safe and ends. Assumes nothing.
+-- `demo::print_model`: the counter rises from 12 to 18, below the array's 42 at each turn. Assumes nothing.
 use Prim.Native.Nat.{_≤_, _-_}
 use borrow.Author.Needs.{needs}
 use Rattle.demo.proofs.print_model.Statement.{statement}

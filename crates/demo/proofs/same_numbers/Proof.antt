@@ -1,4 +1,4 @@
--- `demo::same_numbers` is safe and ends. Assumes nothing.
+-- `demo::same_numbers`: each turn compares one number of the 42, and the counter rises to 42. Assumes nothing.
 use Prim.Native.Nat.{_≤_, _-_}
 use borrow.Author.Needs.{needs}
 use Rattle.demo.proofs.same_numbers.Statement.{statement}

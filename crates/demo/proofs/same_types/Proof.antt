@@ -1,4 +1,4 @@
--- `demo::same_types` is safe and ends. Assumes nothing.
+-- `demo::same_types`: each turn compares one type of the 7, and the counter rises to 7. Assumes nothing.
 use Prim.Native.Nat.{_≤_, _-_}
 use borrow.Author.Needs.{needs}
 use Rattle.demo.proofs.same_types.Statement.{statement}

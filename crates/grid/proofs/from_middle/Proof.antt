@@ -1,4 +1,4 @@
--- `from_middle` meets its contract: the product of an ordinal and the step is small.
+-- `from_middle`: the product of an ordinal and the step is small.
 -- Assumes nothing.
 use Prim.Native.Nat.{ℕ, _^_, _≤_, _<_}
 use mathlib.Core.Path.{refl}

@@ -1,4 +1,4 @@
--- `lift` meets its contract: a magnitude is taken from the middle, or added to it.
+-- `lift`: a magnitude is taken from the middle, or added to it.
 -- Assumes nothing.
 use native.Mathlib.Omega.{arith}
 use native.Mathlib.Nat.{add-comm}

@@ -1,4 +1,4 @@
--- `quantize_global_param` meets its contract: each refusal by the tests on its way, and the quantized number.
+-- `quantize_global_param`: each test is a row, in the table's order, and past them stands the nearest number.
 -- Assumes nothing.
 use borrow.Author.Needs.{needs}
 use borrow.Author.Tests.{lt-ltb, le-ltb}

@@ -1,4 +1,4 @@
--- `symbols_of` meets its contract. Assumes nothing.
+-- `symbols_of`: the slot's bits and centre are the table's, and a prior in reach has its place among the symbols. Assumes nothing.
 use borrow.Author.Needs.{needs}
 use Rattle.grid.proofs.symbols_of.Statement.{statement}
 use Rattle.grid.proofs.symbols_of.Tie as tie

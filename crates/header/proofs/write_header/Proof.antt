@@ -1,4 +1,4 @@
--- `write_header` meets its contract: the zeros behind the references' bits.
+-- `write_header`: the references' bits are written, and the zeros behind them fill the last byte.
 -- Assumes nothing.
 use Prim.Native.Nat.{ℕ, _+_, _≤_, _<_}
 use mathlib.Core.List.{List}

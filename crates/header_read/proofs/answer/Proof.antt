@@ -1,4 +1,4 @@
--- `answer` meets its contract: the bytes that the bits need, against those there are.
+-- `answer`: the bytes that the bits need, against those there are.
 -- Assumes nothing.
 use Prim.Native.Nat.{_*_}
 use native.Mathlib.Omega.{arith}

@@ -1,4 +1,4 @@
--- `read_from` meets its contract: the bytes from the position's on read as all of them do.
+-- `read_from`: the bytes from the position's on read as all of them do.
 -- Assumes nothing.
 use Prim.Native.Nat.{ℕ, _/_}
 use mathlib.Core.List.{List}

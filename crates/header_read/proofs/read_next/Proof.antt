@@ -1,4 +1,4 @@
--- `read_next` meets its contract: the type is stored at its place, the six numbers at theirs.
+-- `read_next`: the type is stored at its place, the six numbers at theirs.
 -- Assumes nothing.
 use Prim.Native.Nat.{ℕ, _*_}
 use mathlib.Core.List.{List}

@@ -1,4 +1,4 @@
--- `read_references` meets its contract: what is read so far, and what is left to read, are all.
+-- `read_references`: what is read so far, and what is left to read, are all.
 -- Assumes nothing.
 use Prim.Native.Nat.{_-_}
 use mathlib.Core.Path.{refl}

@@ -1,4 +1,4 @@
--- `lent_score::mean_sq_residual` meets its contract: a walk of its MIR, by hand, with one loop. The model is made once; each turn takes the next sample out of the slice, copies it, puts it back and calls `score_step`; the end is `score_of`'s. All that the proof knows of the three callees is that each meets its contract.
+-- `lent_score::mean_sq_residual`: each turn adds the next sample's step, so what is left to add is the rest of the sum.
 -- A `&[MotionSample]` is Copy: what it owns is had twice, one copy is kept whole for the exit, and the other is looked into once, before the loop. The variant says what is left: from here as much is to be added as from the first sample.
 -- Assumes nothing.
 use mathlib.Core.Path.{_≡_, refl, sym, ap, _∙_}

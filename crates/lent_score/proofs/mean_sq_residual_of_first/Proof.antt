@@ -1,4 +1,4 @@
--- `lent_score::mean_sq_residual_of_first` meets its contract: a walk of its MIR, by hand. The array is stored in memory, its first n elements are lent for a lifetime that is made for the call, and once the lifetime is over they come back, so that the array's memory can be released. All that the proof knows of `mean_sq_residual` is that it meets its contract.
+-- `lent_score::mean_sq_residual_of_first`: the first n samples are lent for the call alone, and come back when its lifetime ends.
 -- Assumes nothing.
 use mathlib.Core.Path.{_≡_, refl, sym}
 use Prim.Native.Nat.{ℕ, _≤_, _<_, _^_}

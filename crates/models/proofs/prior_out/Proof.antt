@@ -1,4 +1,4 @@
--- `prior_out` meets its contract: the distance from the centre against the slot's reach.
+-- `prior_out`: the distance from the centre against the slot's reach.
 -- Assumes nothing.
 use borrow.Author.Needs.{needs}
 use borrow.Author.Tests.{lt-ltb, le-ltb}

@@ -1,4 +1,4 @@
--- `slot_at` meets its contract: three elements are read, and handed on.
+-- `slot_at`: three elements are read, and handed on.
 -- Assumes nothing.
 use borrow.Author.Needs.{needs}
 use mir.Syntax.{w32}

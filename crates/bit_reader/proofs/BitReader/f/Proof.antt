@@ -1,4 +1,4 @@
--- `bit_reader::BitReader::f` meets its contract: a walk of its MIR, by hand. The struct is taken apart, and `f_at` is called on the slice, the position and the width. All that the proof knows of `f_at` is that it meets its contract.
+-- `bit_reader::BitReader::f`: the struct is taken apart, and `f_at` is called on its slice and position.
 -- The struct is Copy: what it owns is had twice, one copy is kept whole for the exit, and of the other what bytes owns goes to the callee, beside the lifetime's token, which comes back.
 -- Assumes nothing.
 use mathlib.Core.Path.{_≡_, refl}

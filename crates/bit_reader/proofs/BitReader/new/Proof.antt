@@ -1,4 +1,4 @@
--- `bit_reader::BitReader::new` meets its contract: a walk of its MIR, by hand. A `BitReader` is made of the slice and the position passed, in the result's local.
+-- `bit_reader::BitReader::new`: the slice and the position passed are the fields of the result.
 -- A `&[u8]` is Copy, so what it owns is had twice: once for bytes at exit, and once inside the result, beside the facts of at.
 -- Assumes nothing.
 use mathlib.Core.Path.{refl}

@@ -1,4 +1,4 @@
--- `cost::eighths::weighted` meets its contract.
+-- `cost::eighths::weighted`: weights that sum to 8 keep the sum within 8 times the larger pel, so nothing wraps.
 -- Assumes nothing.
 use native.Mathlib.Omega.{arith}
 use borrow.Author.Needs.{needs}
