@@ -1,4 +1,4 @@
--- `number_of`: the slot's bits and centre are the table's, and a symbol below their count has its number. Assumes nothing.
+-- `number_of`: the bits and the centre are the slot's, so the symbol's number is the definition's. Assumes nothing.
 use borrow.Author.Needs.{needs}
 use Rattle.grid.proofs.number_of.Statement.{statement}
 use Rattle.grid.proofs.number_of.Tie as tie

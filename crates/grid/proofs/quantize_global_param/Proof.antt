@@ -1,4 +1,4 @@
--- `quantize_global_param`: each test is a row, in the table's order, and past them stands the nearest number.
+-- `quantize_global_param`: each refusal is the first row whose test holds, and past them stands the nearest number.
 -- Assumes nothing.
 use borrow.Author.Needs.{needs}
 use borrow.Author.Tests.{lt-ltb, le-ltb}

@@ -1,4 +1,4 @@
--- `symbol_of`: the slot's bits and centre are the table's, and every number's symbol is below their count. Assumes nothing.
+-- `symbol_of`: the bits and the centre are the slot's, and each symbol is below their count. Assumes nothing.
 use borrow.Author.Needs.{needs}
 use Rattle.grid.proofs.symbol_of.Statement.{statement}
 use Rattle.grid.proofs.symbol_of.Tie as tie

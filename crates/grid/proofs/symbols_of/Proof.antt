@@ -1,4 +1,4 @@
--- `symbols_of`: the slot's bits and centre are the table's, and a prior in reach has its place among the symbols. Assumes nothing.
+-- `symbols_of`: the bits and the centre are the slot's, and a prior in range has its place there. Assumes nothing.
 use borrow.Author.Needs.{needs}
 use Rattle.grid.proofs.symbols_of.Statement.{statement}
 use Rattle.grid.proofs.symbols_of.Tie as tie

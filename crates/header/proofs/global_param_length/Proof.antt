@@ -1,4 +1,4 @@
--- `header::global_param_length`: the coefficient's bits are the code of the value's symbol from the prior's, and so many are counted. Assumes nothing.
+-- `header::global_param_length`: the code counted, from the prior's place, is the slot's bits. Assumes nothing.
 use borrow.Author.Needs.{needs}
 use Rattle.header.proofs.global_param_length.Statement.{statement}
 use Rattle.header.proofs.global_param_length.Tie as tie

@@ -1,4 +1,4 @@
--- `header::write_global_param`: the value's symbol, coded from the prior's, has the coefficient's bits. Assumes nothing.
+-- `header::write_global_param`: the code of the value's symbol, from the prior's place, is the slot's bits. Assumes nothing.
 use borrow.Author.Needs.{needs}
 use Rattle.header.proofs.write_global_param.Statement.{statement}
 use Rattle.header.proofs.write_global_param.Tie as tie

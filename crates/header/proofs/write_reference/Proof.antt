@@ -1,4 +1,4 @@
--- `write_reference`: the type bits, then the model's.
+-- `write_reference`: the type's bits are written, and the model's right behind them.
 -- Assumes nothing.
 use borrow.Author.Needs.{needs}
 use Rattle.bits.proofs.Buffer.{room-front, room-back, wrote-both}

@@ -1,4 +1,4 @@
--- `answer`: the bytes that the bits need, against those there are.
+-- `answer`: the bytes that the bits need are tested against those there are, as in the definition.
 -- Assumes nothing.
 use Prim.Native.Nat.{_*_}
 use native.Mathlib.Omega.{arith}

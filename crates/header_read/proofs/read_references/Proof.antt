@@ -1,4 +1,4 @@
--- `read_references`: what is read so far, and what is left to read, are all.
+-- `read_references`: what is read so far, followed by what is left to read, is all seven.
 -- Assumes nothing.
 use Prim.Native.Nat.{_-_}
 use mathlib.Core.Path.{refl}

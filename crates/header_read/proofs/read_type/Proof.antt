@@ -1,4 +1,4 @@
--- `read_type`: each type by the bits that were read.
+-- `read_type`: each bit read chooses the branch that the definition takes on it.
 -- Assumes nothing.
 use Prim.Native.Nat.{ℕ, _+_}
 use mathlib.Core.Path.{_≡_, refl, ap, sym, _∙_}

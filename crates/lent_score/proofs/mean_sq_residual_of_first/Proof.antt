@@ -1,4 +1,4 @@
--- `lent_score::mean_sq_residual_of_first`: the first n samples are lent for the call alone, and come back when its lifetime ends.
+-- `lent_score::mean_sq_residual_of_first`: the first n samples are lent for the call alone, and come back behind it.
 -- Assumes nothing.
 use mathlib.Core.Path.{_≡_, refl, sym}
 use Prim.Native.Nat.{ℕ, _≤_, _<_, _^_}

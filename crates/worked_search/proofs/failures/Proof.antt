@@ -1,4 +1,4 @@
--- `failures`: each case adds at most one failure, so the sum never passes the counter, which rises to `count`.
+-- `failures`: a case adds at most one failure, so the sum stays at most the counter, which rises to `count`.
 -- Assumes nothing.
 use Prim.Native.Nat.{_≤_, _-_}
 use borrow.Author.Needs.{needs}

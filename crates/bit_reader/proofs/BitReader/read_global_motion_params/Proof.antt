@@ -1,4 +1,4 @@
--- `bit_reader::BitReader::read_global_motion_params`: the struct is taken apart, and `header`'s reading is called on its parts.
+-- `bit_reader::BitReader::read_global_motion_params`: `header_read`'s reading is called on the struct's parts.
 -- The struct and the prior are Copy: what they own is had twice, one copy of each is kept for the exit, and of the other what bytes and the prior own goes to the callee, beside the lifetimes' tokens, which come back.
 -- Assumes nothing.
 use mathlib.Core.Path.{_≡_, refl}

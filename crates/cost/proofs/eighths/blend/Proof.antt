@@ -1,4 +1,4 @@
--- `cost::eighths::blend`: two blends across and one down are the definition's, and the rounded sum fits a pel.
+-- `cost::eighths::blend`: two sums across and one down are the definition's, and the rounded 64th of them fits a pel.
 -- Assumes nothing.
 use native.Mathlib.Omega.{arith}
 use borrow.Author.Needs.{needs}
