@@ -1,5 +1,6 @@
 -- `lent_score::mean_sq_residual` meets its contract: a walk of its MIR, by hand, with one loop. The model is made once; each turn takes the next sample out of the slice, copies it, puts it back and calls `score_step`; the end is `score_of`'s. All that the proof knows of the three callees is that each meets its contract.
--- A `&[MotionSample]` is Copy: what it owns is had twice, one copy is kept whole for the exit, and the other is looked into once, before the loop. The variant says what is left: from here as much is to be added as from the first sample.
+-- A `&[MotionSample]` is Copy: what it owns is had twice, one copy is kept whole for the exit, and the other is looked
+-- into once, before the loop. The variant says what is left: from here as much is to be added as from the first sample.
 -- Assumes nothing.
 use mathlib.Core.Path.{_≡_, refl, sym, ap, _∙_}
 use Prim.Native.Nat.{ℕ, _+_, _-_, _*_, _≤_, _<_, _^_, zero-le}

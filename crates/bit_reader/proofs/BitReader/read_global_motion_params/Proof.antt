@@ -1,5 +1,6 @@
 -- `bit_reader::BitReader::read_global_motion_params` meets its contract: a walk of its MIR, by hand. The struct is taken apart, and `header`'s reading is called on the slice, the position, the flag and the prior. All that the proof knows of it is that it meets its contract.
--- The struct and the prior are Copy: what they own is had twice, one copy of each is kept for the exit, and of the other what bytes and the prior own goes to the callee, beside the lifetimes' tokens, which come back.
+-- The struct and the prior are Copy: what they own is had twice, one copy of each is kept for the exit, and of the
+-- other what bytes and the prior own goes to the callee, beside the lifetimes' tokens, which come back.
 -- Assumes nothing.
 use mathlib.Core.Path.{_≡_, refl}
 use Prim.Native.Nat.{ℕ, _<_, _^_}
