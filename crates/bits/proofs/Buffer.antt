@@ -1,15 +1,16 @@
 -- Bits put into a buffer are there afterwards, every other bit and byte is as it was, and runs of bits follow one another.
 -- Assumes nothing.
-use Prim.Native.Nat.{ℕ, zero, suc, _+_, _-_, _*_, _/_, _%_, _^_, _≤_, _<_}
+use Prim.Native.Nat.{ℕ, suc, _+_, _-_, _*_, _/_, _%_, _≤_, _<_}
 use mathlib.Core.List.{List, [], _∷_, _++_}
-use mathlib.Core.Path.{_≡_, refl, ap, sym, _∙_, subst, fun-ext}
-use native.Mathlib.Nat.{add-assoc, zero-add, add-zero}
+use mathlib.Core.Path.{_≡_, refl, ap, sym, _∙_, subst}
+use native.Mathlib.Nat.{add-zero}
 use native.Mathlib.Decide.{ℕ-discrete}
-use native.Mathlib.Numerals.{add-one}
 use native.Mathlib.Omega.{arith}
-use lib.ListN.{length, getD, set, drop, length-set, length-append}
+use lib.ListN.{length, getD, drop, length-set, length-append}
 use lib.Seq.{getD-set-same, getD-set-other, drop-set-lt, getD-drop}
-use Rattle.bits.specs.Bits.{bitOf, withBit, bitAt, putBit, putBits, Holds, AreBits, Room, Wrote}
+use Rattle.bits.specs.Bits.{withBit, bitAt, putBit, putBits}
+use Rattle.bits.proofs.Held.{Holds, AreBits}
+use Rattle.bits.specs.Inner.{Room, Wrote}
 use Rattle.bits.proofs.Byte.{bitOf-lt, bitOf-same, bitOf-other}
 
 pub bitAt-lt : (l : List ℕ) (j : ℕ) → bitAt l j < 2

@@ -1,14 +1,14 @@
 -- One bit of a number: replacing it gives that bit and leaves each other one.
 -- Assumes nothing.
 use Prim.Native.Nat.{ℕ, zero, suc, _+_, _-_, _*_, _/_, _%_, _^_, _≤_, _<_}
-use mathlib.Core.Path.{_≡_, refl, ap, sym, _∙_, subst}
-use native.Mathlib.Nat.{mod-lt, div-add-mod', pow-suc, mul-one}
+use mathlib.Core.Path.{_≡_, ap, sym, _∙_, subst}
+use native.Mathlib.Nat.{mod-lt, div-add-mod', pow-suc}
 use native.Mathlib.Decide.{decLt}
 use native.Mathlib.Numerals.{add-one}
 use native.Mathlib.Omega.{arith}
 use lib.Arith.{digits-lt}
 use lib.Dec.{lit<}
-use lib.Pow.{pow-pos, pow-add, pow-mono, shr-shr, split, high, low, shr-lt, field, mod-mod-pow}
+use lib.Pow.{pow-pos, pow-add, shr-shr, split, high, low, shr-lt, field, mod-mod-pow}
 use Rattle.bits.specs.Bits.{bitOf, withBit}
 
 pub power-step : (k : ℕ) → 2 ^ (k + 1) ≡ 2 ^ k * 2

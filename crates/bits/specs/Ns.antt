@@ -1,7 +1,7 @@
 -- The ns(n) code of clause 4.10.7 for n symbols: its bits, and what is read from a stream of bits.
 -- Assumes nothing.
 use Prim.Native.Nat.{ℕ, zero, suc, _+_, _-_, _*_, _/_, _^_}
-use mathlib.Core.List.{List, [], _∷_}
+use mathlib.Core.List.{List}
 use lib.Dec.{ltb, eqb}
 use Rattle.laws.specs.Refusal.{choose}
 use Rattle.bits.specs.Fields.{field, fieldBits}

@@ -10,7 +10,7 @@ use Rattle.solve.specs.declared.Outcome.the-variants.{Solved, Singular}
 use Rattle.solve.specs.Elimination.{unlessSingular}
 use Rattle.solve.specs.Solution.{solved, numberOf}
 use Rattle.fit.specs.declared.Fitted.{Fitted}
-use Rattle.fit.specs.declared.Fitted.the-variants.{Refused, Translation, RotZoom, Affine}
+use Rattle.fit.specs.declared.Fitted.the-variants.{Refused, RotZoom, Affine}
 use Rattle.fit.specs.Sums.{countOf, rotZoomSums, affineSums}
 use Rattle.fit.specs.Fitted.{refusalOf, rotZoomSystem, affineU, affineV, translationFit, rotZoomFit, affineFit}
 

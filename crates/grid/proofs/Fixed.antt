@@ -1,13 +1,13 @@
 -- A codable number is its own quantization, and about a centre of 0 quantization is symmetric.
 -- Assumes nothing.
-use Prim.Native.Nat.{ℕ, _+_, _*_, _-_, _/_, _^_, _≤_, _<_, min}
+use Prim.Native.Nat.{ℕ, _+_, _*_, _-_, _/_, _^_, _≤_}
 use mathlib.Core.Bool.{Bool, not}
-use mathlib.Core.Path.{_≡_, refl, sym, ap, _∙_}
+use mathlib.Core.Path.{_≡_, sym, ap, _∙_}
 use native.Mathlib.Nat.{zero-mul}
 use native.Mathlib.Omega.{arith}
 use lib.Arith.{digits-div}
 use lib.Pow.{pow-pos}
-use lib.IntN.{ℤ, pos, negℤ, natAbs, _+ℤ_, _-ℤ_, _*ℤ_, +ℤ-negℤ-cancel, +ℤ-idr}
+use lib.IntN.{ℤ, pos, negℤ, natAbs, _+ℤ_, _*ℤ_, +ℤ-negℤ-cancel, +ℤ-idr}
 use Rattle.grid.specs.Grid.{step, number, Ordinal, Codable, negative, signed, nearestOrdinal, ordinalOf, quantize}
 use Rattle.grid.proofs.Signs.{signed-parts, signed-times, negative-signed, keep-sign}
 

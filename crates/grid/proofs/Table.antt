@@ -4,7 +4,7 @@ use Prim.Native.Nat.{ℕ, _≤_}
 use mathlib.Core.Bool.{Bool, true, false}
 use native.Mathlib.Omega.{arith}
 use lib.Dec.{ltb, eqb}
-use lib.IntN.{ℤ, pos, negℤ}
+use lib.IntN.{ℤ, negℤ}
 use mathlib.Core.Path.{_≡_}
 use Rattle.laws.specs.Refusal.{choose, either}
 use Rattle.grid.specs.Grid.{translational, absBits, precBits, centre, Row, Codable, ordinalOf, quantized}

@@ -1,10 +1,9 @@
 -- The grid number of a binary64: its product with 65536, rounded half away from zero, held to the i32 range, 0 for not-a-number.
 -- Assumes nothing.
-use Prim.Native.Nat.{ℕ, _+_, _-_, _*_, _/_, _^_, min}
+use Prim.Native.Nat.{ℕ, _+_, _-_, _*_, _/_, min}
 use mathlib.Core.Bool.{Bool, true, false}
 use lib.IntN.{ℤ, pos, negℤ}
 use lib.Ieee.{Float, nan, inf, fin, binary64, up, down, ofBits}
-use Rattle.laws.specs.Refusal.{choose}
 use Rattle.laws.specs.Binary64.{_⊗_}
 
 -- 65536.0, one at 16 fraction bits

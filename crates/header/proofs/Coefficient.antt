@@ -1,21 +1,20 @@
 -- A coefficient that was written is read back, takes exactly its bits, and a coefficient read is codable.
 -- Assumes nothing.
-use Prim.Native.Nat.{ℕ, suc, _+_, _-_, _*_, _^_, _≤_, _<_}
+use Prim.Native.Nat.{ℕ, _-_, _*_, _≤_, _<_}
 use mathlib.Core.Bool.{false}
-use mathlib.Core.List.{List}
-use mathlib.Core.Path.{_≡_, refl, ap, sym, subst, _∙_}
+use mathlib.Core.Path.{_≡_, ap, _∙_}
 use native.Mathlib.Omega.{arith}
 use lib.IntN.{ℤ}
 use lib.ListN.{length}
-use Rattle.bits.specs.Bits.{Holds, AreBits}
+use Rattle.bits.proofs.Held.{Holds, AreBits}
 use Rattle.bits.specs.Ns.{Taken}
 use Rattle.subexp.specs.Coefficient.{symbol, symbolBits}
-use Rattle.subexp.proofs.Coefficient.{symbol-read, symbol-within, symbol-again, symbol-all, symbolBits-are-bits, four-bits-at-least, twice-absBits-less-one-at-most}
+use Rattle.subexp.proofs.Coefficient.{symbol-read, symbol-within, symbolBits-are-bits, four-bits-at-least, twice-absBits-less-one-at-most}
 use Rattle.grid.specs.Grid.{absBits, precBits, centre, Codable}
-use Rattle.grid.specs.Symbols.{symbols, symbolOf, numberOf, priorOut}
-use Rattle.grid.proofs.Symbols.{symbol-below, symbol-stands, number-codable, number-symbol, row-place-below}
+use Rattle.grid.specs.Symbols.{symbols, symbolOf, numberOf, place, priorOut}
+use Rattle.grid.proofs.Symbols.{symbol-below, symbol-stands, number-codable, row-place-below}
 use Rattle.grid.proofs.Table.{absBits-range}
-use Rattle.header.specs.Coefficient.{ReadNumber, place, coefficient, coefficientBits}
+use Rattle.header.specs.Coefficient.{coefficient, coefficientBits}
 
 module _ (gmType flag slot : ℕ) where
   abs : ℕ
@@ -40,7 +39,8 @@ module _ (gmType flag slot : ℕ) where
   pub at-most-its-bits : (z q : ℤ) → length (coefficientBits gmType flag slot z q) ≤ 2 * absBits gmType flag slot - 1
   unfolding coefficientBits
   at-most-its-bits z q =
-      twice-absBits-less-one-at-most (absBits gmType flag slot) (place gmType flag slot q) (symbolOf (absBits gmType flag slot) (precBits gmType flag slot) (centre slot) z) (absBits-range gmType flag slot .0)
+      twice-absBits-less-one-at-most (absBits gmType flag slot) (place gmType flag slot q) (symbolOf (absBits gmType flag slot) (precBits gmType flag slot) (centre slot) z)
+      (absBits-range gmType flag slot .0)
 
   pub at-most-23-bits : (z q : ℤ) → length (coefficientBits gmType flag slot z q) ≤ 23
   at-most-23-bits z q = omega (arith, at-most-its-bits z q, absBits-range gmType flag slot .1)

@@ -1,31 +1,33 @@
 -- What was written is read back: the same models and the same count, at the start where it was written; and how long a header is at most.
 -- Assumes nothing.
-use Prim.Native.Nat.{ℕ, zero, suc, _+_, _-_, _*_, _/_, _%_, _≤_, _<_}
+use Prim.Native.Nat.{ℕ, zero, suc, _+_, _-_, _*_, _%_, _≤_, _<_}
 use mathlib.Core.Bool.{Bool, true, false, not}
-use mathlib.Core.List.{List, [], _∷_, _++_}
+use mathlib.Core.List.{List, _∷_, _++_}
 use mathlib.Core.Path.{_≡_, refl, ap, sym, subst, _∙_}
 use native.Mathlib.Numerals.{add-one}
 use native.Mathlib.Omega.{arith}
 use borrow.Author.Tests.{ltb-false}
-use lib.Dec.{lit<, lit≤}
+use lib.Dec.{lit≤}
 use lib.IntN.{ℤ, pos}
 use lib.ListN.{length, getD, take, drop, length-append}
 use lib.Seq.{take-all, take-add, drop-cons, drop-drop}
 use Rattle.laws.specs.Refusal.{choose}
 use Rattle.laws.proofs.Below.{each-fails}
-use Rattle.bits.specs.Bits.{Holds, AreBits, bitAt, putBits}
+use Rattle.bits.specs.Bits.{bitAt}
+use Rattle.bits.proofs.Held.{Holds, AreBits}
 use Rattle.bits.specs.Fields.{padBits, padding}
 use Rattle.bits.proofs.Buffer.{bitAt-lt, holds-front, holds-back, bits-append, putBits-holds}
-use Rattle.bits.proofs.Fields.{fieldBits-are-bits, length-fieldBits, padding-lt}
+use Rattle.bits.proofs.Fields.{fieldBits-are-bits, length-fieldBits}
 use Rattle.grid.specs.Grid.{absBits, precBits, centre, Codable, quantized}
 use Rattle.grid.proofs.Table.{row-codable}
-use Rattle.legal.specs.Integers.{equal}
-use Rattle.legal.specs.Models.{carries, filler, slotWrong, slotAt, modelWrong, modelAt, modelsWrong, priorAt, priorsOut, typeAt, typesOver}
-use Rattle.legal.proofs.Integers.{same-equal}
-use Rattle.header.specs.Reading.{ReadModel, ReadModels, referenceRead, referencesRead, modelsRead}
-use Rattle.header.specs.Valid.{ValidModel, ValidPrior, sixOf}
-use Rattle.header.specs.Writing.{slotOf, referenceBits, referencesBits, headerBits, placed, bytesFor}
+use Rattle.models.specs.Integers.{equal}
+use Rattle.models.specs.Models.{carries, filler, slotWrong, slotAt, modelWrong, modelAt, modelsWrong, priorAt, priorsOut, typeAt, typesOver}
+use Rattle.models.proofs.Integers.{same-equal}
+use Rattle.header.specs.Reading.{referenceRead, referencesRead, modelsRead}
+use Rattle.header.specs.Inner.{ValidPrior, ModelReady, HeaderReady}
+use Rattle.header.specs.Writing.{slotOf, referenceBits, referencesBits, headerBits, bitsPlaced, bytesFor}
 use Rattle.header.proofs.Reference.{reference-back, reference-bits, at-most-141-bits}
+use Rattle.header.proofs.Valid.{ValidModel, sixOf}
 
 -- ---- what the refusals leave
 
@@ -34,6 +36,11 @@ right true e = refl
 right false e = sym e
 
 module _ (types : List ℕ) (flag : ℕ) (ps : List ℤ) (r : ℕ) where
+  abbrev rightNumber : ℕ → ℤ
+  rightNumber slot =
+      choose (carries (getD types r 0) slot) (quantized (getD types r 0) flag slot (slotOf ps (6 * r) slot))
+      (filler (getD types r 0) slot (slotOf ps (6 * r) 2) (slotOf ps (6 * r) 3))
+
   pub valid-model : r < length types → typesOver types ≡ false → modelsWrong types flag ps ≡ false → ValidModel (getD types r 0) flag ps (6 * r)
   unfolding typesOver modelsWrong modelWrong slotWrong
   valid-model h known wrong =
@@ -45,11 +52,10 @@ module _ (types : List ℕ) (flag : ℕ) (ps : List ℤ) (r : ℕ) where
         filled = λ slot l c. rw c at (own slot l);
       }
     where
-      own : (slot : ℕ) → slot < 6 → slotOf ps (6 * r) slot ≡ choose (carries (getD types r 0) slot) (quantized (getD types r 0) flag slot (slotOf ps (6 * r) slot)) (filler (getD types r 0) slot (slotOf ps (6 * r) 2) (slotOf ps (6 * r) 3))
+      own : (slot : ℕ) → slot < 6 → slotOf ps (6 * r) slot ≡ rightNumber slot
       own slot l =
           let e : slotAt (getD types r 0) flag ps (6 * r) slot ≡ false = each-fails (slotAt (getD types r 0) flag ps (6 * r)) 6 (each-fails (modelAt types flag ps) (length types) wrong r h) slot l in
-          same-equal (slotOf ps (6 * r) slot) (choose (carries (getD types r 0) slot) (quantized (getD types r 0) flag slot (slotOf ps (6 * r) slot)) (filler (getD types r 0) slot (slotOf ps (6 * r) 2) (slotOf ps (6 * r) 3)))
-          (right (equal (slotOf ps (6 * r) slot) (choose (carries (getD types r 0) slot) (quantized (getD types r 0) flag slot (slotOf ps (6 * r) slot)) (filler (getD types r 0) slot (slotOf ps (6 * r) 2) (slotOf ps (6 * r) 3)))) e)
+          same-equal (slotOf ps (6 * r) slot) (rightNumber slot) (right (equal (slotOf ps (6 * r) slot) (rightNumber slot)) e)
 
 pub valid-prior : (qs : List ℤ) (r : ℕ) → 6 * r + 6 ≤ length qs → priorsOut qs ≡ false → ValidPrior qs (6 * r)
 unfolding priorsOut
@@ -58,6 +64,15 @@ valid-prior qs r h e =
       within = λ slot l.
           let m : (6 * r + slot) % 6 ≡ slot = omega arith in
           rw m at (each-fails (priorAt qs) (length qs) e (6 * r + slot) (omega arith));
+    }
+
+-- what a function of one model asks, from what one of all asks
+pub model-ready : (types : List ℕ) (ps qs : List ℤ) (r : ℕ) → HeaderReady types ps qs → r < 7 → ModelReady ps qs (6 * r)
+model-ready types ps qs r h l =
+    record {
+      numbers = omega (arith, h .all .numbers);
+      places = omega (arith, h .all .places);
+      priors = valid-prior qs r (omega (arith, h .all .places)) (h .within);
     }
 
 -- ---- seven references
@@ -112,9 +127,12 @@ module _ (flag : ℕ) (types : List ℕ) (ps qs : List ℤ) where
   unfolding headerBits
   header-bits = references-bits 7 0
 
-  -- 124 bytes suffice
+  -- 124 bytes suffice from bit 0 on, 125 from any bit of the first byte
   pub at-most-124-bytes : bytesFor 0 (length (headerBits types ps flag qs)) ≤ 124
   at-most-124-bytes = omega (arith, at-most-987-bits)
+
+  pub at-most-125-bytes : (start : ℕ) → start < 8 → bytesFor start (length (headerBits types ps flag qs)) ≤ 125
+  at-most-125-bytes start h = omega (arith, at-most-987-bits)
 
 -- the refusals of a writing call that don't hold
 pub record Writable (types : List ℕ) (ps : List ℤ) (flag : ℕ) (qs : List ℤ) : Type 0 where
@@ -136,7 +154,8 @@ module _ (types : List ℕ) (ps : List ℤ) (flag : ℕ) (qs : List ℤ) (w : Wr
       let xs : List ℕ = referenceBits flag ps qs (getD types r 0) (6 * r) in
       let ys : List ℕ = referencesBits flag ps qs types n (r + 1) in
       let m : referenceRead g flag qs (6 * r) j ≡ record { gmType = getD types r 0; six = sixOf ps (6 * r); bits = length xs } =
-      reference-back g bits flag ps qs (6 * r) (valid-prior qs r (omega arith) (w .within)) (getD types r 0) j (valid-model types flag ps r (omega arith) (w .known) (w .right)) (holds-front g j xs ys h) in
+      reference-back g bits flag ps qs (6 * r) (valid-prior qs r (omega arith) (w .within)) (getD types r 0) j
+      (valid-model types flag ps r (omega arith) (w .known) (w .right)) (holds-front g j xs ys h) in
       let rest : referencesRead g flag qs n (r + 1) (j + length xs) ≡ record { types = take n (drop (r + 1) types); params = take (6 * n) (drop (6 * (r + 1)) ps); bits = length ys } =
       references-back g bits n (r + 1) (j + length xs) (omega arith) (holds-back g j xs ys h) in
       rw (m, rest, length-append xs ys, six-more ps n r (omega arith), one-more types n r (omega arith))
@@ -151,11 +170,11 @@ module _ (types : List ℕ) (ps : List ℤ) (flag : ℕ) (qs : List ℤ) (w : Wr
 
   -- written from `start` on, then read there: the same models and the same count
   pub round-trip : (start : ℕ) (old : List ℕ) → bytesFor start (length (headerBits types ps flag qs)) ≤ length old
-      → modelsRead (placed start (headerBits types ps flag qs) old) start flag qs ≡ record { types = types; params = ps; bits = length (headerBits types ps flag qs) }
+      → modelsRead (bitsPlaced start (headerBits types ps flag qs) old) start flag qs ≡ record { types = types; params = ps; bits = length (headerBits types ps flag qs) }
   round-trip start old room =
       let xs : List ℕ = headerBits types ps flag qs in
       let pad : List ℕ = padBits (start + length xs) in
-      read-back (placed start xs old) start
-      (holds-front (bitAt (placed start xs old)) start xs pad
+      read-back (bitsPlaced start xs old) start
+      (holds-front (bitAt (bitsPlaced start xs old)) start xs pad
       (putBits-holds old start (xs ++ pad) (bits-append xs pad (header-bits flag types ps qs) (fieldBits-are-bits (padding (start + length xs)) 0))
       (omega (arith, length-append xs pad, length-fieldBits (padding (start + length xs)) 0))))

@@ -1,20 +1,16 @@
 -- One coefficient of a model in the header: its bits, and what is read. Document 01, 'Header' and 'Reading by the standard'; clause 5.9.25.
 -- Assumes nothing.
-use Prim.Native.Nat.{ℕ, _+_}
+use Prim.Native.Nat.{ℕ}
 use mathlib.Core.List.{List}
 use lib.IntN.{ℤ}
 use Rattle.subexp.specs.Coefficient.{symbol, symbolBits}
 use Rattle.grid.specs.Grid.{absBits, precBits, centre}
-use Rattle.grid.specs.Symbols.{symbols, symbolOf, numberOf, placeOf}
+use Rattle.grid.specs.Symbols.{symbols, symbolOf, numberOf, place}
 
 -- a number read, and how many bits were taken
 pub record ReadNumber : Type 0 where
   pub value : ℤ
   pub bits : ℕ
-
--- the place of the prior q among the slot's symbols
-abbrev pub place : ℕ → ℕ → ℕ → ℤ → ℕ
-place gmType flag slot q = placeOf (absBits gmType flag slot) (precBits gmType flag slot) slot q
 
 -- the bits of the number z
 unfoldable pub coefficientBits : ℕ → ℕ → ℕ → ℤ → ℤ → List ℕ

@@ -1,15 +1,12 @@
 -- The fit of a type 1 to 3 over a list in range: the call answers it, its refusal is 0 or 6, and unless refused it is of that type, so that the grid accepts it.
 -- Assumes nothing.
-use Prim.Native.Nat.{ℕ, zero, suc, _≤_, _<_}
-use mathlib.Core.Bool.{Bool, true, false}
-use mathlib.Core.List.{List, [], _∷_}
+use Prim.Native.Nat.{ℕ, zero, suc, _≤_}
+use mathlib.Core.List.{List}
 use mathlib.Core.Logic.{_⊎_, inl, inr}
-use mathlib.Core.Path.{_≡_, refl, sym, ap, _∙_}
+use mathlib.Core.Path.{_≡_, refl, _∙_}
 use native.Mathlib.Omega.{arith}
-use borrow.Author.Tests.{lt-ltb, le-ltb, ne-eqb}
-use lib.Dec.{eqb, ltb}
+use borrow.Author.Tests.{le-ltb, ne-eqb}
 use lib.ListN.{length}
-use Rattle.laws.specs.Refusal.{row, judge, choose}
 use Rattle.laws.specs.Binary64.{_⊕_, one}
 use Rattle.solve.specs.declared.Outcome.{Outcome}
 use Rattle.solve.specs.declared.Outcome.the-variants.{Solved, Singular}
@@ -17,10 +14,10 @@ use Rattle.solve.specs.declared.Solution.{Solution}
 use Rattle.solve.specs.Elimination.{unlessSingular}
 use Rattle.solve.specs.Solution.{solved, numberOf}
 use Rattle.fit.specs.declared.Fitted.{Fitted}
-use Rattle.fit.specs.declared.Fitted.the-variants.{Refused, Translation, RotZoom, Affine}
-use Rattle.fit.specs.Fitted.{fitOf, fitted, fitRefusal, refusalOf, typeOf, translationFit, rotZoomFit, affineFit, rotZoomOf, affineOf, rotZoomSystem, affineU, affineV, at}
+use Rattle.fit.specs.declared.Fitted.the-variants.{Refused, RotZoom, Affine}
+use Rattle.fit.specs.Fitted.{fitOf, fitted, refusalOf, typeOf, translationFit, rotZoomFit, affineFit, rotZoomOf, affineOf, rotZoomSystem, affineU, affineV, at}
 use Rattle.fit.specs.Sums.{countOf, rotZoomSums, affineSums}
-use Rattle.quantize.specs.Quantize.{params, quantizedModel, quantizeRefusal}
+use Rattle.quantize.specs.Quantize.{params, quantizedModel}
 use Rattle.quantize.proofs.Accepted.{refusal-is, accepted-params}
 
 -- what a fit of a type may answer: refused with 6, or a model of that type

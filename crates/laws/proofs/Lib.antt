@@ -1,11 +1,13 @@
 pub mod Loops
 pub mod Refusal
+pub mod Call
 pub mod Buffer
 pub mod Fold
 pub mod Cases
 pub mod Products
 pub mod Signed
 pub mod Placed
+pub mod Filling
 pub mod Parts
 pub mod Floor
 pub mod Below

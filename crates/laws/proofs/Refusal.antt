@@ -1,25 +1,58 @@
 -- A chain of tests in code answers as the table does: pass over a row that doesn't hold, stop at one that does.
 -- Assumes nothing.
-use Prim.Native.Nat.{ℕ, _<_}
+use Prim.Native.Nat.{ℕ, zero, suc, _<_}
 use mathlib.Core.Bool.{Bool, true, false, not}
-use mathlib.Core.List.{List, [], _∷_}
-use mathlib.Core.Path.{_≡_, refl, ap, subst, sym}
+use mathlib.Core.List.{List, [], _∷_, _++_}
+use mathlib.Core.Path.{_≡_, refl}
 use native.Mathlib.Omega.{arith}
 use borrow.Author.Tests.{eqb-true, not-false}
 use lib.Dec.{T, ltb, eqb, ltb→lt}
-use Rattle.laws.specs.Refusal.{Row, row, choose, judge, either, both, any, Quiet, numbered}
+use Rattle.laws.specs.Refusal.{Row, row, choose, judge, orElse, either, both}
 
-pub judge-skip : (n : ℕ) (b : Bool) (rs : List Row) → b ≡ false → judge (row n b ∷ rs) ≡ judge rs
-judge-skip n b rs e = rw e
+-- no row holds
+abbrev pub Quiet : List Row → Type 0
+Quiet [] = Unit {0}
+Quiet (r ∷ rs) = (r .holds ≡ false) × Quiet rs
+
+-- no row has the number 0
+abbrev pub numbered : List Row → Bool
+numbered [] = true
+numbered (r ∷ rs) = both (ltb 0 (r .number)) (numbered rs)
 
 pub judge-hit : (n : ℕ) (b : Bool) (rs : List Row) → b ≡ true → judge (row n b ∷ rs) ≡ n
 judge-hit n b rs e = rw e
 
-pub any-skip : {A : Type 0} (p : A → Bool) (x : A) (xs : List A) → p x ≡ false → any p (x ∷ xs) ≡ any p xs
-any-skip p x xs e = rw e
+pub both-left : (a b : Bool) → T (both a b) → T a
+both-left true b t = tt
+both-left false b t = t
 
-pub any-hit : {A : Type 0} (p : A → Bool) (x : A) (xs : List A) → p x ≡ true → any p (x ∷ xs) ≡ true
-any-hit p x xs e = rw e
+pub both-right : (a b : Bool) → T (both a b) → T b
+both-right true b t = t
+both-right false b t = absurd t
+
+pub or-else-refused : (a b : ℕ) → (a ≡ 0 → ⊥) → a ≡ orElse a b
+or-else-refused zero b h = absurd (h refl)
+or-else-refused (suc a) b h = refl
+
+pub or-else-none : (a b : ℕ) → a ≡ 0 → b ≡ orElse a b
+or-else-none a b e = rw e
+
+-- the answer 0 says that neither group refuses
+pub or-else-quiet : (a b : ℕ) → orElse a b ≡ 0 → (a ≡ 0) × (b ≡ 0)
+or-else-quiet zero b e = (refl, e)
+or-else-quiet (suc a) b e = absurd (omega arith)
+
+row-first : (n : ℕ) (b : Bool) (x y : ℕ) → 0 < n → choose b n (orElse x y) ≡ orElse (choose b n x) y
+row-first zero b x y h = absurd (omega arith)
+row-first (suc n) true x y h = refl
+row-first (suc n) false x y h = refl
+
+-- a table is its groups, one after the other
+pub judge-groups : (rs qs : List Row) → T (numbered rs) → judge (rs ++ qs) ≡ orElse (judge rs) (judge qs)
+judge-groups [] qs t = refl
+judge-groups (r ∷ rs) qs t =
+    rw (judge-groups rs qs (both-right (ltb 0 (r .number)) (numbered rs) t))
+    (row-first (r .number) (r .holds) (judge rs) (judge qs) (ltb→lt 0 (r .number) (both-left (ltb 0 (r .number)) (numbered rs) t)))
 
 -- of two conditions neither holds
 pub neither : (a b : Bool) → either a b ≡ false → (a ≡ false) × (b ≡ false)
@@ -30,14 +63,6 @@ neither false b e = (refl, e)
 -- a length that row 2 lets pass
 pub length-is : (n m : ℕ) → not (eqb n m) ≡ false → n ≡ m
 length-is n m e = eqb-true n m (not-false (eqb n m) e)
-
-both-left : (a b : Bool) → T (both a b) → T a
-both-left true b t = tt
-both-left false b t = t
-
-both-right : (a b : Bool) → T (both a b) → T b
-both-right true b t = t
-both-right false b t = absurd t
 
 silent : (n : ℕ) (b : Bool) (m : ℕ) → 0 < n → choose b n m ≡ 0 → (b ≡ false) × (m ≡ 0)
 silent n true m h e = absurd (omega arith)

@@ -1,10 +1,8 @@
 -- The table of refusals: rows of a number and a condition, of which the first that holds is the answer, 0 for none.
 -- Assumes nothing.
-use Prim.Native.Nat.{ℕ}
+use Prim.Native.Nat.{ℕ, zero, suc}
 use mathlib.Core.Bool.{Bool, true, false}
 use mathlib.Core.List.{List, [], _∷_}
-use mathlib.Core.Path.{_≡_}
-use lib.Dec.{ltb}
 
 pub record Row : Type 0 where
   pub number : ℕ
@@ -22,6 +20,11 @@ abbrev pub judge : List Row → ℕ
 judge [] = 0
 judge (r ∷ rs) = choose (r .holds) (r .number) (judge rs)
 
+-- the first refusal, or the second where the first is none: a table in groups of rows
+abbrev pub orElse : ℕ → ℕ → ℕ
+orElse zero b = b
+orElse (suc a) b = suc a
+
 abbrev pub either : Bool → Bool → Bool
 either true b = true
 either false b = b
@@ -34,13 +37,3 @@ both false b = false
 abbrev pub any : {A : Type 0} → (A → Bool) → List A → Bool
 any p [] = false
 any p (x ∷ xs) = either (p x) (any p xs)
-
--- no row holds
-abbrev pub Quiet : List Row → Type 0
-Quiet [] = Unit {0}
-Quiet (r ∷ rs) = (r .holds ≡ false) × Quiet rs
-
--- no row has the number 0
-abbrev pub numbered : List Row → Bool
-numbered [] = true
-numbered (r ∷ rs) = both (ltb 0 (r .number)) (numbered rs)

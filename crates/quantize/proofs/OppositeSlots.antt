@@ -1,12 +1,12 @@
 -- A rotation-zoom's slot 4, the negation of its quantized slot 3, is the nearest to the grid number of −[3]: both ends of the i32 range lie beyond the last codable number.
 -- Assumes nothing.
-use Prim.Native.Nat.{ℕ, _+_, _-_, _/_, min}
+use Prim.Native.Nat.{ℕ, _-_, min}
 use mathlib.Core.Bool.{Bool, true, false, not}
 use mathlib.Core.Logic.{⊎-elim}
-use mathlib.Core.Path.{_≡_, refl, sym, ap, _∙_}
+use mathlib.Core.Path.{_≡_, sym, ap, _∙_}
 use native.Mathlib.Nat.{add-zero}
 use native.Mathlib.Omega.{arith}
-use lib.IntN.{ℤ, pos, negℤ, natAbs, _-ℤ_, +ℤ-idr, negℤ-negℤ}
+use lib.IntN.{ℤ, pos, negℤ, negℤ-negℤ}
 use lib.Ieee.{Float, nan, binary64, neg}
 use Rattle.laws.specs.Binary64.{_⊗_}
 use Rattle.grid.specs.Grid.{quantize, quantized, nearestOrdinal}

@@ -1,10 +1,10 @@
 -- How a search ends: refused, with no samples, or with its buffers written.
 -- Assumes nothing.
-use Prim.Native.Nat.{ℕ, _<_}
+use Prim.Native.Nat.{ℕ}
 use mathlib.Core.List.{List}
-use mathlib.Core.Path.{_≡_, refl, sym, _∙_}
+use mathlib.Core.Path.{_≡_, _∙_}
 use native.Mathlib.Omega.{arith}
-use borrow.Author.Tests.{lt-ltb, le-ltb, eq-eqb, ne-eqb}
+use borrow.Author.Tests.{lt-ltb, le-ltb, ne-eqb}
 use Rattle.laws.specs.Buffer.{onto}
 use Rattle.plane.specs.Plane.{halfPlane}
 use Rattle.search.specs.Search.{sampleCount, sampleWords}
@@ -23,8 +23,8 @@ module _ (t : Task) (l : Lent) where
       record { answers = rw (e, z); buffers = rw (e, le-ltb 0 (sampleCount (t .width) (t .height)) (omega arith)) }
 
   pub done-some : refusal t l ≡ 0 → (sampleCount (t .width) (t .height) ≡ 0 → ⊥) → {a b c : List ℕ} →
-      a ≡ onto (halfPlane (t .input) (t .width) (t .height)) (l .input-half) →
-      b ≡ onto (halfPlane (t .ref) (t .width) (t .height)) (l .ref-half) →
+      a ≡ onto (halfPlane (t .input) (t .width) (t .height)) (l .inputHalf) →
+      b ≡ onto (halfPlane (t .ref) (t .width) (t .height)) (l .refHalf) →
       c ≡ onto (sampleWords (t .input) (t .ref) (t .width) (t .height) (t .classes)) (l .words) →
       Done t l (record { refusal = 0; samples = sampleCount (t .width) (t .height) }) (lent a b c)
   unfolding answer leaves

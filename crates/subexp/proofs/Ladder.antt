@@ -1,20 +1,20 @@
 -- The ladder: what was written is read back and takes its bits, what is read is a symbol whose bits are those that were read.
 -- Assumes nothing.
-use Prim.Native.Nat.{ℕ, zero, suc, _+_, _-_, _*_, _^_, _≤_, _<_}
-use mathlib.Core.List.{List, [], _∷_}
-use mathlib.Core.Path.{_≡_, refl, ap, sym, subst, _∙_}
+use Prim.Native.Nat.{ℕ, zero, suc, _+_, _-_, _≤_, _<_}
+use mathlib.Core.List.{_∷_}
+use mathlib.Core.Path.{_≡_, ap, sym, subst, _∙_}
 use native.Mathlib.Decide.{decLt, decLe, ℕ-discrete}
 use native.Mathlib.Omega.{arith}
 use borrow.Author.Tests.{lt-ltb, le-ltb, le-leb, lt-leb, eq-eqb, ne-eqb}
 use lib.Dec.{lit<}
 use lib.ListN.{length}
-use Rattle.bits.specs.Bits.{Holds, AreBits}
+use Rattle.bits.proofs.Held.{Holds, AreBits}
 use Rattle.bits.specs.Fields.{field, fieldBits}
 use Rattle.bits.specs.Ns.{Taken, ns, nsBits}
 use Rattle.bits.proofs.Fields.{length-fieldBits, fieldBits-are-bits, field-read, field-lt, field-again}
 use Rattle.bits.proofs.Ns.{ns-read, ns-lt, ns-again, ns-again-length, nsBits-are-bits}
-use Rattle.subexp.specs.Ladder.{stepAt, widthOf, raised, counted, climb, climbBits, subexp, subexpBits}
-use Rattle.subexp.specs.Rungs.{rungBits, rungStart, rungStep, reach}
+use Rattle.subexp.specs.Ladder.{raised, counted, climb, climbBits}
+use Rattle.subexp.specs.Inner.{rungBits, rungStart, rungStep, reach}
 use Rattle.subexp.proofs.Rungs.{step-is, width-is, next-start, step-pos}
 
 module _ (n S i : ℕ) where

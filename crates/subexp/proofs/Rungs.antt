@@ -1,15 +1,15 @@
 -- A rung's start and step are those of document 01's climb.
 -- Assumes nothing.
-use Prim.Native.Nat.{ℕ, zero, suc, _+_, _-_, _*_, _^_, _≤_, _<_}
-use mathlib.Core.Path.{_≡_, refl, ap, sym, _∙_}
+use Prim.Native.Nat.{ℕ, zero, suc, _+_, _-_, _^_, _≤_, _<_}
+use mathlib.Core.Path.{_≡_, refl, ap}
 use native.Mathlib.Decide.{decLe}
 use native.Mathlib.Nat.{pow-suc}
 use native.Mathlib.Omega.{arith}
 use borrow.Author.Tests.{ne-eqb}
 use lib.Pow.{pow-pos, pow-mono}
-use Rattle.bits.proofs.Ns.{bitLength-is}
+use Rattle.bits.proofs.BitLength.{bitLength-is}
 use Rattle.subexp.specs.Ladder.{stepAt, widthOf}
-use Rattle.subexp.specs.Rungs.{rungBits, rungStart, rungStep}
+use Rattle.subexp.specs.Inner.{rungBits, rungStart, rungStep}
 
 pub step-is : (i : ℕ) → stepAt (rungStart i) ≡ rungStep i
 step-is zero = refl

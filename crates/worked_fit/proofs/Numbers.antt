@@ -1,7 +1,7 @@
 -- Which floats and which bit patterns are no not-a-numbers.
 -- Assumes nothing.
 use Prim.Native.Nat.{ℕ, _%_, _≤_}
-use mathlib.Core.Bool.{true, false, not}
+use mathlib.Core.Bool.{false, not}
 use mathlib.Core.Path.{_≡_, sym, _∙_, subst}
 use borrow.Author.Tests.{le-ltb}
 use lib.Dec.{T}

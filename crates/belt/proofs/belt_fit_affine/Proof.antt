@@ -1,17 +1,11 @@
--- `belt::belt_fit_affine` meets its contract: the fit's answer in numbers.
+-- `belt::belt_fit_affine`: the affine fit's answer, given in numbers.
 -- Assumes nothing.
 use borrow.Author.Needs.{needs}
 use Rattle.belt.proofs.belt_fit_affine.Statement.{statement}
 use Rattle.belt.proofs.belt_fit_affine.Tie as tie
 
-fit-affine-requires : tie.Need-fit-affine-requires
-fit-affine-requires c κs = search needs
-
-numbers-of-requires : tie.Need-numbers-of-requires
-numbers-of-requires c κs = search needs
-
 returns : tie.Need-returns
 returns c = rw (← c .before .fit-affine .ensures) (c .numbers-of .ensures)
 
 pub belt-fit-affine-spec : {M : Type 1} → statement M
-belt-fit-affine-spec = tie.close (tie.spec fit-affine-requires numbers-of-requires returns)
+belt-fit-affine-spec = tie.close (tie.spec (search needs) (search needs) returns)

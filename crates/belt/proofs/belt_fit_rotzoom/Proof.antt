@@ -1,17 +1,11 @@
--- `belt::belt_fit_rotzoom` meets its contract: the fit's answer in numbers.
+-- `belt::belt_fit_rotzoom`: the rotation-zoom fit's answer, given in numbers.
 -- Assumes nothing.
 use borrow.Author.Needs.{needs}
 use Rattle.belt.proofs.belt_fit_rotzoom.Statement.{statement}
 use Rattle.belt.proofs.belt_fit_rotzoom.Tie as tie
 
-fit-rotzoom-requires : tie.Need-fit-rotzoom-requires
-fit-rotzoom-requires c κs = search needs
-
-numbers-of-requires : tie.Need-numbers-of-requires
-numbers-of-requires c κs = search needs
-
 returns : tie.Need-returns
 returns c = rw (← c .before .fit-rotzoom .ensures) (c .numbers-of .ensures)
 
 pub belt-fit-rotzoom-spec : {M : Type 1} → statement M
-belt-fit-rotzoom-spec = tie.close (tie.spec fit-rotzoom-requires numbers-of-requires returns)
+belt-fit-rotzoom-spec = tie.close (tie.spec (search needs) (search needs) returns)

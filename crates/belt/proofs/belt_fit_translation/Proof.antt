@@ -1,17 +1,11 @@
--- `belt::belt_fit_translation` meets its contract: the fit's answer in numbers.
+-- `belt::belt_fit_translation`: the translation fit's answer, given in numbers.
 -- Assumes nothing.
 use borrow.Author.Needs.{needs}
 use Rattle.belt.proofs.belt_fit_translation.Statement.{statement}
 use Rattle.belt.proofs.belt_fit_translation.Tie as tie
 
-fit-translation-requires : tie.Need-fit-translation-requires
-fit-translation-requires c κs = search needs
-
-numbers-of-requires : tie.Need-numbers-of-requires
-numbers-of-requires c κs = search needs
-
 returns : tie.Need-returns
 returns c = rw (← c .before .fit-translation .ensures) (c .numbers-of .ensures)
 
 pub belt-fit-translation-spec : {M : Type 1} → statement M
-belt-fit-translation-spec = tie.close (tie.spec fit-translation-requires numbers-of-requires returns)
+belt-fit-translation-spec = tie.close (tie.spec (search needs) (search needs) returns)

@@ -1,20 +1,8 @@
--- `belt::numbers_of` meets its contract: by cases on the fitted model.
+-- `belt::numbers_of`: each case of a fit gives its own numbers, and zeros behind them.
 -- Assumes nothing.
 use borrow.Author.Needs.{needs}
 use Rattle.belt.proofs.numbers_of.Statement.{statement}
 use Rattle.belt.proofs.numbers_of.Tie as tie
-
-enum-known-fitted : tie.Need-enum-known-fitted
-enum-known-fitted c = search needs
-
-enum-known-fitted-2 : tie.Need-enum-known-fitted-2
-enum-known-fitted-2 c = search needs
-
-enum-known-fitted-3 : tie.Need-enum-known-fitted-3
-enum-known-fitted-3 c = search needs
-
-enum-known-fitted-4 : tie.Need-enum-known-fitted-4
-enum-known-fitted-4 c = search needs
 
 returns : tie.Need-returns
 returns c = rw (c .before .fitted .given .1)
@@ -32,10 +20,10 @@ pub numbers-of-spec : {M : Type 1} → statement M
 numbers-of-spec =
     tie.close
     (tie.spec
-    enum-known-fitted
-    enum-known-fitted-2
-    enum-known-fitted-3
-    enum-known-fitted-4
+    (search needs)
+    (search needs)
+    (search needs)
+    (search needs)
     returns
     returns-2
     returns-3

@@ -1,12 +1,12 @@
--- `bits::bit_length` meets its contract. Assumes nothing.
+-- `bits::bit_length`: each halving takes one bit off, and nothing is left at 0. Assumes nothing.
 use borrow.Author.Needs.{needs}
 use Rattle.bits.proofs.bit_length.Statement.{statement}
 use Rattle.bits.proofs.bit_length.Tie as tie
-use Prim.Native.Nat.{ℕ, _+_, _≤_, _<_}
+use Prim.Native.Nat.{_+_, _≤_}
 use mathlib.Core.Path.{_≡_, ap}
 use native.Mathlib.Omega.{arith}
 use Rattle.bits.specs.Ns.{bitLength}
-use Rattle.bits.proofs.Ns.{bitLength-step, bitLength-zero, bitLength-le}
+use Rattle.bits.proofs.BitLength.{bitLength-step, bitLength-zero, bitLength-le}
 
 abbrev Inv-loop : tie.InvT-loop
 Inv-loop n x₀ count₀ x count = (count + bitLength x ≡ bitLength n) × (x ≤ n)
@@ -20,9 +20,6 @@ loop-holds c = omega arith
 add-count : tie.Need-add-count Inv-loop μ-loop
 add-count c = omega (arith, bitLength-le (c .before .before .args .n) 32 (omega arith))
 
-loop-less : tie.Need-loop-less Inv-loop μ-loop
-loop-less c = search needs
-
 loop-again : tie.Need-loop-again Inv-loop μ-loop
 loop-again c = omega (arith, bitLength-step (c .before .loop .x) (omega arith))
 
@@ -31,4 +28,4 @@ returns c = omega (arith, bitLength-le (c .before .before .args .n) 32 (omega ar
 
 pub bit-length-spec : {M : Type 1} → statement M
 bit-length-spec =
-    tie.close (tie.spec Inv-loop μ-loop loop-holds add-count loop-less loop-again returns)
+    tie.close (tie.spec Inv-loop μ-loop loop-holds add-count (search needs) loop-again returns)

@@ -1,16 +1,10 @@
--- `bits::ns_length` meets its contract. Assumes nothing.
+-- `bits::ns_length`: the test on v is the definition's, and each arm's field has its width. Assumes nothing.
 use borrow.Author.Needs.{needs}
 use Rattle.bits.proofs.ns_length.Statement.{statement}
 use Rattle.bits.proofs.ns_length.Tie as tie
 use mathlib.Core.Path.{sym}
 use native.Mathlib.Omega.{arith}
 use Rattle.bits.proofs.Ns.{short-length, long-length}
-
-ns-width-requires : tie.Need-ns-width-requires
-ns-width-requires c κs = search needs
-
-sub-result : tie.Need-sub-result
-sub-result c = search needs
 
 returns : tie.Need-returns
 returns c =
@@ -25,4 +19,4 @@ returns-2 c =
     (sym (long-length (c .before .before .before .args .n) (c .before .before .before .args .v) (r .w) (r .m) (w .w) (w .m) (c .if1 .left)), w .most)
 
 pub ns-length-spec : {M : Type 1} → statement M
-ns-length-spec = tie.close (tie.spec ns-width-requires sub-result returns returns-2)
+ns-length-spec = tie.close (tie.spec (search needs) (search needs) returns returns-2)

@@ -1,16 +1,13 @@
--- `bits::ns_width` meets its contract. Assumes nothing.
+-- `bits::ns_width`: n lies below 2 ^ w and not below half of it, so m is what 2 ^ w has over n. Assumes nothing.
 use borrow.Author.Needs.{needs}
 use Rattle.bits.proofs.ns_width.Statement.{statement}
 use Rattle.bits.proofs.ns_width.Tie as tie
-use Prim.Native.Nat.{ℕ, _+_, _-_, _*_, _^_, _≤_, _<_}
+use Prim.Native.Nat.{ℕ, _-_, _^_, _≤_}
 use mathlib.Core.Path.{_≡_, ap, _∙_}
 use native.Mathlib.Omega.{arith}
 use lib.Pow.{pow-mono}
 use Rattle.bits.specs.Ns.{bitLength}
-use Rattle.bits.proofs.Ns.{bitLength-length, bitLength-le, bitLength-step}
-
-bit-length-requires : tie.Need-bit-length-requires
-bit-length-requires c κs = search needs
+use Rattle.bits.proofs.BitLength.{bitLength-length, bitLength-le, bitLength-step}
 
 power-requires : tie.Need-power-requires
 power-requires c κs = omega (arith, bitLength-le (c .before .args .n) 17 (omega arith))
@@ -31,4 +28,4 @@ returns c =
     }
 
 pub ns-width-spec : {M : Type 1} → statement M
-ns-width-spec = tie.close (tie.spec bit-length-requires power-requires sub-t4 returns)
+ns-width-spec = tie.close (tie.spec (search needs) power-requires sub-t4 returns)

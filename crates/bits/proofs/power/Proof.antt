@@ -1,4 +1,4 @@
--- `bits::power` meets its contract. Assumes nothing.
+-- `bits::power`: a one shifted by less than the width loses nothing. Assumes nothing.
 use borrow.Author.Needs.{needs}
 use Rattle.bits.proofs.power.Statement.{statement}
 use Rattle.bits.proofs.power.Tie as tie
@@ -9,11 +9,8 @@ use Prim.Native.Nat.{_^_}
 use lib.Dec.{lit<}
 use lib.Pow.{shl-exact}
 
-shl-result : tie.Need-shl-result
-shl-result c = search needs
-
 returns : tie.Need-returns
 returns c = shl-exact 1 (c .args .k) 32 (lit< tt) (omega arith) ∙ one-mul (2 ^ c .args .k)
 
 pub power-spec : {M : Type 1} → statement M
-power-spec = tie.close (tie.spec shl-result returns)
+power-spec = tie.close (tie.spec (search needs) returns)

@@ -1,9 +1,9 @@
--- `bits::with_bit` meets its contract: the old bit's weight is taken away, the new one's is added. Assumes nothing.
+-- `bits::with_bit`: the old bit's weight is taken away, the new one's is added. Assumes nothing.
 use borrow.Author.Needs.{needs}
 use Rattle.bits.proofs.with_bit.Statement.{statement}
 use Rattle.bits.proofs.with_bit.Tie as tie
 use Prim.Native.Nat.{ℕ, _+_, _-_, _*_, _^_, _≤_, _<_}
-use mathlib.Core.Path.{_≡_, refl, ap}
+use mathlib.Core.Path.{_≡_}
 use native.Mathlib.Nat.{mul-le-mul}
 use native.Mathlib.Omega.{arith}
 use lib.Pow.{pow-mono}
@@ -28,17 +28,10 @@ steps x k b y w o hx hk hb ey ew eo =
 
 at : (c : tie.After-bit-of) → Steps (c .before .before .wide .result) (c .before .before .before .args .k) (c .before .before .before .args .b) (c .before .power .result) (c .bit-of .result)
 at c =
-    steps (c .before .before .before .args .x) (c .before .before .before .args .k) (c .before .before .before .args .b) (c .before .before .wide .result) (c .before .power .result) (c .bit-of .result)
-    (omega arith) (omega arith) (omega arith) (c .before .before .wide .ensures) (c .before .power .ensures) (c .bit-of .ensures)
-
-wide-requires : tie.Need-wide-requires
-wide-requires c κs = search needs
-
-power-requires : tie.Need-power-requires
-power-requires c κs = search needs
-
-bit-of-requires : tie.Need-bit-of-requires
-bit-of-requires c κs = search needs
+    let a = c .before .before .before .args in
+    let wide = c .before .before .wide in
+    steps (a .x) (a .k) (a .b) (wide .result) (c .before .power .result) (c .bit-of .result)
+    (omega arith) (omega arith) (omega arith) (wide .ensures) (c .before .power .ensures) (c .bit-of .ensures)
 
 mul-without : tie.Need-mul-without
 mul-without c = omega (arith, at c .old, c .before .before .wide .ensures)
@@ -62,9 +55,9 @@ pub with-bit-spec : {M : Type 1} → statement M
 with-bit-spec =
     tie.close
     (tie.spec
-    wide-requires
-    power-requires
-    bit-of-requires
+    (search needs)
+    (search needs)
+    (search needs)
     mul-without
     sub-without
     mul-result

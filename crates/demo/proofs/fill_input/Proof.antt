@@ -1,4 +1,4 @@
--- `demo::fill_input` is safe and ends. Assumes nothing.
+-- `demo::fill_input`: each store keeps the plane's length, and the counter rises to it. Assumes nothing.
 use Prim.Native.Nat.{_≤_, _-_}
 use mathlib.Core.Path.{_≡_, refl}
 use native.Mathlib.Omega.{arith}
@@ -16,29 +16,8 @@ abbrev μ-loop : tie.MeasureT-loop
 loop-holds : tie.Need-loop-holds Inv-loop μ-loop
 loop-holds c = (omega arith, refl)
 
-input-pel-requires : tie.Need-input-pel-requires Inv-loop μ-loop
-input-pel-requires c κs = search needs
-
-mul-input : tie.Need-mul-input Inv-loop μ-loop
-mul-input c = search needs
-
-slice-write-input : tie.Need-slice-write-input Inv-loop μ-loop
-slice-write-input c = search needs
-
-add-i : tie.Need-add-i Inv-loop μ-loop
-add-i c = search needs
-
-loop-less : tie.Need-loop-less Inv-loop μ-loop
-loop-less c = search needs
-
 loop-again : tie.Need-loop-again Inv-loop μ-loop
 loop-again c = (search needs, simp length-set (search needs))
-
-same-length : tie.Need-same-length Inv-loop μ-loop
-same-length c = search needs
-
-returns : tie.Need-returns Inv-loop μ-loop
-returns c = search needs
 
 pub fill-input-spec : {M : Type 1} → statement M
 fill-input-spec =
@@ -47,11 +26,11 @@ fill-input-spec =
     Inv-loop
     μ-loop
     loop-holds
-    input-pel-requires
-    mul-input
-    slice-write-input
-    add-i
-    loop-less
+    (search needs)
+    (search needs)
+    (search needs)
+    (search needs)
+    (search needs)
     loop-again
-    same-length
-    returns)
+    (search needs)
+    (search needs))

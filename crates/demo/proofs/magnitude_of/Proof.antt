@@ -6,14 +6,8 @@ use Rattle.laws.proofs.Signed.{result-reads}
 use Rattle.demo.proofs.magnitude_of.Statement.{statement}
 use Rattle.demo.proofs.magnitude_of.Tie as tie
 
-from-centre-requires : tie.Need-from-centre-requires
-from-centre-requires c κs = search needs
-
 magnitude-requires : tie.Need-magnitude-requires
 magnitude-requires c κs = rw (result-reads w64 (c .from-centre .result) (c .from-centre .ok)) (c .from-centre .ensures .1)
 
-returns : tie.Need-returns
-returns c = search needs
-
 pub magnitude-of-spec : {M : Type 1} → statement M
-magnitude-of-spec = tie.close (tie.spec from-centre-requires magnitude-requires returns)
+magnitude-of-spec = tie.close (tie.spec (search needs) magnitude-requires (search needs))

@@ -1,19 +1,13 @@
--- `fit::translation_fit` meets its contract: the sums divided by the count.
+-- `fit::translation_fit`: each sum divided by the count.
 -- Assumes nothing.
 use Rattle.fit.specs.Fitted.{translationFit}
 use borrow.Author.Needs.{needs}
 use Rattle.fit.proofs.translation_fit.Statement.{statement}
 use Rattle.fit.proofs.translation_fit.Tie as tie
 
-count-of-requires : tie.Need-count-of-requires
-count-of-requires c κs = search needs
-
-translation-sums-requires : tie.Need-translation-sums-requires
-translation-sums-requires c κs = search needs
-
 returns : tie.Need-returns
 unfolding translationFit
 returns c = rw (← c .before .before .translation-sums .ensures, ← c .before .before .before .count-of .ensures)
 
 pub translation-fit-spec : {M : Type 1} → statement M
-translation-fit-spec = tie.close (tie.spec count-of-requires translation-sums-requires returns)
+translation-fit-spec = tie.close (tie.spec (search needs) (search needs) returns)

@@ -1,4 +1,4 @@
--- `from_middle` meets its contract: the product of an ordinal and the step is small.
+-- `from_middle`: a symbol's ordinal times the step is at most 2 ^ 22 either way, so the product fits.
 -- Assumes nothing.
 use Prim.Native.Nat.{ℕ, _^_, _≤_, _<_}
 use mathlib.Core.Path.{refl}
@@ -25,27 +25,15 @@ module _ (abs prec t : ℕ) (h : Row abs prec × (t < symbols abs)) where
   product-fits : SFits w64 ((pos t -ℤ pos (2 ^ abs)) *ℤ pos (step prec))
   product-fits = sfits-natAbs w64 ((pos t -ℤ pos (2 ^ abs)) *ℤ pos (step prec)) (omega (arith, small))
 
-power-of-two-requires : tie.Need-power-of-two-requires
-power-of-two-requires c κs = search needs
-
 cast-middle : tie.Need-cast-middle
 cast-middle c =
     rw (c .power-of-two .ensures)
     (record { sfits = omega (arith, middle-small (c .before .args .abs-bits) (c .before .args .prec-bits) (c .before .pre .0)) })
 
-sub-power-of-two : tie.Need-sub-power-of-two
-sub-power-of-two c = search needs
-
-power-of-two-requires-2 : tie.Need-power-of-two-requires-2
-power-of-two-requires-2 c κs = search needs
-
 cast-step : tie.Need-cast-step
 cast-step c =
     rw (c .power-of-two2 .ensures)
     (record { sfits = omega (arith, step-small (c .before .before .args .abs-bits) (c .before .before .args .prec-bits) (c .before .before .pre .0)) })
-
-cast-result : tie.Need-cast-result
-cast-result c = search needs
 
 sub-result : tie.Need-sub-result
 sub-result c =
@@ -85,4 +73,4 @@ returns c =
     (refl, small (e .args .abs-bits) (e .args .prec-bits) (e .args .symbol) (e .pre))
 
 pub from-middle-spec : {M : Type 1} → statement M
-from-middle-spec = tie.close (tie.spec power-of-two-requires cast-middle sub-power-of-two power-of-two-requires-2 cast-step cast-result sub-result mul-result returns)
+from-middle-spec = tie.close (tie.spec (search needs) cast-middle (search needs) (search needs) cast-step (search needs) sub-result mul-result returns)

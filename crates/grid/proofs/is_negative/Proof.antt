@@ -1,6 +1,5 @@
--- `is_negative` meets its contract: the test reads the number as it stands.
+-- `is_negative`: the test reads the number as it stands.
 -- Assumes nothing.
-use mir.Syntax.{w64}
 use mir.Facts.{toZ-ofZ}
 use Rattle.grid.proofs.Signs.{negative-test}
 use Rattle.grid.proofs.is_negative.Statement.{statement}

@@ -1,4 +1,4 @@
--- `lift` meets its contract: a magnitude is taken from the middle, or added to it.
+-- `lift`: by the sign the magnitude is taken from the middle or added to it, and neither wraps.
 -- Assumes nothing.
 use native.Mathlib.Omega.{arith}
 use native.Mathlib.Nat.{add-comm}
@@ -6,12 +6,6 @@ use borrow.Author.Needs.{needs}
 use Rattle.grid.proofs.Bounds.{taken-from}
 use Rattle.grid.proofs.lift.Statement.{statement}
 use Rattle.grid.proofs.lift.Tie as tie
-
-sub-result : tie.Need-sub-result
-sub-result c = search needs
-
-add-result : tie.Need-add-result
-add-result c = search needs
 
 returns : tie.Need-returns
 returns c =
@@ -23,4 +17,4 @@ returns-2 c =
     rw (c .if1 .left) (add-comm (c .before .args .middle) (c .before .args .size), omega (arith, c .before .pre .0, c .before .pre .1))
 
 pub lift-spec : {M : Type 1} → statement M
-lift-spec = tie.close (tie.spec sub-result add-result returns returns-2)
+lift-spec = tie.close (tie.spec (search needs) (search needs) returns returns-2)

@@ -1,4 +1,4 @@
--- `magnitude` meets its contract: a negative number is turned, and its magnitude fits.
+-- `magnitude`: a negative number is turned, and its magnitude fits.
 -- Assumes nothing.
 use Prim.Native.Nat.{ℕ, _<_, _^_}
 use mathlib.Core.Bool.{true, false}
@@ -27,9 +27,6 @@ kept : (z : ℤ) → negative z ≡ false → natAbs z < 2 ^ 62 → T (nonNeg z)
 kept (pos n) e h = (tt, record { fits = omega arith })
 kept (negsuc n) e h = absurd (let z : _≡_ {A = ℕ} 0 1 = cc in omega arith)
 
-is-negative-requires : tie.Need-is-negative-requires
-is-negative-requires c κs = search needs
-
 sub-result : tie.Need-sub-result
 sub-result c =
     let x = c .before .before .args .x in
@@ -53,8 +50,5 @@ returns c =
     let x = c .before .before .args .x in
     rw (toZ-ofZ (c .before .before .fits .x), +ℤ-idl (negℤ x), toZ-ofZ (turned-fits x (c .before .before .pre))) (natAbs-neg x)
 
-returns-2 : tie.Need-returns-2
-returns-2 c = search needs
-
 pub magnitude-spec : {M : Type 1} → statement M
-magnitude-spec = tie.close (tie.spec is-negative-requires sub-result cast-result cast-result-2 returns returns-2)
+magnitude-spec = tie.close (tie.spec (search needs) sub-result cast-result cast-result-2 returns (λ c. search needs))

@@ -1,4 +1,4 @@
--- `nearest_number` meets its contract: the bits and the centre are those of the slot.
+-- `nearest_number`: the bits and the centre are those of the slot.
 -- Assumes nothing.
 use borrow.Author.Needs.{needs}
 use mir.Syntax.{w32}
@@ -7,12 +7,6 @@ use Rattle.laws.proofs.Signed.{result-reads}
 use Rattle.grid.proofs.Table.{table-row, centre-le}
 use Rattle.grid.proofs.nearest_number.Statement.{statement}
 use Rattle.grid.proofs.nearest_number.Tie as tie
-
-global-param-bits-requires : tie.Need-global-param-bits-requires
-global-param-bits-requires c κs = search needs
-
-centre-of-requires : tie.Need-centre-of-requires
-centre-of-requires c κs = search needs
 
 snap-requires : tie.Need-snap-requires
 snap-requires c κs =
@@ -31,4 +25,4 @@ returns c =
     )
 
 pub nearest-number-spec : {M : Type 1} → statement M
-nearest-number-spec = tie.close (tie.spec global-param-bits-requires centre-of-requires snap-requires returns)
+nearest-number-spec = tie.close (tie.spec (search needs) (search needs) snap-requires returns)

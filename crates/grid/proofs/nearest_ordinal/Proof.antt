@@ -1,4 +1,4 @@
--- `nearest_ordinal` meets its contract: the powers are those of the definition, and the test takes the lesser.
+-- `nearest_ordinal`: the powers are those of the definition, and the test takes the lesser.
 -- Assumes nothing.
 use native.Mathlib.Omega.{arith}
 use borrow.Author.Needs.{needs}
@@ -6,18 +6,6 @@ use lib.Pow.{pow-pos}
 use Rattle.grid.specs.Grid.{nearestOrdinal}
 use Rattle.grid.proofs.nearest_ordinal.Statement.{statement}
 use Rattle.grid.proofs.nearest_ordinal.Tie as tie
-
-sub-power-of-two : tie.Need-sub-power-of-two
-sub-power-of-two c = search needs
-
-power-of-two-requires : tie.Need-power-of-two-requires
-power-of-two-requires c κs = search needs
-
-power-of-two-requires-2 : tie.Need-power-of-two-requires-2
-power-of-two-requires-2 c κs = search needs
-
-add-decoded : tie.Need-add-decoded
-add-decoded c = search needs
 
 div-decoded : tie.Need-div-decoded
 div-decoded c = rw (c .before .power-of-two .ensures) (pow-pos _)
@@ -31,4 +19,4 @@ unfolding nearestOrdinal
 returns-2 c = rw (← c .before .before .power-of-two .ensures, ← c .before .power-of-two2 .ensures) (omega arith)
 
 pub nearest-ordinal-spec : {M : Type 1} → statement M
-nearest-ordinal-spec = tie.close (tie.spec sub-power-of-two power-of-two-requires power-of-two-requires-2 add-decoded div-decoded returns returns-2)
+nearest-ordinal-spec = tie.close (tie.spec (search needs) (search needs) (search needs) (search needs) div-decoded returns returns-2)

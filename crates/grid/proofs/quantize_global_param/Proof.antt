@@ -1,4 +1,4 @@
--- `quantize_global_param` meets its contract: each refusal by the tests on its way, and the quantized number.
+-- `quantize_global_param`: each refusal is the first row whose test holds, and past them stands the nearest number.
 -- Assumes nothing.
 use borrow.Author.Needs.{needs}
 use borrow.Author.Tests.{lt-ltb, le-ltb}
@@ -9,31 +9,19 @@ use Rattle.grid.specs.Grid.{answer}
 use Rattle.grid.proofs.quantize_global_param.Statement.{statement}
 use Rattle.grid.proofs.quantize_global_param.Tie as tie
 
-refused-requires : tie.Need-refused-requires
-refused-requires c κs = search needs
-
 returns : tie.Need-returns
 unfolding answer
 returns c = rw (c .refused .ensures) (simp (lt-ltb _ _ (c .before .if1 .taken)))
 
-refused-requires-2 : tie.Need-refused-requires-2
-refused-requires-2 c κs = search needs
-
 returns-2 : tie.Need-returns-2
 unfolding answer
 returns-2 c = rw (c .refused2 .ensures) (simp (le-ltb _ _ (c .before .before .if1 .left), lt-ltb _ _ (c .before .if2 .taken)))
-
-refused-requires-3 : tie.Need-refused-requires-3
-refused-requires-3 c κs = search needs
 
 returns-3 : tie.Need-returns-3
 unfolding answer
 returns-3 c =
     rw (c .refused3 .ensures)
     (simp (le-ltb _ _ (c .before .before .before .if1 .left), le-ltb _ _ (c .before .before .if2 .left), lt-ltb _ _ (c .before .if3 .taken)))
-
-nearest-number-requires : tie.Need-nearest-number-requires
-nearest-number-requires c κs = search needs
 
 returns-4 : tie.Need-returns-4
 unfolding answer
@@ -48,4 +36,4 @@ returns-4 c =
     )
 
 pub quantize-global-param-spec : {M : Type 1} → statement M
-quantize-global-param-spec = tie.close (tie.spec refused-requires returns refused-requires-2 returns-2 refused-requires-3 returns-3 nearest-number-requires returns-4)
+quantize-global-param-spec = tie.close (tie.spec (search needs) returns (search needs) returns-2 (search needs) returns-3 (search needs) returns-4)

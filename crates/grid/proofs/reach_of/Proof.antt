@@ -1,4 +1,4 @@
--- `reach_of` meets its contract.
+-- `reach_of`: the product of the two powers is the definition's, and no row's passes 2 ^ 22.
 -- Assumes nothing.
 use mathlib.Core.Path.{refl}
 use native.Mathlib.Omega.{arith}
@@ -6,15 +6,6 @@ use borrow.Author.Needs.{needs}
 use Rattle.grid.proofs.Bounds.{reach-small}
 use Rattle.grid.proofs.reach_of.Statement.{statement}
 use Rattle.grid.proofs.reach_of.Tie as tie
-
-power-of-two-requires : tie.Need-power-of-two-requires
-power-of-two-requires c κs = search needs
-
-sub-power-of-two : tie.Need-sub-power-of-two
-sub-power-of-two c = search needs
-
-power-of-two-requires-2 : tie.Need-power-of-two-requires-2
-power-of-two-requires-2 c κs = search needs
 
 mul-result : tie.Need-mul-result
 mul-result c =
@@ -29,4 +20,4 @@ returns c =
     (refl, reach-small (e .args .abs-bits) (e .args .prec-bits) (e .pre))
 
 pub reach-of-spec : {M : Type 1} → statement M
-reach-of-spec = tie.close (tie.spec power-of-two-requires sub-power-of-two power-of-two-requires-2 mul-result returns)
+reach-of-spec = tie.close (tie.spec (search needs) (search needs) (search needs) mul-result returns)

@@ -1,8 +1,7 @@
--- `snap` meets its contract: its steps are those of `quantize`, over a sign and a magnitude.
+-- `snap`: its steps are those of `quantize`, over a sign and a magnitude.
 -- Assumes nothing.
 use Prim.Native.Nat.{ℕ, _*_, _^_, _<_}
-use mathlib.Core.Path.{_≡_, refl}
-use native.Mathlib.Omega.{arith}
+use mathlib.Core.Path.{_≡_}
 use borrow.Author.Needs.{needs}
 use lib.IntN.{ℤ, pos, natAbs, _+ℤ_, _-ℤ_}
 use mir.Syntax.{w32, w64}
@@ -17,9 +16,6 @@ steps : (abs prec r : ℕ) (z : ℤ) → signed (negative (z -ℤ pos r)) (neare
 unfolding quantize
 steps abs prec r z = rw (signed-times (negative (z -ℤ pos r)) (nearestOrdinal abs prec (natAbs (z -ℤ pos r))) (step prec))
 
-from-centre-requires : tie.Need-from-centre-requires
-from-centre-requires c κs = search needs
-
 magnitude-requires : tie.Need-magnitude-requires
 magnitude-requires c κs = rw (result-reads w64 (c .from-centre .result) (c .from-centre .ok)) (c .from-centre .ensures .1)
 
@@ -27,12 +23,6 @@ nearest-distance-requires : tie.Need-nearest-distance-requires
 nearest-distance-requires c κs =
     let size : natAbs (c .before .from-centre .result) < 2 ^ 62 = c .before .from-centre .ensures .1 in
     (c .before .before .pre .0, rw (c .magnitude .ensures, result-reads w64 (c .before .from-centre .result) (c .before .from-centre .ok)) size)
-
-is-negative-requires : tie.Need-is-negative-requires
-is-negative-requires c κs = search needs
-
-with-sign-requires : tie.Need-with-sign-requires
-with-sign-requires c κs = search needs
 
 to-centre-requires : tie.Need-to-centre-requires
 to-centre-requires c κs = (
@@ -60,4 +50,4 @@ returns c =
     (steps (e .args .abs-bits) (e .args .prec-bits) (e .args .round) (e .args .value))
 
 pub snap-spec : {M : Type 1} → statement M
-snap-spec = tie.close (tie.spec from-centre-requires magnitude-requires nearest-distance-requires is-negative-requires with-sign-requires to-centre-requires returns)
+snap-spec = tie.close (tie.spec (search needs) magnitude-requires nearest-distance-requires (search needs) (search needs) to-centre-requires returns)

@@ -1,61 +1,39 @@
--- `symbol_of` meets its contract: its steps are those of `symbolOf`, over a sign and a magnitude.
--- Assumes nothing.
-use Prim.Native.Nat.{_<_, _^_}
-use native.Mathlib.Omega.{arith}
+-- `symbol_of`: the bits and the centre are the slot's, and each symbol is below their count. Assumes nothing.
 use borrow.Author.Needs.{needs}
-use lib.IntN.{natAbs}
-use mir.Syntax.{w64}
-use mir.Facts.{toZ-ofZ}
-use Rattle.laws.proofs.Signed.{result-reads}
-use Rattle.grid.specs.Symbols.{symbolOf}
-use Rattle.grid.proofs.Nearest.{nearestOrdinal-le}
-use Rattle.grid.proofs.Bounds.{middle-small}
 use Rattle.grid.proofs.symbol_of.Statement.{statement}
 use Rattle.grid.proofs.symbol_of.Tie as tie
+use mir.Facts.{toZ-ofZ}
+use Prim.Native.Nat.{ℕ, _<_}
+use mathlib.Core.Path.{_≡_, ap, sym, subst, _∙_}
+use lib.IntN.{ℤ}
+use Rattle.grid.specs.declared.ParamBits.{ParamBits}
+use Rattle.grid.specs.Grid.{Row, absBits, precBits, centre, paramBits}
+use Rattle.grid.specs.Symbols.{symbols, symbolOf}
+use Rattle.grid.proofs.Symbols.{symbol-below}
+use Rattle.grid.proofs.Table.{table-row}
+use Rattle.grid.specs.Inner.{SymbolIs}
 
-from-centre-requires : tie.Need-from-centre-requires
-from-centre-requires c κs = search needs
+answered : (gmType flag slot : ℕ) (z : ℤ) (b : ParamBits) (c r : ℕ) → b ≡ paramBits gmType flag slot → c ≡ centre slot
+    → r ≡ symbolOf (b .«abs_bits») (b .«prec_bits») c z → SymbolIs gmType flag slot z r
+answered gmType flag slot z b c r eb ec er =
+    let e : r ≡ symbolOf (absBits gmType flag slot) (precBits gmType flag slot) (centre slot) z =
+    er ∙ ap (λ (x : ParamBits). symbolOf (x .«abs_bits») (x .«prec_bits») c z) eb ∙ ap (λ (x : ℕ). symbolOf (absBits gmType flag slot) (precBits gmType flag slot) x z) ec in
+    record { is = e; below = subst (λ (x : ℕ). x < symbols (absBits gmType flag slot)) (sym e) (symbol-below (absBits gmType flag slot) (precBits gmType flag slot) (centre slot) z) }
 
-magnitude-requires : tie.Need-magnitude-requires
-magnitude-requires c κs = rw (result-reads w64 (c .from-centre .result) (c .from-centre .ok)) (c .from-centre .ensures .1)
-
-nearest-ordinal-requires : tie.Need-nearest-ordinal-requires
-nearest-ordinal-requires c κs =
-    let size : natAbs (c .before .from-centre .result) < 2 ^ 62 = c .before .from-centre .ensures .1 in
-    (c .before .before .pre, rw (c .magnitude .ensures, result-reads w64 (c .before .from-centre .result) (c .before .from-centre .ok)) size)
-
-is-negative-requires : tie.Need-is-negative-requires
-is-negative-requires c κs = search needs
-
-power-of-two-requires : tie.Need-power-of-two-requires
-power-of-two-requires c κs = search needs
-
-lift-requires : tie.Need-lift-requires
-lift-requires c κs =
-    let e = c .before .before .before .before .before in
-    rw (c .before .before .nearest-ordinal .ensures, c .power-of-two .ensures) (
-      nearestOrdinal-le (e .args .abs-bits) (e .args .prec-bits) (c .before .before .before .magnitude .result),
-      middle-small (e .args .abs-bits) (e .args .prec-bits) (e .pre),
-    )
-
-cast-result : tie.Need-cast-result
-cast-result c = search needs
+symbol-among-requires : tie.Need-symbol-among-requires
+symbol-among-requires c κs =
+    let a = c .before .before .args in
+    subst (λ (b : ParamBits). Row (b .«abs_bits») (b .«prec_bits»)) (sym (c .before .global-param-bits .ensures)) (table-row (a .gm-type) (a .flag) (a .slot))
 
 returns : tie.Need-returns
-unfolding symbolOf
 returns c =
-    let e = c .before .before .before .before .before .before in
-    let num = c .before .before .before .before .before .from-centre in
-    rw (
-      c .lift .ensures .0,
-      c .before .before .is-negative .ensures,
-      c .before .before .before .nearest-ordinal .ensures,
-      c .before .power-of-two .ensures,
-      c .before .before .before .before .magnitude .ensures,
-      result-reads w64 (num .result) (num .ok),
-      num .ensures .0,
-      toZ-ofZ (e .fits .value),
-    )
+    let e = c .before .before .before in
+    let a = e .args in
+    let bits = c .before .before .global-param-bits in
+    let centred = c .before .centre-of in
+    answered (a .gm-type) (a .flag) (a .slot) (a .value) _ _ _ (bits .ensures) (centred .ensures)
+    (c .symbol-among .ensures ∙ ap (λ (z : ℤ). symbolOf (bits .result .«abs_bits») (bits .result .«prec_bits») (centred .result) z) (toZ-ofZ (e .fits .value)))
 
 pub symbol-of-spec : {M : Type 1} → statement M
-symbol-of-spec = tie.close (tie.spec from-centre-requires magnitude-requires nearest-ordinal-requires is-negative-requires power-of-two-requires lift-requires cast-result returns)
+symbol-of-spec =
+    tie.close (tie.spec (search needs) (search needs) symbol-among-requires returns)

@@ -1,4 +1,4 @@
--- `to_centre` meets its contract: the sum of a small distance and a centre fits an i32.
+-- `to_centre`: the sum of a small distance and a centre fits an i32.
 -- Assumes nothing.
 use Prim.Native.Nat.{ℕ, _≤_}
 use native.Mathlib.Omega.{arith}
@@ -12,9 +12,6 @@ use Rattle.grid.proofs.to_centre.Tie as tie
 
 small : (z : ℤ) (r : ℕ) → (natAbs z ≤ 4194304) × (r ≤ 65536) → natAbs (z +ℤ pos r) ≤ 4259840
 small z r h = omega (arith, natAbs-add-le z (pos r), h .0, h .1)
-
-cast-result : tie.Need-cast-result
-cast-result c = search needs
 
 add-result : tie.Need-add-result
 add-result c =
@@ -38,4 +35,4 @@ returns c =
     (reads-back w32 (z +ℤ pos r) (omega (arith, small z r (c .pre))))
 
 pub to-centre-spec : {M : Type 1} → statement M
-to-centre-spec = tie.close (tie.spec cast-result add-result cast-result-2 returns)
+to-centre-spec = tie.close (tie.spec (search needs) add-result cast-result-2 returns)

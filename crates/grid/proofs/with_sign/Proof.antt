@@ -1,13 +1,12 @@
--- `with_sign` meets its contract: a magnitude below 2 ^ 62 fits an i64 with either sign.
+-- `with_sign`: a magnitude below 2 ^ 62 fits an i64 with either sign.
 -- Assumes nothing.
 use Prim.Native.Nat.{ℕ, _<_, _^_}
-use mathlib.Core.Path.{_∙_}
 use native.Mathlib.Omega.{arith}
-use lib.IntN.{ℤ, pos, negℤ, natAbs, _-ℤ_, +ℤ-idl}
+use lib.IntN.{pos, negℤ, +ℤ-idl}
 use mir.Syntax.{w64}
 use mir.Val.{SFits}
 use mir.Facts.{toZ-ofZ, toZ-pos}
-use Rattle.laws.proofs.Signed.{natAbs-neg, sfits-natAbs, reads-back}
+use Rattle.laws.proofs.Signed.{natAbs-neg, sfits-natAbs}
 use Rattle.grid.proofs.with_sign.Statement.{statement}
 use Rattle.grid.proofs.with_sign.Tie as tie
 

@@ -1,4 +1,4 @@
--- `write_reference` meets its contract: the type bits, then the model's.
+-- `write_reference`: the type's bits are written, and the model's right behind them.
 -- Assumes nothing.
 use borrow.Author.Needs.{needs}
 use Rattle.bits.proofs.Buffer.{room-front, room-back, wrote-both}
@@ -20,14 +20,12 @@ write-model-requires c κs =
     let a = e .args in
     (e .pre .0, room-back _ _ (typeBits (a .gm-type)) (modelBits (a .flag) (a .params .now) (a .prior .now) (a .gm-type) (a .first)) _ _ (c .before .before .before .write-type .ensures) (e .pre .1))
 
-same-length : tie.Need-same-length
-same-length c = search needs
-
 returns : tie.Need-returns
 unfolding referenceBits
 returns c =
     let a = c .before .before .before .before .before .before .before .before .before .args in
-    wrote-both (typeBits (a .gm-type)) (modelBits (a .flag) (a .params .now) (a .prior .now) (a .gm-type) (a .first)) (c .before .before .before .before .before .before .write-type .ensures) (c .before .before .write-model .ensures)
+    wrote-both (typeBits (a .gm-type)) (modelBits (a .flag) (a .params .now) (a .prior .now) (a .gm-type) (a .first))
+    (c .before .before .before .before .before .before .write-type .ensures) (c .before .before .write-model .ensures)
 
 pub write-reference-spec : {M : Type 1} → statement M
-write-reference-spec = tie.close (tie.spec write-type-requires write-model-requires same-length returns)
+write-reference-spec = tie.close (tie.spec write-type-requires write-model-requires (search needs) returns)

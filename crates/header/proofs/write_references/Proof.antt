@@ -1,27 +1,19 @@
--- `write_references` meets its contract. The invariant: what is left to write here gives what was to be written at the start.
+-- `write_references`: what is left to write here gives what was to be written at the start.
 -- Assumes nothing.
 use Prim.Native.Nat.{ℕ, suc, _+_, _*_, _-_, _^_, _≤_, _<_}
 use mathlib.Core.List.{List, _++_}
 use mathlib.Core.Path.{_≡_, refl, sym, ap, _∙_}
 use native.Mathlib.Omega.{arith}
 use lib.IntN.{ℤ}
-use lib.ListN.{length, getD, length-append}
+use lib.ListN.{length, getD}
 use borrow.Author.Needs.{needs}
-use Rattle.bits.specs.Bits.{putBits, Room, Wrote}
+use Rattle.bits.specs.Bits.{putBits}
+use Rattle.bits.specs.Inner.{Room, Wrote}
 use Rattle.bits.proofs.Buffer.{wrote-rest, wrote-length, room-front}
-use Rattle.header.specs.Contracts.{HeaderReady, ModelReady}
 use Rattle.header.specs.Writing.{referenceBits, referencesBits, headerBits}
-use Rattle.header.proofs.RoundTrip.{valid-prior}
+use Rattle.header.proofs.RoundTrip.{model-ready}
 use Rattle.header.proofs.write_references.Statement.{statement}
 use Rattle.header.proofs.write_references.Tie as tie
-
-model-ready : (types : List ℕ) (ps qs : List ℤ) (r : ℕ) → HeaderReady types ps qs → r < 7 → ModelReady ps qs (6 * r)
-model-ready types ps qs r h l =
-    record {
-      numbers = omega (arith, h .numbers);
-      places = omega (arith, h .places);
-      priors = valid-prior qs r (omega (arith, h .places)) (h .within);
-    }
 
 module _ (flag : ℕ) (types : List ℕ) (ps qs : List ℤ) where
   -- the references from r on
@@ -59,7 +51,7 @@ unfolding headerBits
 loop-holds c = (omega arith, refl, record { at = refl; buffer = refl })
 
 shared-slice-read-write-reference : tie.Need-shared-slice-read-write-reference Inv-loop μ-loop
-shared-slice-read-write-reference c = omega (arith, c .before .before .before .before .before .before .pre .0 .seven, c .before .before .loop-test .taken)
+shared-slice-read-write-reference c = omega (arith, c .before .before .before .before .before .before .pre .0 .all .seven, c .before .before .loop-test .taken)
 
 mul-write-reference : tie.Need-mul-write-reference Inv-loop μ-loop
 mul-write-reference c = omega (arith, c .before .before .loop-test .taken)
@@ -71,14 +63,9 @@ write-reference-requires c κs =
     let l = c .before .before .before .loop in
     let inv = l .inv in (
       model-ready (a .types .now) (a .params .now) (a .prior .now) (l .r) (pre .0) (c .before .before .loop-test .taken),
-      room (a .flag) (a .types .now) (a .params .now) (a .prior .now) (l .header) (l .next .at) _ _ (l .r) (c .before .before .loop-test .taken) (inv .2) (omega (arith, pre .1 .within, inv .1)) (pre .1 .small),
+      room (a .flag) (a .types .now) (a .params .now) (a .prior .now) (l .header) (l .next .at) _ _ (l .r) (c .before .before .loop-test .taken) (inv .2)
+          (omega (arith, pre .1 .within, inv .1)) (pre .1 .small),
     )
-
-add-r : tie.Need-add-r Inv-loop μ-loop
-add-r c = search needs
-
-loop-less : tie.Need-loop-less Inv-loop μ-loop
-loop-less c = search needs
 
 loop-again : tie.Need-loop-again Inv-loop μ-loop
 loop-again c =
@@ -90,9 +77,6 @@ loop-again c =
       more (a .flag) (a .types .now) (a .params .now) (a .prior .now) (l .header) (l .next .at) _ _ (l .r) (c .before .before .before .before .before .loop-test .taken) (l .inv .2) _ _ e,
     )
 
-same-length : tie.Need-same-length Inv-loop μ-loop
-same-length c = search needs
-
 returns : tie.Need-returns Inv-loop μ-loop
 returns c =
     let l = c .before .loop in
@@ -101,4 +85,6 @@ returns c =
     record { at = omega (arith, w .at); buffer = sym (w .buffer) }
 
 pub write-references-spec : {M : Type 1} → statement M
-write-references-spec = tie.close (tie.spec Inv-loop μ-loop loop-holds shared-slice-read-write-reference mul-write-reference write-reference-requires add-r loop-less loop-again same-length returns)
+write-references-spec =
+    tie.close
+    (tie.spec Inv-loop μ-loop loop-holds shared-slice-read-write-reference mul-write-reference write-reference-requires (search needs) (search needs) loop-again (search needs) returns)

@@ -1,4 +1,4 @@
--- `write_slot` meets its contract: the two numbers are read, and handed on.
+-- `write_slot`: the value and the prior read at the slot are those whose bits the definition puts.
 -- Assumes nothing.
 use borrow.Author.Needs.{needs}
 use mir.Syntax.{w32}
@@ -6,24 +6,6 @@ use Rattle.laws.proofs.Signed.{result-reads}
 use Rattle.header.specs.Writing.{slotOf}
 use Rattle.header.proofs.write_slot.Statement.{statement}
 use Rattle.header.proofs.write_slot.Tie as tie
-
-add-value : tie.Need-add-value
-add-value c = search needs
-
-mul-value : tie.Need-mul-value
-mul-value c = search needs
-
-shared-slice-copy-out-value : tie.Need-shared-slice-copy-out-value
-shared-slice-copy-out-value c = search needs
-
-add-from : tie.Need-add-from
-add-from c = search needs
-
-mul-from : tie.Need-mul-from
-mul-from c = search needs
-
-shared-slice-copy-out-from : tie.Need-shared-slice-copy-out-from
-shared-slice-copy-out-from c = search needs
 
 write-global-param-requires : tie.Need-write-global-param-requires
 write-global-param-requires c κs =
@@ -35,9 +17,6 @@ write-global-param-requires c κs =
     )
     (record { known = e .pre .1; within = e .pre .0 .priors .within (e .args .slot) (e .pre .1) }, e .pre .2)
 
-same-length : tie.Need-same-length
-same-length c = search needs
-
 returns : tie.Need-returns
 returns c =
     let a = c .before .before .before .before .before .before .before .args in
@@ -48,4 +27,4 @@ returns c =
     at (c .before .before .write-global-param .ensures)
 
 pub write-slot-spec : {M : Type 1} → statement M
-write-slot-spec = tie.close (tie.spec add-value mul-value shared-slice-copy-out-value add-from mul-from shared-slice-copy-out-from write-global-param-requires same-length returns)
+write-slot-spec = tie.close (tie.spec (search needs) (search needs) (search needs) (search needs) (search needs) (search needs) write-global-param-requires (search needs) returns)

@@ -1,4 +1,4 @@
--- `answer` meets its contract: the bytes that the bits need, against those there are.
+-- `answer`: the bytes that the bits need are tested against those there are, as in the definition.
 -- Assumes nothing.
 use Prim.Native.Nat.{_*_}
 use native.Mathlib.Omega.{arith}
@@ -7,22 +7,14 @@ use borrow.Author.Tests.{lt-ltb, le-ltb}
 use Rattle.header_read.proofs.answer.Statement.{statement}
 use Rattle.header_read.proofs.answer.Tie as tie
 
-add-if1 : tie.Need-add-if1
-add-if1 c = search needs
-
-no-models-requires : tie.Need-no-models-requires
-no-models-requires c κs = search needs
-
 returns : tie.Need-returns
 returns c =
-    rw (lt-ltb (8 * c .before .before .before .before .before .args .bytes) (c .before .before .before .before .before .args .seven .next .at) (omega (arith, c .before .if1 .taken))) (c .no-models .ensures)
-
-sub-t8 : tie.Need-sub-t8
-sub-t8 c = search needs
+    let a = c .before .before .before .before .before .args in
+    rw (lt-ltb (8 * a .bytes) (a .seven .next .at) (omega (arith, c .before .if1 .taken))) (c .no-models .ensures)
 
 returns-2 : tie.Need-returns-2
 returns-2 c =
     rw (le-ltb (8 * c .before .before .before .before .args .bytes) (c .before .before .before .before .args .seven .next .at) (omega (arith, c .if1 .left)))
 
 pub answer-spec : {M : Type 1} → statement M
-answer-spec = tie.close (tie.spec add-if1 no-models-requires returns sub-t8 returns-2)
+answer-spec = tie.close (tie.spec (search needs) (search needs) returns (search needs) returns-2)

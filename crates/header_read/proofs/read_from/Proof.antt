@@ -1,4 +1,4 @@
--- `read_from` meets its contract: the bytes from the position's on read as all of them do.
+-- `read_from`: the bytes from the position's on read as all of them do.
 -- Assumes nothing.
 use Prim.Native.Nat.{ℕ, _/_}
 use mathlib.Core.List.{List}
@@ -9,33 +9,15 @@ use lib.ListN.{drop}
 use Rattle.laws.proofs.Placed.{tail-whole}
 use Rattle.bits.specs.Bits.{bitAt}
 use Rattle.header.specs.Reading.{referencesRead}
-use Rattle.header_read.specs.Contracts.{SevenIs}
+use Rattle.header_read.specs.Inner.{SevenIs}
 use Rattle.header_read.proofs.Answers.{ended, from-byte}
 use Rattle.header_read.proofs.read_from.Statement.{statement}
 use Rattle.header_read.proofs.read_from.Tie as tie
-
-no-models-requires : tie.Need-no-models-requires
-no-models-requires c κs = search needs
 
 returns : tie.Need-returns
 returns c =
     let a = c .before .before .before .args in
     c .no-models .ensures ∙ ended (a .header .now) (a .at) (a .flag) (a .prior .now) (c .before .if1 .taken)
-
-sub-bytes : tie.Need-sub-bytes
-sub-bytes c = search needs
-
-new-requires : tie.Need-new-requires
-new-requires c κs = search needs
-
-sub-read-references : tie.Need-sub-read-references
-sub-read-references c = search needs
-
-part-read-references-start : tie.Need-part-read-references-start
-part-read-references-start c = search needs
-
-part-read-references-end : tie.Need-part-read-references-end
-part-read-references-end c = search needs
 
 read-references-requires : tie.Need-read-references-requires
 read-references-requires c κs =
@@ -51,10 +33,17 @@ answer-requires c κs =
 returns-2 : tie.Need-returns-2
 returns-2 c =
     let e = c .before .before .before .before .before .before in
-    let a = c .before .before .before .before .before .before .args in
-    let tail = subst (λ (l : List ℕ). SevenIs (c .before .read-references .result) (referencesRead (bitAt l) (a .flag) (a .prior .now) 7 0 (c .before .before .before .new .result .at)) (c .before .before .before .new .result .at)) (tail-whole (a .at / 8) (a .header .now)) (c .before .read-references .ensures) in
-    let read = subst (λ (k : ℕ). SevenIs (c .before .read-references .result) (referencesRead (bitAt (drop (a .at / 8) (a .header .now))) (a .flag) (a .prior .now) 7 0 k) k) (c .before .before .before .new .ensures) tail in
-    c .answer .ensures ∙ from-byte (a .header .now) (a .at) (a .flag) (a .prior .now) (e .pre) (omega (arith, c .before .before .before .before .if1 .left)) (c .before .read-references .result) read
+    let a = e .args in
+    let seven = c .before .read-references in
+    let start = c .before .before .before .new in
+    let tail = subst (λ (l : List ℕ). SevenIs (seven .result) (referencesRead (bitAt l) (a .flag) (a .prior .now) 7 0 (start .result .at)) (start .result .at))
+    (tail-whole (a .at / 8) (a .header .now)) (seven .ensures) in
+    let read = subst (λ (k : ℕ). SevenIs (seven .result) (referencesRead (bitAt (drop (a .at / 8) (a .header .now))) (a .flag) (a .prior .now) 7 0 k) k)
+    (start .ensures) tail in
+    c .answer .ensures
+    ∙ from-byte (a .header .now) (a .at) (a .flag) (a .prior .now) (e .pre) (omega (arith, c .before .before .before .before .if1 .left)) (seven .result) read
 
 pub read-from-spec : {M : Type 1} → statement M
-read-from-spec = tie.close (tie.spec no-models-requires returns sub-bytes new-requires sub-read-references part-read-references-start part-read-references-end read-references-requires answer-requires returns-2)
+read-from-spec =
+    tie.close
+    (tie.spec (λ c κs. search needs) returns (λ c. search needs) (λ c κs. search needs) (λ c. search needs) (λ c. search needs) (λ c. search needs) read-references-requires answer-requires returns-2)

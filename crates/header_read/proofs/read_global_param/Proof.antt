@@ -1,4 +1,5 @@
--- `header_read::read_global_param` meets its contract. Assumes nothing.
+-- `read_global_param`: the symbol read by S and the prior's place, as its number.
+-- Assumes nothing.
 use borrow.Author.Needs.{needs}
 use Rattle.header_read.proofs.read_global_param.Statement.{statement}
 use Rattle.header_read.proofs.read_global_param.Tie as tie
@@ -12,9 +13,8 @@ use Rattle.bits.proofs.Buffer.{bitAt-lt}
 use Rattle.bits.specs.Ns.{Taken}
 use Rattle.subexp.specs.Coefficient.{symbol}
 use Rattle.grid.specs.Grid.{absBits, precBits, centre}
-use Rattle.grid.specs.Symbols.{symbols, numberOf}
-use Rattle.header.specs.Coefficient.{place}
-use Rattle.header.specs.Contracts.{SymbolsIs, PriorIn}
+use Rattle.grid.specs.Symbols.{symbols, numberOf, place}
+use Rattle.grid.specs.Inner.{SymbolsIs, PriorIn}
 use mathlib.Core.Path.{ap, sym, _∙_}
 use native.Mathlib.Omega.{arith}
 use mir.Facts.{toZ-ofZ}
@@ -24,25 +24,23 @@ use Rattle.header_read.proofs.Coefficient.{coefficient-few, coefficient
 symbols-of-requires : tie.Need-symbols-of-requires
 symbols-of-requires c κs = subst (λ (q : ℤ). PriorIn (c .before .args .slot) q) (sym (toZ-ofZ (c .before .fits .prior))) (c .before .pre .0)
 
-decode-unsigned-subexp-with-ref-requires : tie.Need-decode-unsigned-subexp-with-ref-requires
-decode-unsigned-subexp-with-ref-requires c κs = search needs
-
-number-of-requires : tie.Need-number-of-requires
-number-of-requires c κs = search needs
-
 returns : tie.Need-returns
 unfolding coefficient
 returns c =
     let e = c .before .before .before .before .before in
-    let a = c .before .before .before .before .before .args in
-    let g : ℕ → ℕ = bitAt (c .before .before .before .before .before .args .header .now) in
-    let s = subst (λ (q : ℤ). SymbolsIs (a .gm-type) (a .flag) (a .slot) q (c .before .before .before .symbols-of .result)) (toZ-ofZ (e .fits .prior)) (c .before .before .before .symbols-of .ensures) in
+    let a = e .args in
+    let g : ℕ → ℕ = bitAt (a .header .now) in
+    let among = c .before .before .before .symbols-of in
+    let s = subst (λ (q : ℤ). SymbolsIs (a .gm-type) (a .flag) (a .slot) q (among .result)) (toZ-ofZ (e .fits .prior)) (among .ensures) in
     let d = c .before .before .decode-unsigned-subexp-with-ref .ensures .0 in
-    let same : symbol g (c .before .before .before .before .before .args .cursor .at) (c .before .before .before .symbols-of .result .mx) (c .before .before .before .symbols-of .result .r) ≡ symbol g (c .before .before .before .before .before .args .cursor .at) (symbols (absBits (c .before .before .before .before .before .args .gm-type) (c .before .before .before .before .before .args .flag) (c .before .before .before .before .before .args .slot))) (place (c .before .before .before .before .before .args .gm-type) (c .before .before .before .before .before .args .flag) (c .before .before .before .before .before .args .slot) (c .before .before .before .before .before .args .prior)) =
-    ap (λ (S : ℕ). symbol g (c .before .before .before .before .before .args .cursor .at) S (c .before .before .before .symbols-of .result .r)) (s .mx)
-    ∙ ap (λ (p : ℕ). symbol g (c .before .before .before .before .before .args .cursor .at) (symbols (absBits (c .before .before .before .before .before .args .gm-type) (c .before .before .before .before .before .args .flag) (c .before .before .before .before .before .args .slot))) p) (s .stands) in
-    let value = result-reads w32 _ (c .number-of .ok) ∙ c .number-of .ensures ∙ ap (numberOf (absBits (a .gm-type) (a .flag) (a .slot)) (precBits (a .gm-type) (a .flag) (a .slot)) (centre (a .slot))) (d .value ∙ ap (λ (t : Taken). t .value) same) in
-    let next = d .next ∙ ap (λ (t : Taken). c .before .before .before .before .before .args .cursor .at + t .bits) same in
+    let same : symbol g (a .cursor .at) (among .result .mx) (among .result .r)
+    ≡ symbol g (a .cursor .at) (symbols (absBits (a .gm-type) (a .flag) (a .slot))) (place (a .gm-type) (a .flag) (a .slot) (a .prior)) =
+    ap (λ (S : ℕ). symbol g (a .cursor .at) S (among .result .r)) (s .mx)
+    ∙ ap (λ (p : ℕ). symbol g (a .cursor .at) (symbols (absBits (a .gm-type) (a .flag) (a .slot))) p) (s .stands) in
+    let value =
+    result-reads w32 _ (c .number-of .ok) ∙ c .number-of .ensures
+    ∙ ap (numberOf (absBits (a .gm-type) (a .flag) (a .slot)) (precBits (a .gm-type) (a .flag) (a .slot)) (centre (a .slot))) (d .value ∙ ap (λ (t : Taken). t .value) same) in
+    let next = d .next ∙ ap (λ (t : Taken). a .cursor .at + t .bits) same in
     record {
       value = value;
       next = next;
@@ -55,6 +53,6 @@ read-global-param-spec =
     tie.close
     (tie.spec
     symbols-of-requires
-    decode-unsigned-subexp-with-ref-requires
-    number-of-requires
+    (search needs)
+    (search needs)
     returns)

@@ -1,4 +1,4 @@
--- `read_next` meets its contract: the type is stored at its place, the six numbers at theirs.
+-- `read_next`: the type is stored at its place, the six numbers at theirs.
 -- Assumes nothing.
 use Prim.Native.Nat.{ℕ, _*_}
 use mathlib.Core.List.{List}
@@ -10,30 +10,19 @@ use Rattle.laws.specs.Placed.{placed}
 use Rattle.header_read.proofs.read_next.Statement.{statement}
 use Rattle.header_read.proofs.read_next.Tie as tie
 
-mul-read-reference : tie.Need-mul-read-reference
-mul-read-reference c = search needs
-
 read-reference-requires : tie.Need-read-reference-requires
-read-reference-requires c κs = search needs
-
-array-write-types : tie.Need-array-write-types
-array-write-types c = search needs
-
-mul-with-six : tie.Need-mul-with-six
-mul-with-six c = search needs
-
-with-six-requires : tie.Need-with-six-requires
-with-six-requires c κs = search needs
+read-reference-requires c κs = c .before .before .before .pre .0
 
 returns : tie.Need-returns
 returns c =
+    let a = c .before .before .before .before .before .before .before .args in
     let m = c .before .before .before .read-reference .ensures in
     record {
-      types = ap (λ (x : ℕ). set (c .before .before .before .before .before .before .before .args .seven .types) (c .before .before .before .before .before .before .before .args .r) x) (m .gmType);
-      params = c .with-six .ensures ∙ ap (λ (six : List ℤ). placed (6 * c .before .before .before .before .before .before .before .args .r) six (c .before .before .before .before .before .before .before .args .seven .params)) (m .six);
+      types = ap (λ (x : ℕ). set (a .seven .types) (a .r) x) (m .gmType);
+      params = c .with-six .ensures ∙ ap (λ (six : List ℤ). placed (6 * a .r) six (a .seven .params)) (m .six);
       next = m .next;
       near = m .near;
     }
 
 pub read-next-spec : {M : Type 1} → statement M
-read-next-spec = tie.close (tie.spec mul-read-reference read-reference-requires array-write-types mul-with-six with-six-requires returns)
+read-next-spec = tie.close (tie.spec (search needs) read-reference-requires (search needs) (search needs) (search needs) returns)

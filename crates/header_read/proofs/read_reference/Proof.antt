@@ -1,17 +1,17 @@
--- `read_reference` meets its contract: the type's bits, then the model's.
+-- `read_reference`: the type's bits are read, and the model's right behind them.
 -- Assumes nothing.
 use mathlib.Core.Path.{refl}
+use native.Mathlib.Omega.{arith}
 use borrow.Author.Needs.{needs}
 use Rattle.bits.specs.Bits.{bitAt}
 use Rattle.header_read.proofs.Composed.{referenced}
 use Rattle.header_read.proofs.read_reference.Statement.{statement}
 use Rattle.header_read.proofs.read_reference.Tie as tie
 
-read-type-requires : tie.Need-read-type-requires
-read-type-requires c κs = search needs
-
 read-model-requires : tie.Need-read-model-requires
-read-model-requires c κs = search needs
+read-model-requires c κs =
+    let p = c .before .before .pre in
+    record { places = p .places; priors = p .priors; room = omega (arith, c .read-type .ensures .near, p .room) }
 
 returns : tie.Need-returns
 returns c =
@@ -21,4 +21,4 @@ returns c =
     (c .before .before .before .read-type .ensures) (c .before .before .read-model .ensures) refl refl refl
 
 pub read-reference-spec : {M : Type 1} → statement M
-read-reference-spec = tie.close (tie.spec read-type-requires read-model-requires returns)
+read-reference-spec = tie.close (tie.spec (search needs) read-model-requires returns)

@@ -1,4 +1,4 @@
--- `read_references` meets its contract: what is read so far, and what is left to read, are all.
+-- `read_references`: what is read so far, followed by what is left to read, is all seven.
 -- Assumes nothing.
 use Prim.Native.Nat.{_-_}
 use mathlib.Core.Path.{refl}
@@ -31,16 +31,11 @@ read-next-requires c κs =
       c .loop-test .taken,
     )
 
-add-r : tie.Need-add-r Inv-loop μ-loop
-add-r c = search needs
-
-loop-less : tie.Need-loop-less Inv-loop μ-loop
-loop-less c = search needs
-
 loop-again : tie.Need-loop-again Inv-loop μ-loop
 loop-again c =
     let a = c .before .before .before .before .args in
-    next-read (bitAt (a .header .now)) (a .flag) (a .prior .now) _ (c .before .before .loop .r) (c .before .before .loop .seven) (c .read-next .result) (c .before .loop-test .taken) (c .before .before .loop .inv) (c .read-next .ensures)
+    let l = c .before .before .loop in
+    next-read (bitAt (a .header .now)) (a .flag) (a .prior .now) _ (l .r) (l .seven) (c .read-next .result) (c .before .loop-test .taken) (l .inv) (c .read-next .ensures)
 
 returns : tie.Need-returns Inv-loop μ-loop
 returns c =
@@ -48,4 +43,4 @@ returns c =
     all-read (bitAt (a .header .now)) (a .flag) (a .prior .now) _ _ _ _ (c .before .loop .r) (c .before .loop .inv) (c .loop-test .left) (c .before .loop .seven) refl refl refl
 
 pub read-references-spec : {M : Type 1} → statement M
-read-references-spec = tie.close (tie.spec Inv-loop μ-loop loop-holds read-next-requires add-r loop-less loop-again returns)
+read-references-spec = tie.close (tie.spec Inv-loop μ-loop loop-holds read-next-requires (λ c. search needs) (λ c. search needs) loop-again returns)

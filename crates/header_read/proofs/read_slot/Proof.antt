@@ -1,4 +1,4 @@
--- `read_slot` meets its contract: the prior's number is read, and handed on.
+-- `read_slot`: the prior's number read at the slot is the one that the definition counts from.
 -- Assumes nothing.
 use borrow.Author.Needs.{needs}
 use mir.Syntax.{w32}
@@ -6,15 +6,6 @@ use Rattle.laws.proofs.Signed.{result-reads}
 use Rattle.header.specs.Writing.{slotOf}
 use Rattle.header_read.proofs.read_slot.Statement.{statement}
 use Rattle.header_read.proofs.read_slot.Tie as tie
-
-add-from : tie.Need-add-from
-add-from c = search needs
-
-mul-from : tie.Need-mul-from
-mul-from c = search needs
-
-shared-slice-copy-out-from : tie.Need-shared-slice-copy-out-from
-shared-slice-copy-out-from c = search needs
 
 read-global-param-requires : tie.Need-read-global-param-requires
 read-global-param-requires c κs =
@@ -28,4 +19,4 @@ returns c =
     rw (result-reads w32 (slotOf (a .prior .now) (a .first) (a .slot)) (c .before .from .given)) at (c .read-global-param .ensures)
 
 pub read-slot-spec : {M : Type 1} → statement M
-read-slot-spec = tie.close (tie.spec add-from mul-from shared-slice-copy-out-from read-global-param-requires returns)
+read-slot-spec = tie.close (tie.spec (search needs) (search needs) (search needs) read-global-param-requires returns)

@@ -1,4 +1,4 @@
--- `with_six` meets its contract: what is left to store, stored, gives what was to be stored.
+-- `with_six`: what is left to store, stored, gives what was to be stored.
 -- Assumes nothing.
 use Prim.Native.Nat.{ℕ, suc, _+_, _-_, _≤_, _<_}
 use mathlib.Core.List.{List}
@@ -30,27 +30,6 @@ abbrev μ-loop : tie.MeasureT-loop
 loop-holds : tie.Need-loop-holds Inv-loop μ-loop
 loop-holds c = (rw (add-zero (c .args .first)), search needs, omega arith)
 
-mul-out : tie.Need-mul-out Inv-loop μ-loop
-mul-out c = search needs
-
-array-copy-out-out : tie.Need-array-copy-out-out Inv-loop μ-loop
-array-copy-out-out c = search needs
-
-add-out : tie.Need-add-out Inv-loop μ-loop
-add-out c = search needs
-
-mul-out-2 : tie.Need-mul-out-2 Inv-loop μ-loop
-mul-out-2 c = search needs
-
-array-set-from-out : tie.Need-array-set-from-out Inv-loop μ-loop
-array-set-from-out c = search needs
-
-add-i : tie.Need-add-i Inv-loop μ-loop
-add-i c = search needs
-
-loop-less : tie.Need-loop-less Inv-loop μ-loop
-loop-less c = search needs
-
 loop-again : tie.Need-loop-again Inv-loop μ-loop
 loop-again c =
     let l = c .before .before .loop in
@@ -70,4 +49,4 @@ returns c =
     ∙ sets-placed (a .first) (a .t3) (a .params) (omega (arith, c .before .before .pre))
 
 pub with-six-spec : {M : Type 1} → statement M
-with-six-spec = tie.close (tie.spec Inv-loop μ-loop loop-holds mul-out array-copy-out-out add-out mul-out-2 array-set-from-out add-i loop-less loop-again returns)
+with-six-spec = tie.close (tie.spec Inv-loop μ-loop loop-holds (search needs) (search needs) (search needs) (search needs) (search needs) (search needs) (search needs) loop-again returns)

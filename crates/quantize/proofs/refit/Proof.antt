@@ -1,4 +1,4 @@
--- `quantize::refit` meets its contract: each return rewrites with the test of the length.
+-- `quantize::refit`: no samples leave no motion, and others leave the mean of theirs.
 -- Assumes nothing.
 use borrow.Author.Tests.{eq-eqb, ne-eqb}
 use Rattle.quantize.specs.Quantize.{refitted}
@@ -6,24 +6,17 @@ use borrow.Author.Needs.{needs}
 use Rattle.quantize.proofs.refit.Statement.{statement}
 use Rattle.quantize.proofs.refit.Tie as tie
 
-continuous-linear-requires : tie.Need-continuous-linear-requires
-continuous-linear-requires c κs = search needs
-
-refit-sums-requires : tie.Need-refit-sums-requires
-refit-sums-requires c κs = search needs
-
 returns : tie.Need-returns
 unfolding refitted
 returns c = rw (eq-eqb _ _ (c .if1 .taken))
 
-count-of-requires : tie.Need-count-of-requires
-count-of-requires c κs = search needs
-
 returns-2 : tie.Need-returns-2
 unfolding refitted
-returns-2 c = rw (ne-eqb _ _ (c .before .before .before .if1 .left), ← c .before .before .before .before .before .continuous-linear .ensures, ← c .before .before .before .before .refit-sums .ensures, ← c .before .before .count-of .ensures)
+returns-2 c =
+    let test = c .before .before .before in
+    rw (ne-eqb _ _ (test .if1 .left), ← test .before .before .continuous-linear .ensures, ← test .before .refit-sums .ensures, ← c .before .before .count-of .ensures)
 
 pub refit-spec : {M : Type 1} → statement M
 refit-spec =
     tie.close
-    (tie.spec continuous-linear-requires refit-sums-requires returns count-of-requires returns-2)
+    (tie.spec (search needs) (search needs) returns (search needs) returns-2)

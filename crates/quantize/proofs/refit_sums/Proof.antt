@@ -1,7 +1,8 @@
--- `quantize::refit_sums` meets its contract: what is left to add, from here as from the first word.
+-- `quantize::refit_sums`: what is left to add, from here as from the first word; the two sums are then taken apart.
 -- Assumes nothing.
 use Rattle.quantize.proofs.Leftover.{refit-sums}
-use Rattle.quantize.specs.Quantize.{refitStep}
+use Rattle.quantize.specs.Quantize.{refitTotals}
+use Rattle.quantize.specs.Inner.{refitStep}
 use Rattle.fit.specs.Sums.{reading}
 use Rattle.sample.specs.Sample.{sampleOf}
 use Rattle.laws.proofs.Fold.{fold-again, fold-done}
@@ -19,36 +20,25 @@ Inv-loop m words t₀ centres i₀ t i = fold (reading (refitStep m) sampleOf) (
 abbrev μ-loop : tie.MeasureT-loop
 μ-loop m words t₀ centres i₀ t i = length words - i
 
-centres-requires : tie.Need-centres-requires Inv-loop μ-loop
-centres-requires c κs = search needs
-
 loop-holds : tie.Need-loop-holds Inv-loop μ-loop
 loop-holds c = refl
-
-mul-sample-by : tie.Need-mul-sample-by Inv-loop μ-loop
-mul-sample-by c = search needs
-
-shared-slice-read-sample-by : tie.Need-shared-slice-read-sample-by Inv-loop μ-loop
-shared-slice-read-sample-by c = search needs
 
 sample-by-requires : tie.Need-sample-by-requires Inv-loop μ-loop
 sample-by-requires c κs = c .before .before .before .before .centres .ensures
 
-refit-step-requires : tie.Need-refit-step-requires Inv-loop μ-loop
-refit-step-requires c κs = search needs
-
-add-i : tie.Need-add-i Inv-loop μ-loop
-add-i c = search needs
-
-loop-less : tie.Need-loop-less Inv-loop μ-loop
-loop-less c = search needs
-
 loop-again : tie.Need-loop-again Inv-loop μ-loop
-loop-again c = fold-again (reading (refitStep (c .before .before .before .before .before .before .before .before .args .m)) sampleOf) (c .before .before .before .before .before .before .before .before .args .words .now) (c .before .before .before .before .before .loop .i) 0
-    (c .before .before .before .before .loop-test .taken) (c .refit-step .ensures ∙ ap (refitStep (c .before .before .before .before .before .before .before .before .args .m) (c .before .before .before .before .before .loop .t)) (c .before .sample-by .ensures)) (c .before .before .before .before .before .loop .inv)
+loop-again c =
+    let l = c .before .before .before .before .before in
+    let a = l .before .before .before .args in
+    fold-again (reading (refitStep (a .m)) sampleOf) (a .words .now) (l .loop .i) 0
+    (c .before .before .before .before .loop-test .taken) (c .refit-step .ensures ∙ ap (refitStep (a .m) (l .loop .t)) (c .before .sample-by .ensures)) (l .loop .inv)
 
 returns : tie.Need-returns Inv-loop μ-loop
-returns c = fold-done (reading (refitStep (c .before .before .before .before .args .m)) sampleOf) (c .before .before .before .before .args .words .now) (c .before .loop .i) (c .loop-test .left) (c .before .loop .inv) ∙ refit-sums (c .before .before .before .before .args .m) (c .before .before .before .before .args .words .now)
+unfolding refitTotals
+returns c =
+    let a = c .before .before .before .before .args in
+    fold-done (reading (refitStep (a .m)) sampleOf) (a .words .now) (c .before .loop .i) (c .loop-test .left) (c .before .loop .inv)
+    ∙ refit-sums (a .m) (a .words .now)
 
 pub refit-sums-spec : {M : Type 1} → statement M
 refit-sums-spec =
@@ -56,13 +46,13 @@ refit-sums-spec =
     (tie.spec
     Inv-loop
     μ-loop
-    centres-requires
+    (search needs)
     loop-holds
-    mul-sample-by
-    shared-slice-read-sample-by
+    (search needs)
+    (search needs)
     sample-by-requires
-    refit-step-requires
-    add-i
-    loop-less
+    (search needs)
+    (search needs)
+    (search needs)
     loop-again
     returns)

@@ -1,12 +1,10 @@
--- `quantize::rotzoom_linear` meets its contract: a number within 8,192 of zero can be negated.
+-- `quantize::rotzoom_linear`: a number within 8,192 of zero can be negated.
 -- Assumes nothing.
 use Rattle.laws.proofs.Signed.{natAbs-neg, sfits-natAbs, reads-back}
-use lib.IntN.{ℤ, negℤ, natAbs, +ℤ-idl}
+use lib.IntN.{negℤ, +ℤ-idl}
 use native.Mathlib.Omega.{arith}
 use mir.Facts.{toZ-ofZ}
 use mir.Syntax.{w32}
-use Rattle.laws.proofs.Signed.{result-reads}
-use borrow.Author.Needs.{needs}
 use Rattle.quantize.proofs.rotzoom_linear.Statement.{statement}
 use Rattle.quantize.proofs.rotzoom_linear.Tie as tie
 

@@ -1,27 +1,17 @@
--- `quantize::row_first` meets its contract: the two slots are read back from their bits.
+-- `quantize::row_first`: the two slots are read back from their bits, and change places.
 -- Assumes nothing.
 use borrow.Author.Tests.{eq-eqb, ne-eqb}
 use mir.Syntax.{w32}
 use Rattle.laws.proofs.Signed.{result-reads}
-use Rattle.model.specs.Score.{slot}
+use Rattle.score.specs.Score.{slot}
 use borrow.Author.Needs.{needs}
 use Rattle.quantize.proofs.row_first.Statement.{statement}
 use Rattle.quantize.proofs.row_first.Tie as tie
 
-array-copy-out-x : tie.Need-array-copy-out-x
-array-copy-out-x c = search needs
-
-array-copy-out-y : tie.Need-array-copy-out-y
-array-copy-out-y c = search needs
-
-array-set-from-stored : tie.Need-array-set-from-stored
-array-set-from-stored c = search needs
-
-array-set-from-stored-2 : tie.Need-array-set-from-stored-2
-array-set-from-stored-2 c = search needs
-
 returns : tie.Need-returns
-returns c = rw (result-reads w32 (slot (c .before .before .before .args .t2) 0) (c .before .x .given), result-reads w32 (slot (c .before .before .before .args .t2) 1) (c .y .given), eq-eqb _ _ (c .before .before .if1 .taken))
+returns c =
+    let params = c .before .before .before .args .t2 in
+    rw (result-reads w32 (slot params 0) (c .before .x .given), result-reads w32 (slot params 1) (c .y .given), eq-eqb _ _ (c .before .before .if1 .taken))
 
 returns-2 : tie.Need-returns-2
 returns-2 c = rw (ne-eqb _ _ (c .if1 .left))
@@ -30,9 +20,9 @@ pub row-first-spec : {M : Type 1} → statement M
 row-first-spec =
     tie.close
     (tie.spec
-    array-copy-out-x
-    array-copy-out-y
-    array-set-from-stored
-    array-set-from-stored-2
+    (search needs)
+    (search needs)
+    (search needs)
+    (search needs)
     returns
     returns-2)

@@ -1,11 +1,11 @@
--- `signed` meets its contract: from 2 ^ 31 on a word stands for itself less 2 ^ 32.
+-- `signed`: from 2 ^ 31 on a word stands for itself less 2 ^ 32.
 -- Assumes nothing.
 use Prim.Native.Nat.{ℕ, suc, _-_, _≤_, _<_}
-use mathlib.Core.Path.{_≡_, _∙_, sym}
+use mathlib.Core.Path.{_≡_, sym}
 use native.Mathlib.Omega.{arith}
 use borrow.Author.Needs.{needs}
 use borrow.Author.Tests.{le-ltb}
-use lib.IntN.{ℤ, pos, negsuc, _-ℤ_}
+use lib.IntN.{pos, negsuc, _-ℤ_}
 use mir.Syntax.{w32, w64}
 use mir.Val.{SFits, toZ}
 use mir.Facts.{toZ-pos, toZ-ofZ}
@@ -25,12 +25,6 @@ fits32 n h = record { sfits = omega arith }
 fits64 : (n : ℕ) → SFits w64 (negsuc (4294967296 - suc n))
 fits64 n = record { sfits = omega arith }
 
-cast-result : tie.Need-cast-result
-cast-result c = search needs
-
-cast-result-2 : tie.Need-cast-result-2
-cast-result-2 c = search needs
-
 sub-result : tie.Need-sub-result
 sub-result c =
     let n = c .before .args .word in
@@ -41,9 +35,6 @@ cast-result-3 c =
     let n = c .before .args .word in
     rw (toZ-pos w64 {n = n} (omega arith), wrapped n (omega arith), toZ-ofZ (fits64 n)) (fits32 n (c .if1 .left))
 
-returns : tie.Need-returns
-returns c = search needs
-
 returns-2 : tie.Need-returns-2
 returns-2 c =
     let n = c .before .args .word in
@@ -51,4 +42,4 @@ returns-2 c =
     (sym (read n (c .if1 .left)))
 
 pub signed-spec : {M : Type 1} → statement M
-signed-spec = tie.close (tie.spec cast-result cast-result-2 sub-result cast-result-3 returns returns-2)
+signed-spec = tie.close (tie.spec (search needs) (search needs) sub-result cast-result-3 (search needs) returns-2)

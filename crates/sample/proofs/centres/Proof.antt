@@ -1,4 +1,4 @@
--- `sample::centres` meets its contract: the table is filled up to each place in turn.
+-- `sample::centres`: each turn puts one centre into the table, and 64 turns fill it.
 -- Assumes nothing.
 use Prim.Native.Nat.{_-_, _≤_}
 use mathlib.Core.Path.{_≡_, refl}
@@ -19,28 +19,11 @@ abbrev μ-loop : tie.MeasureT-loop
 loop-holds : tie.Need-loop-holds Inv-loop μ-loop
 loop-holds c = (record { at = λ k h. absurd (not-suc-le-zero h) }, refl, omega arith)
 
-centre-of-requires : tie.Need-centre-of-requires Inv-loop μ-loop
-centre-of-requires c κs = search needs
-
-cast-table : tie.Need-cast-table Inv-loop μ-loop
-cast-table c = search needs
-
-mul-table : tie.Need-mul-table Inv-loop μ-loop
-mul-table c = search needs
-
-array-write-table : tie.Need-array-write-table Inv-loop μ-loop
-array-write-table c = search needs
-
-add-place : tie.Need-add-place Inv-loop μ-loop
-add-place c = search needs
-
-loop-less : tie.Need-loop-less Inv-loop μ-loop
-loop-less c = search needs
-
 loop-again : tie.Need-loop-again Inv-loop μ-loop
 loop-again c =
+    let centre-of = c .centre-of in
     let l = c .before .before .loop in
-    (one-more (l .place) (l .table) (c .centre-of .result) (omega (arith, l .inv .1, c .before .loop-test .taken)) (c .centre-of .ensures) (l .inv .0), search needs, search needs)
+    (one-more (l .place) (l .table) (centre-of .result) (omega (arith, l .inv .1, c .before .loop-test .taken)) (centre-of .ensures) (l .inv .0), search needs, search needs)
 
 returns : tie.Need-returns Inv-loop μ-loop
 returns c = record { at = λ place h. c .before .loop .inv .0 .at place (omega (arith, c .loop-test .left)) }
@@ -52,11 +35,11 @@ centres-spec =
     Inv-loop
     μ-loop
     loop-holds
-    centre-of-requires
-    cast-table
-    mul-table
-    array-write-table
-    add-place
-    loop-less
+    (search needs)
+    (search needs)
+    (search needs)
+    (search needs)
+    (search needs)
+    (search needs)
     loop-again
     returns)

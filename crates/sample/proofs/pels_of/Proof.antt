@@ -1,4 +1,4 @@
--- `sample::pels_of` meets its contract: a stored motion below 512 and its eighths are small enough to keep their value as i32.
+-- `sample::pels_of`: a stored motion below 512 and its eighths are small enough to keep their value as i32.
 -- Assumes nothing.
 use borrow.Author.Needs.{needs}
 use mir.Syntax.{w32}
@@ -9,18 +9,13 @@ use Rattle.sample.proofs.Motion.{eighths-fit}
 use Rattle.sample.proofs.pels_of.Statement.{statement}
 use Rattle.sample.proofs.pels_of.Tie as tie
 
-cast-result : tie.Need-cast-result
-cast-result c = search needs
-
 sub-result : tie.Need-sub-result
 sub-result c = rw (toZ-pos w32 (c .args .stored) (omega arith)) (eighths-fit (c .args .stored) (omega arith))
 
-int-to-float-result : tie.Need-int-to-float-result
-int-to-float-result c = search needs
-
 returns : tie.Need-returns
 returns c =
-    rw (toZ-pos w32 (c .before .args .stored) (omega arith), toZ-ofZ w32 (eighthsOf (c .before .args .stored)) (eighths-fit (c .before .args .stored) (omega arith)))
+    let a = c .before .args in
+    rw (toZ-pos w32 (a .stored) (omega arith), toZ-ofZ w32 (eighthsOf (a .stored)) (eighths-fit (a .stored) (omega arith)))
 
 pub pels-of-spec : {M : Type 1} → statement M
-pels-of-spec = tie.close (tie.spec cast-result sub-result int-to-float-result returns)
+pels-of-spec = tie.close (tie.spec (search needs) sub-result (search needs) returns)

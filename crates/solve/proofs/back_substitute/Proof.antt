@@ -1,4 +1,4 @@
--- `solve::back_substitute` meets its contract: what is left to find, from here as from the last row.
+-- `solve::back_substitute`: what is left to find, from here as from the last row.
 -- Assumes nothing.
 use Prim.Native.Nat.{_-_}
 use Rattle.laws.proofs.Loops.{again, done}
@@ -18,15 +18,6 @@ abbrev μ-loop : tie.MeasureT-loop
 loop-holds : tie.Need-loop-holds Inv-loop μ-loop
 loop-holds c = refl
 
-unknown-step-requires : tie.Need-unknown-step-requires Inv-loop μ-loop
-unknown-step-requires c κs = search needs
-
-add-i : tie.Need-add-i Inv-loop μ-loop
-add-i c = search needs
-
-loop-less : tie.Need-loop-less Inv-loop μ-loop
-loop-less c = search needs
-
 loop-again : tie.Need-loop-again Inv-loop μ-loop
 loop-again c = again (unknownStep (c .before .before .before .args .size) (c .before .before .before .args .s)) (c .before .loop-test .taken) (c .unknown-step .ensures) (c .before .before .loop .inv)
 
@@ -37,4 +28,4 @@ returns c = done (unknownStep (c .before .before .args .size) (c .before .before
 pub back-substitute-spec : {M : Type 1} → statement M
 back-substitute-spec =
     tie.close
-    (tie.spec Inv-loop μ-loop loop-holds unknown-step-requires add-i loop-less loop-again returns)
+    (tie.spec Inv-loop μ-loop loop-holds (search needs) (search needs) (search needs) loop-again returns)

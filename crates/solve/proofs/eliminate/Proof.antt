@@ -1,4 +1,4 @@
--- `solve::eliminate` meets its contract: what is left to eliminate, from here as from the first column.
+-- `solve::eliminate`: what is left to eliminate, from here as from the first column.
 -- Assumes nothing.
 use Prim.Native.Nat.{_-_}
 use Rattle.laws.proofs.Loops.{again, done}
@@ -18,15 +18,6 @@ abbrev μ-loop : tie.MeasureT-loop
 loop-holds : tie.Need-loop-holds Inv-loop μ-loop
 loop-holds c = refl
 
-column-step-requires : tie.Need-column-step-requires Inv-loop μ-loop
-column-step-requires c κs = search needs
-
-add-col : tie.Need-add-col Inv-loop μ-loop
-add-col c = search needs
-
-loop-less : tie.Need-loop-less Inv-loop μ-loop
-loop-less c = search needs
-
 loop-again : tie.Need-loop-again Inv-loop μ-loop
 loop-again c = again (columnStep (c .before .before .before .args .size)) (c .before .loop-test .taken) (c .column-step .ensures) (c .before .before .loop .inv)
 
@@ -37,4 +28,4 @@ returns c = done (columnStep (c .before .before .args .size)) (c .loop-test .lef
 pub eliminate-spec : {M : Type 1} → statement M
 eliminate-spec =
     tie.close
-    (tie.spec Inv-loop μ-loop loop-holds column-step-requires add-col loop-less loop-again returns)
+    (tie.spec Inv-loop μ-loop loop-holds (search needs) (search needs) (search needs) loop-again returns)

@@ -1,10 +1,10 @@
--- `solve::pivot_of` meets its contract: what is left to compare, from here as from the diagonal.
+-- `solve::pivot_of`: what is left to compare, from here as from the diagonal.
 -- Assumes nothing.
 use Prim.Native.Nat.{_<_, _-_}
 use Rattle.laws.proofs.Loops.{again, done}
 use Rattle.laws.specs.Loops.{run}
 use mathlib.Core.Path.{_≡_, refl}
-use Rattle.solve.specs.Elimination.{pivotStep, pivotOf}
+use Rattle.solve.specs.Elimination.{pivotStep}
 use borrow.Author.Needs.{needs}
 use Rattle.solve.proofs.pivot_of.Statement.{statement}
 use Rattle.solve.proofs.pivot_of.Tie as tie
@@ -15,26 +15,18 @@ Inv-loop size s col pivot₀ row₀ pivot row = (run (pivotStep s col) row size 
 abbrev μ-loop : tie.MeasureT-loop
 μ-loop size s col pivot₀ row₀ pivot row = size - row
 
-add-row : tie.Need-add-row Inv-loop μ-loop
-add-row c = search needs
-
 loop-holds : tie.Need-loop-holds Inv-loop μ-loop
 loop-holds c = (refl, search needs)
 
-pivot-step-requires : tie.Need-pivot-step-requires Inv-loop μ-loop
-pivot-step-requires c κs = search needs
-
-add-row-2 : tie.Need-add-row-2 Inv-loop μ-loop
-add-row-2 c = search needs
-
-loop-less : tie.Need-loop-less Inv-loop μ-loop
-loop-less c = search needs
-
 loop-again : tie.Need-loop-again Inv-loop μ-loop
-loop-again c = (again (pivotStep (c .before .before .before .args .s) (c .before .before .before .args .col)) (c .before .loop-test .taken) (c .pivot-step .ensures .0) (c .before .before .loop .inv .0), c .pivot-step .ensures .1)
+loop-again c =
+    let a = c .before .before .before .args in
+    (again (pivotStep (a .s) (a .col)) (c .before .loop-test .taken) (c .pivot-step .ensures .0) (c .before .before .loop .inv .0), c .pivot-step .ensures .1)
 
 returns : tie.Need-returns Inv-loop μ-loop
-returns c = (done (pivotStep (c .before .before .args .s) (c .before .before .args .col)) (c .loop-test .left) (c .before .loop .inv .0), c .before .loop .inv .1)
+returns c =
+    let a = c .before .before .args in
+    (done (pivotStep (a .s) (a .col)) (c .loop-test .left) (c .before .loop .inv .0), c .before .loop .inv .1)
 
 pub pivot-of-spec : {M : Type 1} → statement M
 pivot-of-spec =
@@ -42,10 +34,10 @@ pivot-of-spec =
     (tie.spec
     Inv-loop
     μ-loop
-    add-row
+    (search needs)
     loop-holds
-    pivot-step-requires
-    add-row-2
-    loop-less
+    (search needs)
+    (search needs)
+    (search needs)
     loop-again
     returns)

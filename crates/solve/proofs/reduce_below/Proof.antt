@@ -1,4 +1,4 @@
--- `solve::reduce_below` meets its contract: what is left to reduce, from here as from the row below the diagonal.
+-- `solve::reduce_below`: what is left to reduce, from here as from the row below the diagonal.
 -- Assumes nothing.
 use Prim.Native.Nat.{_-_}
 use Rattle.laws.proofs.Loops.{again, done}
@@ -15,20 +15,8 @@ Inv-loop size col t₀ row₀ t row = run (reduceRow size col) row size t ≡ ru
 abbrev μ-loop : tie.MeasureT-loop
 μ-loop size col t₀ row₀ t row = size - row
 
-add-row : tie.Need-add-row Inv-loop μ-loop
-add-row c = search needs
-
 loop-holds : tie.Need-loop-holds Inv-loop μ-loop
 loop-holds c = refl
-
-reduce-row-requires : tie.Need-reduce-row-requires Inv-loop μ-loop
-reduce-row-requires c κs = search needs
-
-add-row-2 : tie.Need-add-row-2 Inv-loop μ-loop
-add-row-2 c = search needs
-
-loop-less : tie.Need-loop-less Inv-loop μ-loop
-loop-less c = search needs
 
 loop-again : tie.Need-loop-again Inv-loop μ-loop
 loop-again c = again (reduceRow (c .before .before .before .args .size) (c .before .before .before .args .col)) (c .before .loop-test .taken) (c .reduce-row .ensures) (c .before .before .loop .inv)
@@ -43,10 +31,10 @@ reduce-below-spec =
     (tie.spec
     Inv-loop
     μ-loop
-    add-row
+    (search needs)
     loop-holds
-    reduce-row-requires
-    add-row-2
-    loop-less
+    (search needs)
+    (search needs)
+    (search needs)
     loop-again
     returns)

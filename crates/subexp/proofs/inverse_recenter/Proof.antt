@@ -1,32 +1,19 @@
--- `subexp::inverse_recenter` meets its contract. Assumes nothing.
+-- `subexp::inverse_recenter`: the tests are the definition's, and each return is the arm that they choose. Assumes nothing.
 use borrow.Author.Needs.{needs}
 use Rattle.subexp.proofs.inverse_recenter.Statement.{statement}
 use Rattle.subexp.proofs.inverse_recenter.Tie as tie
 use mathlib.Core.Path.{sym}
-use native.Mathlib.Omega.{arith}
 use Rattle.subexp.proofs.Centring.{inverse-far, inverse-even, inverse-odd}
-
-mul-if1 : tie.Need-mul-if1
-mul-if1 c = search needs
 
 returns : tie.Need-returns
 returns c = sym (inverse-far (c .before .args .r) (c .before .args .v) (c .if1 .taken))
 
-add-result : tie.Need-add-result
-add-result c = search needs
-
-sub-result : tie.Need-sub-result
-sub-result c = search needs
-
 returns-2 : tie.Need-returns-2
 returns-2 c = sym (inverse-odd (c .before .before .args .r) (c .before .before .args .v) (c .before .if1 .left) (c .if2 .taken))
-
-add-result-2 : tie.Need-add-result-2
-add-result-2 c = search needs
 
 returns-3 : tie.Need-returns-3
 returns-3 c = sym (inverse-even (c .before .before .args .r) (c .before .before .args .v) (c .before .if1 .left) (c .if2 .left))
 
 pub inverse-recenter-spec : {M : Type 1} → statement M
 inverse-recenter-spec =
-    tie.close (tie.spec mul-if1 returns add-result sub-result returns-2 add-result-2 returns-3)
+    tie.close (tie.spec (search needs) returns (search needs) (search needs) returns-2 (search needs) returns-3)

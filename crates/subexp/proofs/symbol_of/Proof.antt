@@ -1,4 +1,4 @@
--- `subexp::symbol_of` meets its contract. Assumes nothing.
+-- `subexp::symbol_of`: the middle decides which end is counted from, and the result is a symbol. Assumes nothing.
 use borrow.Author.Needs.{needs}
 use Rattle.subexp.proofs.symbol_of.Statement.{statement}
 use Rattle.subexp.proofs.symbol_of.Tie as tie
@@ -8,47 +8,34 @@ use native.Mathlib.Omega.{arith}
 use Rattle.subexp.specs.Recenter.{symbolOf}
 use Rattle.subexp.proofs.Centring.{symbol-near, symbol-far, symbol-lt, inverse-within}
 
-mul-if1 : tie.Need-mul-if1
-mul-if1 c = search needs
-
-inverse-recenter-requires : tie.Need-inverse-recenter-requires
-inverse-recenter-requires c κs = search needs
-
 returns : tie.Need-returns
 returns c =
-    let e : c .inverse-recenter .result ≡ symbolOf (c .before .before .args .mx) (c .before .before .args .r) (c .before .before .args .x) = c .inverse-recenter .ensures ∙ sym (symbol-near (c .before .before .args .mx) (c .before .before .args .r) (c .before .before .args .x) (c .before .if1 .taken)) in
-    (e, omega (arith, e, symbol-lt (c .before .before .args .mx) (c .before .before .args .r) (omega arith) (c .before .before .args .x) (omega arith)))
-
-sub-result : tie.Need-sub-result
-sub-result c = search needs
-
-sub-inverse-recenter : tie.Need-sub-inverse-recenter
-sub-inverse-recenter c = search needs
-
-sub-inverse-recenter-2 : tie.Need-sub-inverse-recenter-2
-sub-inverse-recenter-2 c = search needs
-
-inverse-recenter-requires-2 : tie.Need-inverse-recenter-requires-2
-inverse-recenter-requires-2 c κs = search needs
+    let a = c .before .before .args in
+    let e : c .inverse-recenter .result ≡ symbolOf (a .mx) (a .r) (a .x) = c .inverse-recenter .ensures ∙ sym (symbol-near (a .mx) (a .r) (a .x) (c .before .if1 .taken)) in
+    (e, omega (arith, e, symbol-lt (a .mx) (a .r) (omega arith) (a .x) (omega arith)))
 
 sub-result-2 : tie.Need-sub-result-2
-sub-result-2 c = omega (arith, c .inverse-recenter2 .ensures, inverse-within (c .before .before .args .mx) (c .before .before .args .mx - 1 - c .before .before .args .r) (c .before .before .args .x) (omega arith) (omega arith))
+sub-result-2 c =
+    let a = c .before .before .args in
+    omega (arith, c .inverse-recenter2 .ensures, inverse-within (a .mx) (a .mx - 1 - a .r) (a .x) (omega arith) (omega arith))
 
 returns-2 : tie.Need-returns-2
 returns-2 c =
-    let e : c .before .before .args .mx - 1 - c .inverse-recenter2 .result ≡ symbolOf (c .before .before .args .mx) (c .before .before .args .r) (c .before .before .args .x) = ap (λ (y : ℕ). c .before .before .args .mx - 1 - y) (c .inverse-recenter2 .ensures) ∙ sym (symbol-far (c .before .before .args .mx) (c .before .before .args .r) (c .before .before .args .x) (c .before .if1 .left)) in
-    (e, omega (arith, e, symbol-lt (c .before .before .args .mx) (c .before .before .args .r) (omega arith) (c .before .before .args .x) (omega arith)))
+    let a = c .before .before .args in
+    let e : a .mx - 1 - c .inverse-recenter2 .result ≡ symbolOf (a .mx) (a .r) (a .x) = ap (λ (y : ℕ). a .mx - 1 - y) (c .inverse-recenter2 .ensures)
+    ∙ sym (symbol-far (a .mx) (a .r) (a .x) (c .before .if1 .left)) in
+    (e, omega (arith, e, symbol-lt (a .mx) (a .r) (omega arith) (a .x) (omega arith)))
 
 pub symbol-of-spec : {M : Type 1} → statement M
 symbol-of-spec =
     tie.close
     (tie.spec
-    mul-if1
-    inverse-recenter-requires
+    (search needs)
+    (search needs)
     returns
-    sub-result
-    sub-inverse-recenter
-    sub-inverse-recenter-2
-    inverse-recenter-requires-2
+    (search needs)
+    (search needs)
+    (search needs)
+    (search needs)
     sub-result-2
     returns-2)

@@ -1,4 +1,4 @@
--- `subexp::unsigned_subexp_length` meets its contract. Assumes nothing.
+-- `subexp::unsigned_subexp_length`: a symbol's bits are those of its code number. Assumes nothing.
 use borrow.Author.Needs.{needs}
 use Rattle.subexp.proofs.unsigned_subexp_length.Statement.{statement}
 use Rattle.subexp.proofs.unsigned_subexp_length.Tie as tie
@@ -7,14 +7,8 @@ use mathlib.Core.Path.{ap, _∙_}
 use lib.ListN.{length}
 use Rattle.subexp.specs.Ladder.{subexpBits}
 
-code-of-requires : tie.Need-code-of-requires
-code-of-requires c κs = search needs
-
-subexp-length-requires : tie.Need-subexp-length-requires
-subexp-length-requires c κs = search needs
-
 returns : tie.Need-returns
 returns c = (c .subexp-length .ensures .0 ∙ ap (λ (x : ℕ). length (subexpBits (c .before .before .args .mx) x)) (c .before .code-of .ensures .0), c .subexp-length .ensures .1)
 
 pub unsigned-subexp-length-spec : {M : Type 1} → statement M
-unsigned-subexp-length-spec = tie.close (tie.spec code-of-requires subexp-length-requires returns)
+unsigned-subexp-length-spec = tie.close (tie.spec (search needs) (search needs) returns)

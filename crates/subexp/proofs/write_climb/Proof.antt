@@ -1,8 +1,8 @@
--- `subexp::write_climb` meets its contract. Assumes nothing.
+-- `subexp::write_climb`: i ones are the field 2 ^ i - 1 of i bits. Assumes nothing.
 use borrow.Author.Needs.{needs}
 use Rattle.subexp.proofs.write_climb.Statement.{statement}
 use Rattle.subexp.proofs.write_climb.Tie as tie
-use Prim.Native.Nat.{ℕ, _^_, _-_}
+use Prim.Native.Nat.{ℕ, _-_}
 use mathlib.Core.Path.{ap, _∙_}
 use native.Mathlib.Omega.{arith}
 use lib.Pow.{pow-pos}
@@ -10,21 +10,14 @@ use Rattle.bits.specs.Fields.{fieldBits}
 use Rattle.bits.proofs.Buffer.{wrote-as}
 use Rattle.subexp.proofs.Climbing.{ones}
 
-power-requires : tie.Need-power-requires
-power-requires c κs = search needs
-
 sub-write-bits : tie.Need-sub-write-bits
 sub-write-bits c = omega (arith, c .power .ensures, pow-pos (c .before .before .before .args .i))
 
-write-bits-requires : tie.Need-write-bits-requires
-write-bits-requires c κs = search needs
-
-same-length : tie.Need-same-length
-same-length c = search needs
-
 returns : tie.Need-returns
-returns c = wrote-as _ _ (ap (λ (p : ℕ). fieldBits (c .before .before .before .before .before .before .args .i) (p - 1)) (c .before .before .before .power .ensures) ∙ ones (c .before .before .before .before .before .before .args .i)) (c .before .before .write-bits .ensures)
+returns c =
+    let a = c .before .before .before .before .before .before .args in
+    wrote-as _ _ (ap (λ (p : ℕ). fieldBits (a .i) (p - 1)) (c .before .before .before .power .ensures) ∙ ones (a .i)) (c .before .before .write-bits .ensures)
 
 pub write-climb-spec : {M : Type 1} → statement M
 write-climb-spec =
-    tie.close (tie.spec power-requires sub-write-bits write-bits-requires same-length returns)
+    tie.close (tie.spec (search needs) sub-write-bits (search needs) (search needs) returns)

@@ -1,5 +1,5 @@
--- `worked_job::fill_plane` is safe and ends. Assumes nothing.
-use Prim.Native.Nat.{_≤_, _-_, _*_}
+-- `worked_job::fill_plane`: each store keeps the plane's length, and the counter rises to it. Assumes nothing.
+use Prim.Native.Nat.{_≤_, _-_}
 use mathlib.Core.Path.{_≡_, refl}
 use native.Mathlib.Omega.{arith}
 use lib.ListN.{length, length-set}
@@ -16,32 +16,8 @@ abbrev μ-loop : tie.MeasureT-loop
 loop-holds : tie.Need-loop-holds Inv-loop μ-loop
 loop-holds c = (omega arith, refl)
 
-next-state-requires : tie.Need-next-state-requires Inv-loop μ-loop
-next-state-requires c κs = search needs
-
-shade-requires : tie.Need-shade-requires Inv-loop μ-loop
-shade-requires c κs = search needs
-
-mul-plane : tie.Need-mul-plane Inv-loop μ-loop
-mul-plane c = search needs
-
-slice-write-plane : tie.Need-slice-write-plane Inv-loop μ-loop
-slice-write-plane c = search needs
-
-add-i : tie.Need-add-i Inv-loop μ-loop
-add-i c = search needs
-
-loop-less : tie.Need-loop-less Inv-loop μ-loop
-loop-less c = search needs
-
 loop-again : tie.Need-loop-again Inv-loop μ-loop
 loop-again c = (search needs, simp length-set (search needs))
-
-same-length : tie.Need-same-length Inv-loop μ-loop
-same-length c = search needs
-
-returns : tie.Need-returns Inv-loop μ-loop
-returns c = search needs
 
 pub fill-plane-spec : {M : Type 1} → statement M
 fill-plane-spec =
@@ -50,12 +26,12 @@ fill-plane-spec =
     Inv-loop
     μ-loop
     loop-holds
-    next-state-requires
-    shade-requires
-    mul-plane
-    slice-write-plane
-    add-i
-    loop-less
+    (search needs)
+    (search needs)
+    (search needs)
+    (search needs)
+    (search needs)
+    (search needs)
     loop-again
-    same-length
-    returns)
+    (search needs)
+    (search needs))

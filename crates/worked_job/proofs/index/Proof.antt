@@ -1,6 +1,5 @@
--- `worked_job::index` is safe and ends. Assumes nothing.
-use Prim.Native.Nat.{_≤_, _-_, _*_}
-use mathlib.Core.Path.{_≡_, refl}
+-- `worked_job::index`: a product of two numbers below 65536, and one more added, fits a usize. Assumes nothing.
+use Prim.Native.Nat.{_≤_, _-_}
 use native.Mathlib.Omega.{arith}
 use native.Mathlib.Nat.{mul-le-mul}
 use borrow.Author.Needs.{needs}
@@ -13,8 +12,5 @@ mul-result c = omega (arith, mul-le-mul (let a : c .args .row ≤ 65535 = omega 
 add-result : tie.Need-add-result
 add-result c = omega (arith, mul-le-mul (let a : c .args .row ≤ 65535 = omega arith in a) (let b : c .args .width ≤ 65535 = omega arith in b))
 
-returns : tie.Need-returns
-returns c = search needs
-
 pub index-spec : {M : Type 1} → statement M
-index-spec = tie.close (tie.spec mul-result add-result returns)
+index-spec = tie.close (tie.spec mul-result add-result (search needs))

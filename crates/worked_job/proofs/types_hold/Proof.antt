@@ -1,8 +1,5 @@
--- `worked_job::types_hold` is safe and ends. Assumes nothing.
-use Prim.Native.Nat.{_≤_, _-_, _*_}
-use mathlib.Core.Path.{_≡_, refl}
-use native.Mathlib.Omega.{arith}
-use lib.ListN.{length, length-set}
+-- `worked_job::types_hold`: each turn compares one type of the 7, and the counter rises to 7. Assumes nothing.
+use Prim.Native.Nat.{_≤_, _-_}
 use borrow.Author.Needs.{needs}
 use Rattle.worked_job.proofs.types_hold.Statement.{statement}
 use Rattle.worked_job.proofs.types_hold.Tie as tie
@@ -13,41 +10,17 @@ Inv-loop list types right₀ i₀ right i = i ≤ 7
 abbrev μ-loop : tie.MeasureT-loop
 μ-loop list types right₀ i₀ right i = 7 - i
 
-loop-holds : tie.Need-loop-holds Inv-loop μ-loop
-loop-holds c = search needs
-
-array-read-if1 : tie.Need-array-read-if1 Inv-loop μ-loop
-array-read-if1 c = search needs
-
-cast-if1 : tie.Need-cast-if1 Inv-loop μ-loop
-cast-if1 c = search needs
-
-next-word-requires : tie.Need-next-word-requires Inv-loop μ-loop
-next-word-requires c κs = search needs
-
-add-i : tie.Need-add-i Inv-loop μ-loop
-add-i c = search needs
-
-loop-less : tie.Need-loop-less Inv-loop μ-loop
-loop-less c = search needs
-
-loop-again : tie.Need-loop-again Inv-loop μ-loop
-loop-again c = search needs
-
-returns : tie.Need-returns Inv-loop μ-loop
-returns c = search needs
-
 pub types-hold-spec : {M : Type 1} → statement M
 types-hold-spec =
     tie.close
     (tie.spec
     Inv-loop
     μ-loop
-    loop-holds
-    array-read-if1
-    cast-if1
-    next-word-requires
-    add-i
-    loop-less
-    loop-again
-    returns)
+    (search needs)
+    (search needs)
+    (λ c. search needs)
+    (search needs)
+    (search needs)
+    (search needs)
+    (search needs)
+    (search needs))

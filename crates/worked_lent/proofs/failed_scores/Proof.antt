@@ -1,4 +1,4 @@
--- `worked_lent::failed_scores` meets its contract: at most one failure a case.
+-- `worked_lent::failed_scores`: a case adds at most one failure, so the sum is at most the counter, which rises to `count`.
 -- Assumes nothing.
 use Prim.Native.Nat.{_≤_, _-_}
 use borrow.Author.Needs.{needs}
@@ -11,37 +11,16 @@ Inv-loop count failed₀ case₀ failed case = (failed ≤ case) × (case ≤ co
 abbrev μ-loop : tie.MeasureT-loop
 μ-loop count failed₀ case₀ failed case = count - case
 
-loop-holds : tie.Need-loop-holds Inv-loop μ-loop
-loop-holds c = search needs
-
-failed-score-requires : tie.Need-failed-score-requires Inv-loop μ-loop
-failed-score-requires c κs = search needs
-
-add-failed : tie.Need-add-failed Inv-loop μ-loop
-add-failed c = search needs
-
-add-case : tie.Need-add-case Inv-loop μ-loop
-add-case c = search needs
-
-loop-less : tie.Need-loop-less Inv-loop μ-loop
-loop-less c = search needs
-
-loop-again : tie.Need-loop-again Inv-loop μ-loop
-loop-again c = search needs
-
-returns : tie.Need-returns Inv-loop μ-loop
-returns c = search needs
-
 pub failed-scores-spec : {M : Type 1} → statement M
 failed-scores-spec =
     tie.close
     (tie.spec
     Inv-loop
     μ-loop
-    loop-holds
-    failed-score-requires
-    add-failed
-    add-case
-    loop-less
-    loop-again
-    returns)
+    (search needs)
+    (search needs)
+    (search needs)
+    (search needs)
+    (search needs)
+    (search needs)
+    (search needs))

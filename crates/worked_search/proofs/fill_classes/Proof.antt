@@ -1,4 +1,4 @@
--- `worked_search::fill_classes` is safe and ends. Assumes nothing.
+-- `worked_search::fill_classes`: each store keeps the slice's length, and the counter rises to it. Assumes nothing.
 use borrow.Author.Needs.{needs}
 use Prim.Native.Nat.{_≤_, _-_}
 use mathlib.Core.Path.{_≡_, refl}
@@ -16,26 +16,8 @@ abbrev μ-loop : tie.MeasureT-loop
 loop-holds : tie.Need-loop-holds Inv-loop μ-loop
 loop-holds c = (omega arith, refl)
 
-cast-classes : tie.Need-cast-classes Inv-loop μ-loop
-cast-classes c = search needs
-
-slice-write-classes : tie.Need-slice-write-classes Inv-loop μ-loop
-slice-write-classes c = search needs
-
-add-i : tie.Need-add-i Inv-loop μ-loop
-add-i c = search needs
-
-loop-less : tie.Need-loop-less Inv-loop μ-loop
-loop-less c = search needs
-
 loop-again : tie.Need-loop-again Inv-loop μ-loop
 loop-again c = (search needs, simp length-set (search needs))
-
-same-length : tie.Need-same-length Inv-loop μ-loop
-same-length c = search needs
-
-returns : tie.Need-returns Inv-loop μ-loop
-returns c = search needs
 
 pub fill-classes-spec : {M : Type 1} → statement M
 fill-classes-spec =
@@ -44,10 +26,10 @@ fill-classes-spec =
     Inv-loop
     μ-loop
     loop-holds
-    cast-classes
-    slice-write-classes
-    add-i
-    loop-less
+    (search needs)
+    (search needs)
+    (search needs)
+    (search needs)
     loop-again
-    same-length
-    returns)
+    (search needs)
+    (search needs))

@@ -1,4 +1,4 @@
--- `worked_search::fill_plane` is safe and ends. Assumes nothing.
+-- `worked_search::fill_plane`: a width of 0 is not divided by, and the counter rises to the plane's length. Assumes nothing.
 use borrow.Author.Needs.{needs}
 use Prim.Native.Nat.{_≤_, _-_}
 use mathlib.Core.Path.{_≡_, refl}
@@ -13,47 +13,11 @@ Inv-loop t w width plane₀ i₀ plane i = (i ≤ length plane₀) × (length pl
 abbrev μ-loop : tie.MeasureT-loop
 μ-loop t w width plane₀ i₀ plane i = length plane₀ - i
 
-returns : tie.Need-returns Inv-loop μ-loop
-returns c = search needs
-
 loop-holds : tie.Need-loop-holds Inv-loop μ-loop
 loop-holds c = (omega arith, refl)
 
-div-place : tie.Need-div-place Inv-loop μ-loop
-div-place c = search needs
-
-place-requires : tie.Need-place-requires Inv-loop μ-loop
-place-requires c κs = search needs
-
-rem-place : tie.Need-rem-place Inv-loop μ-loop
-rem-place c = search needs
-
-place-requires-2 : tie.Need-place-requires-2 Inv-loop μ-loop
-place-requires-2 c κs = search needs
-
-pel-requires : tie.Need-pel-requires Inv-loop μ-loop
-pel-requires c κs = search needs
-
-mul-plane : tie.Need-mul-plane Inv-loop μ-loop
-mul-plane c = search needs
-
-slice-write-plane : tie.Need-slice-write-plane Inv-loop μ-loop
-slice-write-plane c = search needs
-
-add-i : tie.Need-add-i Inv-loop μ-loop
-add-i c = search needs
-
-loop-less : tie.Need-loop-less Inv-loop μ-loop
-loop-less c = search needs
-
 loop-again : tie.Need-loop-again Inv-loop μ-loop
 loop-again c = (search needs, simp length-set (search needs))
-
-same-length : tie.Need-same-length Inv-loop μ-loop
-same-length c = search needs
-
-returns-2 : tie.Need-returns-2 Inv-loop μ-loop
-returns-2 c = search needs
 
 pub fill-plane-spec : {M : Type 1} → statement M
 fill-plane-spec =
@@ -61,17 +25,17 @@ fill-plane-spec =
     (tie.spec
     Inv-loop
     μ-loop
-    returns
+    (search needs)
     loop-holds
-    div-place
-    place-requires
-    rem-place
-    place-requires-2
-    pel-requires
-    mul-plane
-    slice-write-plane
-    add-i
-    loop-less
+    (search needs)
+    (search needs)
+    (search needs)
+    (search needs)
+    (search needs)
+    (search needs)
+    (search needs)
+    (search needs)
+    (search needs)
     loop-again
-    same-length
-    returns-2)
+    (search needs)
+    (search needs))

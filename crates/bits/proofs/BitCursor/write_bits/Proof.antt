@@ -1,8 +1,8 @@
--- `bits::BitCursor::write_bits` meets its contract. The invariant: what is left to put here gives what was to be put at the start. Assumes nothing.
+-- `bits::BitCursor::write_bits`: what is left to put here gives what was to be put at the start. Assumes nothing.
 use borrow.Author.Needs.{needs}
 use Rattle.bits.proofs.BitCursor.write_bits.Statement.{statement}
 use Rattle.bits.proofs.BitCursor.write_bits.Tie as tie
-use Prim.Native.Nat.{ℕ, _+_, _≤_}
+use Prim.Native.Nat.{_+_, _≤_}
 use mathlib.Core.Path.{_≡_, _∙_, ap}
 use native.Mathlib.Omega.{arith}
 use lib.ListN.{length}
@@ -22,33 +22,21 @@ Inv-loop buffer₀ n value cursor₀ left₀ buffer cursor left =
 abbrev μ-loop : tie.MeasureT-loop
 μ-loop buffer₀ n value cursor₀ left₀ buffer cursor left = left
 
-loop-holds : tie.Need-loop-holds Inv-loop μ-loop
-loop-holds c = search needs
-
-sub-left : tie.Need-sub-left Inv-loop μ-loop
-sub-left c = search needs
-
-bit-of-requires : tie.Need-bit-of-requires Inv-loop μ-loop
-bit-of-requires c κs = search needs
-
 write-bit-requires : tie.Need-write-bit-requires Inv-loop μ-loop
 write-bit-requires c κs = (rw (c .bit-of .ensures) (bitOf-lt _ _), record { within = omega arith; small = omega arith })
 
-loop-less : tie.Need-loop-less Inv-loop μ-loop
-loop-less c = search needs
-
 loop-again : tie.Need-loop-again Inv-loop μ-loop
 loop-again c =
+    let a = c .before .before .before .before .before .before .before .before .args in
+    let loop = c .before .before .before .before .before .before .loop in
+    let loop-test = c .before .before .before .before .before .loop-test in
     let e = c .before .before .write-bit .ensures in
-    let inv = c .before .before .before .before .before .before .loop .inv in (
+    let inv = loop .inv in (
       omega arith,
       omega (arith, e .at),
       ap length (e .buffer) ∙ simp length-putBit (inv .2),
-      written-step (c .before .before .before .before .before .before .loop .buffer) (c .before .before .before .before .before .before .loop .cursor .at) (c .before .before .before .before .before .before .loop .left) (c .before .before .before .before .before .before .before .before .args .value) (c .before .before .before .before .before .loop-test .taken) (c .before .before .before .bit-of .ensures) (e .at) (e .buffer) (inv .3),
+      written-step (loop .buffer) (loop .cursor .at) (loop .left) (a .value) (loop-test .taken) (c .before .before .before .bit-of .ensures) (e .at) (e .buffer) (inv .3),
     )
-
-same-length : tie.Need-same-length Inv-loop μ-loop
-same-length c = search needs
 
 returns : tie.Need-returns Inv-loop μ-loop
 returns c =
@@ -61,11 +49,11 @@ write-bits-spec =
     (tie.spec
     Inv-loop
     μ-loop
-    loop-holds
-    sub-left
-    bit-of-requires
+    (search needs)
+    (search needs)
+    (search needs)
     write-bit-requires
-    loop-less
+    (search needs)
     loop-again
-    same-length
+    (search needs)
     returns)

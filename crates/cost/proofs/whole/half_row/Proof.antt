@@ -1,49 +1,10 @@
 -- `half_row`: a row whose displaced columns lie inside is two parts of constant width.
 -- Assumes nothing.
 use mathlib.Core.Path.{_∙_}
-use Rattle.cost.proofs.Rows.{row-inside}
 use borrow.Author.Needs.{needs}
+use Rattle.cost.proofs.Rows.{row-inside}
 use Rattle.cost.proofs.whole.half_row.Statement.{statement}
 use Rattle.cost.proofs.whole.half_row.Tie as tie
-
-row-start-requires : tie.Need-row-start-requires
-row-start-requires c κs = search needs
-
-displaced-start-requires : tie.Need-displaced-start-requires
-displaced-start-requires c κs = search needs
-
-add-row-of-8 : tie.Need-add-row-of-8
-add-row-of-8 c = search needs
-
-mul-row-of-8 : tie.Need-mul-row-of-8
-mul-row-of-8 c = search needs
-
-sub-row-of-8 : tie.Need-sub-row-of-8
-sub-row-of-8 c = search needs
-
-part-row-of-8-start : tie.Need-part-row-of-8-start
-part-row-of-8-start c = search needs
-
-part-row-of-8-end : tie.Need-part-row-of-8-end
-part-row-of-8-end c = search needs
-
-add-row-of-8-2 : tie.Need-add-row-of-8-2
-add-row-of-8-2 c = search needs
-
-mul-row-of-8-2 : tie.Need-mul-row-of-8-2
-mul-row-of-8-2 c = search needs
-
-sub-row-of-8-2 : tie.Need-sub-row-of-8-2
-sub-row-of-8-2 c = search needs
-
-part-row-of-8-start-2 : tie.Need-part-row-of-8-start-2
-part-row-of-8-start-2 c = search needs
-
-part-row-of-8-end-2 : tie.Need-part-row-of-8-end-2
-part-row-of-8-end-2 c = search needs
-
-row-of-8-requires : tie.Need-row-of-8-requires
-row-of-8-requires c κs = search needs
 
 returns : tie.Need-returns
 returns c =
@@ -51,29 +12,15 @@ returns c =
     record {
       same =
           c .row-of-8 .ensures .same
-          ∙ row-inside (a .input .now) (a .reference .now) (a .width) (a .height) (a .r) (a .c) 12 (a .y) (a .x) 8
-          (c .before .before .before .before .row-start .ensures .same)
-          (c .before .before .before .displaced-start .ensures .same)
-          (c .before .before .before .before .before .before .before .pre .1 .1 .left)
-          (c .before .before .before .before .before .before .before .pre .1 .1 .right);
+          ∙ row-inside (a .input .now) (a .reference .now) (a .place) (a .by) 12 8
+          (c .before .before .before .before .row-start .ensures)
+          (c .before .before .before .displaced-start .ensures)
+          (c .before .before .before .before .before .before .before .pre .1 .1);
       small = c .row-of-8 .ensures .small;
     }
 
 pub half-row-spec : {M : Type 1} → statement M
 half-row-spec =
     tie.close
-    (tie.spec
-    row-start-requires
-    displaced-start-requires
-    add-row-of-8
-    mul-row-of-8
-    sub-row-of-8
-    part-row-of-8-start
-    part-row-of-8-end
-    add-row-of-8-2
-    mul-row-of-8-2
-    sub-row-of-8-2
-    part-row-of-8-start-2
-    part-row-of-8-end-2
-    row-of-8-requires
-    returns)
+    (tie.spec (search needs) (search needs) (search needs) (search needs) (search needs) (search needs) (search needs)
+    (search needs) (search needs) (search needs) (search needs) (search needs) (search needs) returns)

@@ -1,49 +1,10 @@
 -- `int_row`: a row whose displaced columns lie inside is two parts of constant width.
 -- Assumes nothing.
 use mathlib.Core.Path.{_∙_}
-use Rattle.cost.proofs.Rows.{row-inside}
 use borrow.Author.Needs.{needs}
+use Rattle.cost.proofs.Rows.{row-inside}
 use Rattle.cost.proofs.whole.int_row.Statement.{statement}
 use Rattle.cost.proofs.whole.int_row.Tie as tie
-
-row-start-requires : tie.Need-row-start-requires
-row-start-requires c κs = search needs
-
-displaced-start-requires : tie.Need-displaced-start-requires
-displaced-start-requires c κs = search needs
-
-add-row-of-16 : tie.Need-add-row-of-16
-add-row-of-16 c = search needs
-
-mul-row-of-16 : tie.Need-mul-row-of-16
-mul-row-of-16 c = search needs
-
-sub-row-of-16 : tie.Need-sub-row-of-16
-sub-row-of-16 c = search needs
-
-part-row-of-16-start : tie.Need-part-row-of-16-start
-part-row-of-16-start c = search needs
-
-part-row-of-16-end : tie.Need-part-row-of-16-end
-part-row-of-16-end c = search needs
-
-add-row-of-16-2 : tie.Need-add-row-of-16-2
-add-row-of-16-2 c = search needs
-
-mul-row-of-16-2 : tie.Need-mul-row-of-16-2
-mul-row-of-16-2 c = search needs
-
-sub-row-of-16-2 : tie.Need-sub-row-of-16-2
-sub-row-of-16-2 c = search needs
-
-part-row-of-16-start-2 : tie.Need-part-row-of-16-start-2
-part-row-of-16-start-2 c = search needs
-
-part-row-of-16-end-2 : tie.Need-part-row-of-16-end-2
-part-row-of-16-end-2 c = search needs
-
-row-of-16-requires : tie.Need-row-of-16-requires
-row-of-16-requires c κs = search needs
 
 returns : tie.Need-returns
 returns c =
@@ -51,29 +12,15 @@ returns c =
     record {
       same =
           c .row-of-16 .ensures .same
-          ∙ row-inside (a .input .now) (a .reference .now) (a .width) (a .height) (a .r) (a .c) 27 (a .y) (a .x) 16
-          (c .before .before .before .before .row-start .ensures .same)
-          (c .before .before .before .displaced-start .ensures .same)
-          (c .before .before .before .before .before .before .before .pre .1 .1 .left)
-          (c .before .before .before .before .before .before .before .pre .1 .1 .right);
+          ∙ row-inside (a .input .now) (a .reference .now) (a .place) (a .by) 27 16
+          (c .before .before .before .before .row-start .ensures)
+          (c .before .before .before .displaced-start .ensures)
+          (c .before .before .before .before .before .before .before .pre .1 .1);
       small = c .row-of-16 .ensures .small;
     }
 
 pub int-row-spec : {M : Type 1} → statement M
 int-row-spec =
     tie.close
-    (tie.spec
-    row-start-requires
-    displaced-start-requires
-    add-row-of-16
-    mul-row-of-16
-    sub-row-of-16
-    part-row-of-16-start
-    part-row-of-16-end
-    add-row-of-16-2
-    mul-row-of-16-2
-    sub-row-of-16-2
-    part-row-of-16-start-2
-    part-row-of-16-end-2
-    row-of-16-requires
-    returns)
+    (tie.spec (search needs) (search needs) (search needs) (search needs) (search needs) (search needs) (search needs)
+    (search needs) (search needs) (search needs) (search needs) (search needs) (search needs) returns)

@@ -1,0 +1,10 @@
+pub mod Stages
+pub mod Samples
+pub mod Blocks
+pub mod OwnModel
+pub mod Seven
+pub mod Written
+pub mod Refused
+pub mod Six
+pub mod Demand3
+pub mod HeaderRead

@@ -1,0 +1,3 @@
+pub mod Outcome
+pub mod Demand3
+pub mod Done

@@ -1,3 +1,0 @@
-pub mod Task
-pub mod Rows
-pub mod Ready

@@ -1,0 +1,206 @@
+// What a job is handed, and the rows of the table of refusals that it meets before its search: 1, 2,
+// 4, 5, 7, 8, 3, in the table's order (document 01, 'Job', 'When a call says no'). In go the settings,
+// how long planes and lent buffers are, and the lists that are looked into; out comes the first row
+// that holds, 0 for none. The rows are judged in groups; a group is a function.
+use layout::BLOCK_BYTES;
+ghost use mathlib.Core.Path.{_≡_};
+ghost use Prim.Native.Nat.{_*_, _≤_};
+ghost use lib.ListN.{length};
+ghost use Rattle.laws.specs.Refusal.{judge};
+ghost use Rattle.plane.specs.Inner.{Small};
+ghost use Rattle.job_task.specs.Rows.{wrongLengths, badCodes, noReference, tooLittle, sizeRows, codeRows, modelRows, roomRows, refusalBefore};
+
+const BLOCK: usize = 16;
+
+// Six models beside the job's own, and a prior of seven.
+const OTHER_TYPES: usize = 6;
+
+const OTHER_NUMBERS: usize = 36;
+
+const PRIOR_NUMBERS: usize = 42;
+
+const LAST_TYPE: u8 = 3;
+
+const LAST_REFERENCE: u8 = 7;
+
+// What a job's header buffer needs.
+const HEADER_BYTES: usize = 124;
+
+// The rows of the table of refusals.
+const TOO_LARGE: u32 = 1;
+
+const WRONG_LENGTH: u32 = 2;
+
+const BAD_CODE: u32 = 4;
+
+const NO_REFERENCE: u32 = 5;
+
+const WRONG_MODEL: u32 = 7;
+
+const PRIOR_OUT: u32 = 8;
+
+const TOO_LITTLE: u32 = 3;
+
+// The frame number of the blocks, the type to fit, the reference that the model is for, and the
+// flag of high precision.
+#[repr(C)]
+pub struct Settings {
+    pub frame: u16,
+    pub gm_type: u8,
+    pub reference: u8,
+    pub flag: u8,
+}
+
+// The sides of the planes, and how long planes and lent buffers are.
+pub struct Sizes {
+    pub width: usize,
+    pub height: usize,
+    pub input: usize,
+    pub reference: usize,
+    pub input_half: usize,
+    pub ref_half: usize,
+    pub words: usize,
+    pub blocks: usize,
+    pub header: usize,
+}
+
+fn wrong_lengths(sizes: Sizes, classes: usize, types: usize, models: usize, prior: usize) -> bool
+    requires { ⌜ Small (sizes .width) (sizes .height) ⌝ }
+    ensures { λ b. ⌜ b ≡ wrongLengths sizes classes types models prior ⌝ }
+{
+    if search::refusals::wrong_length(
+        sizes.width,
+        sizes.height,
+        sizes.input,
+        sizes.reference,
+        classes,
+    ) {
+        return true;
+    }
+    if types != OTHER_TYPES {
+        return true;
+    }
+    if models != OTHER_NUMBERS {
+        return true;
+    }
+    prior != PRIOR_NUMBERS
+}
+
+fn bad_codes(settings: Settings, classes: &[u8], types: &[u8]) -> bool
+    ensures { λ b. ⌜ b ≡ badCodes settings (now (classes .entry)) (now (types .entry)) ⌝ }
+{
+    if search::refusals::bad_class(classes) {
+        return true;
+    }
+    if settings.gm_type == 0 {
+        return true;
+    }
+    if LAST_TYPE < settings.gm_type {
+        return true;
+    }
+    if models::types_over(types) {
+        return true;
+    }
+    1 < settings.flag
+}
+
+fn no_reference(reference: u8) -> bool
+    ensures { λ b. ⌜ b ≡ noReference reference ⌝ }
+{
+    if reference == 0 {
+        return true;
+    }
+    LAST_REFERENCE < reference
+}
+
+fn too_little(sizes: Sizes) -> bool
+    requires { ⌜ Small (sizes .width) (sizes .height) ⌝ }
+    ensures { λ b. ⌜ b ≡ tooLittle sizes ⌝ }
+{
+    if search::refusals::too_short(
+        sizes.width,
+        sizes.height,
+        sizes.input_half,
+        sizes.ref_half,
+        sizes.words,
+    ) {
+        return true;
+    }
+    let samples = sizes.height / BLOCK * (sizes.width / BLOCK);
+    if sizes.blocks < BLOCK_BYTES * block::blocks_of(samples) {
+        return true;
+    }
+    sizes.header < HEADER_BYTES
+}
+
+fn sizes_refusal(sizes: Sizes, classes: usize, types: usize, models: usize, prior: usize) -> u32
+    ensures { λ r. ⌜ r ≡ judge (sizeRows sizes classes types models prior) ⌝ }
+{
+    if search::refusals::too_large(sizes.width, sizes.height) {
+        return TOO_LARGE;
+    }
+    if wrong_lengths(sizes, classes, types, models, prior) {
+        return WRONG_LENGTH;
+    }
+    0
+}
+
+fn codes_refusal(settings: Settings, classes: &[u8], types: &[u8]) -> u32
+    ensures { λ r. ⌜ r ≡ judge (codeRows settings (now (classes .entry)) (now (types .entry))) ⌝ }
+{
+    if bad_codes(settings, classes, types) {
+        return BAD_CODE;
+    }
+    if no_reference(settings.reference) {
+        return NO_REFERENCE;
+    }
+    0
+}
+
+fn models_refusal(settings: Settings, types: &[u8], models: &[i32], prior: &[i32]) -> u32
+    requires { ⌜ 6 * length (now types) ≤ length (now models) ⌝ }
+    ensures { λ r. ⌜ r ≡ judge (modelRows settings (now (types .entry)) (now (models .entry)) (now (prior .entry))) ⌝ }
+{
+    if models::models_wrong(types, settings.flag, models) {
+        return WRONG_MODEL;
+    }
+    if models::priors_out(prior) {
+        return PRIOR_OUT;
+    }
+    0
+}
+
+fn room_refusal(sizes: Sizes) -> u32
+    requires { ⌜ Small (sizes .width) (sizes .height) ⌝ }
+    ensures { λ r. ⌜ r ≡ judge (roomRows sizes) ⌝ }
+{
+    if too_little(sizes) {
+        return TOO_LITTLE;
+    }
+    0
+}
+
+pub fn refusal_of(
+    sizes: Sizes,
+    settings: Settings,
+    classes: &[u8],
+    types: &[u8],
+    models: &[i32],
+    prior: &[i32],
+) -> u32
+    ensures { λ r. ⌜ r ≡ refusalBefore sizes settings (now (classes .entry)) (now (types .entry)) (now (models .entry)) (now (prior .entry)) ⌝ }
+{
+    let lengths = sizes_refusal(sizes, classes.len(), types.len(), models.len(), prior.len());
+    if lengths != 0 {
+        return lengths;
+    }
+    let codes = codes_refusal(settings, classes, types);
+    if codes != 0 {
+        return codes;
+    }
+    let handed = models_refusal(settings, types, models, prior);
+    if handed != 0 {
+        return handed;
+    }
+    room_refusal(sizes)
+}

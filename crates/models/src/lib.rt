@@ -1,0 +1,145 @@
+// What a header can carry: types, models and priors go in, whether a row of the table of refusals
+// holds comes out. Answers to document 01, 'Header' (the slots of a type, the pair) and rows 4, 7
+// and 8; clause 5.9.24; the assertions of `write_global_param` and `encode_inter_global_motion`.
+ghost use mathlib.Core.Path.{_≡_};
+ghost use Prim.Native.Nat.{_+_, _*_, _≤_, _<_};
+ghost use lib.IntN.{negℤ};
+ghost use lib.ListN.{length};
+ghost use Rattle.models.specs.Integers.{equal};
+ghost use Rattle.grid.specs.Symbols.{priorOut};
+ghost use Rattle.models.specs.Models.{carries, slotWrong, slotAt, modelWrong, modelsWrong, priorsOut, typesOver};
+
+const IDENTITY: u8 = 0;
+
+const TRANSLATION: u8 = 1;
+
+const ROTZOOM: u8 = 2;
+
+const AFFINE: u8 = 3;
+
+// Document 01, 'Header': how far a prior's number may lie from its slot's centre, in slots 0 and 1 and in
+// the others.
+const TRANSLATION_PRIOR: u64 = 4194304;
+
+const LINEAR_PRIOR: u64 = 8192;
+
+pub fn carries_slot(gm_type: u8, slot: u8) -> bool
+    ensures { λ r. ⌜ r ≡ carries «gm_type» slot ⌝ }
+{
+    if gm_type == IDENTITY {
+        return false;
+    }
+    if gm_type == TRANSLATION {
+        return slot < 2;
+    }
+    if gm_type == ROTZOOM {
+        return slot < 4;
+    }
+    true
+}
+
+fn same(a: i32, b: i32) -> bool
+    ensures { λ r. ⌜ r ≡ equal a b ⌝ }
+{
+    a == b
+}
+
+// In 64 bits, since the least i32 has no opposite among the i32.
+fn opposite(a: i32, b: i32) -> bool
+    ensures { λ r. ⌜ r ≡ equal a (negℤ b) ⌝ }
+{
+    a as i64 == 0 - b as i64
+}
+
+// A slot's number is its own quantization, or what fills a slot that the type doesn't carry.
+fn slot_wrong(gm_type: u8, flag: u8, slot: u8, z: i32, p2: i32, p3: i32) -> bool
+    ensures { λ r. ⌜ r ≡ slotWrong «gm_type» flag slot z p2 p3 ⌝ }
+{
+    if carries_slot(gm_type, slot) {
+        return !same(z, grid::nearest_number(gm_type, flag, slot, z));
+    }
+    if gm_type == ROTZOOM {
+        if slot == 4 {
+            return !opposite(z, p3);
+        }
+        return !same(z, p2);
+    }
+    !same(z, grid::centre_of(slot) as i32)
+}
+
+fn slot_at(gm_type: u8, flag: u8, params: &[i32], first: usize, slot: u8) -> bool
+    requires { ⌜ (first + 6 ≤ length (now params)) × (slot < 6) ⌝ }
+    ensures { λ r. ⌜ r ≡ slotAt «gm_type» flag (now (params .entry)) first slot ⌝ }
+{
+    let z = params[first + slot as usize];
+    let p2 = params[first + 2];
+    let p3 = params[first + 3];
+    slot_wrong(gm_type, flag, slot, z, p2, p3)
+}
+
+// The model whose six numbers begin at `first`.
+pub fn model_wrong(gm_type: u8, flag: u8, params: &[i32], first: usize) -> bool
+    requires { ⌜ first + 6 ≤ length (now params) ⌝ }
+    ensures { λ r. ⌜ r ≡ modelWrong «gm_type» flag (now (params .entry)) first ⌝ }
+{
+    let mut slot = 0u8;
+    while slot < 6 {
+        if slot_at(gm_type, flag, params, first, slot) {
+            return true;
+        }
+        slot += 1;
+    }
+    false
+}
+
+// As many models as there are types.
+pub fn models_wrong(types: &[u8], flag: u8, params: &[i32]) -> bool
+    requires { ⌜ 6 * length (now types) ≤ length (now params) ⌝ }
+    ensures { λ r. ⌜ r ≡ modelsWrong (now (types .entry)) flag (now (params .entry)) ⌝ }
+{
+    let mut k = 0;
+    while k < types.len() {
+        if model_wrong(types[k], flag, params, 6 * k) {
+            return true;
+        }
+        k += 1;
+    }
+    false
+}
+
+fn prior_out(slot: u8, z: i32) -> bool
+    ensures { λ r. ⌜ r ≡ priorOut slot z ⌝ }
+{
+    let distance = grid::magnitude(grid::from_centre(z, grid::centre_of(slot)));
+    if slot < 2 {
+        return TRANSLATION_PRIOR < distance;
+    }
+    LINEAR_PRIOR < distance
+}
+
+// A list of priors, six to a reference.
+pub fn priors_out(prior: &[i32]) -> bool
+    ensures { λ r. ⌜ r ≡ priorsOut (now (prior .entry)) ⌝ }
+{
+    let mut i = 0;
+    while i < prior.len() {
+        if prior_out((i % 6) as u8, prior[i]) {
+            return true;
+        }
+        i += 1;
+    }
+    false
+}
+
+pub fn types_over(types: &[u8]) -> bool
+    ensures { λ r. ⌜ r ≡ typesOver (now (types .entry)) ⌝ }
+{
+    let mut k = 0;
+    while k < types.len() {
+        if AFFINE < types[k] {
+            return true;
+        }
+        k += 1;
+    }
+    false
+}
