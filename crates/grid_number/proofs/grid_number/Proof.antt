@@ -32,7 +32,7 @@ pub grid-number-spec : {M : Type 1} → statement M
 grid-number-spec =
     tie.close
     (tie.spec
-    (search needs)
+    (λ c κs. search needs)
     (search needs)
     returns
     rounded-magnitude-requires-2

@@ -9,4 +9,4 @@ returns-2 c = rw (c .before .enum-told2 .given .1) (c .eliminate-column .ensures
 
 pub column-step-spec : {M : Type 1} → statement M
 column-step-spec =
-    tie.close (tie.spec (search needs) (search needs) (search needs) (search needs) returns-2)
+    tie.close (tie.spec (search needs) (search needs) (search needs) (λ c. search needs) returns-2)

@@ -9,4 +9,4 @@ returns : tie.Need-returns
 returns c = (later-bits (c .before .args .i) (c .if1 .taken), omega arith)
 
 pub rung-bits-spec : {M : Type 1} → statement M
-rung-bits-spec = tie.close (tie.spec (search needs) (search needs) returns (search needs))
+rung-bits-spec = tie.close (tie.spec (search needs) (search needs) returns (λ c. search needs))
