@@ -80,7 +80,7 @@ def task(width=48, height=32, gm_type=1, **changes):
 
 
 def words(count):
-    return array("I", (i << 20 | 223 << 11 | 223 << 2 for i in range(count)))
+    return array("I", ((i % 4096) << 20 | 223 << 11 | 223 << 2 for i in range(count)))
 
 
 class Jobs(unittest.TestCase):
@@ -227,7 +227,9 @@ class Refusals(unittest.TestCase):
             buffers = Guarded(48, 32)
             before = buffers.state()
             with self.subTest(number=number, change=list(change)):
-                self.refused(number, belt.job, buffers=buffers, **task(**change))
+                arguments = task()
+                arguments.update(change)
+                self.refused(number, belt.job, buffers=buffers, **arguments)
                 self.assertEqual(buffers.state(), before)
         for name in ("input_half", "ref_half", "words", "blocks", "header"):
             buffers = Guarded(48, 32, shorter=name)
