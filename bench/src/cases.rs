@@ -90,6 +90,10 @@ impl Case {
         }
     }
 
+    pub fn is_a_job(&self) -> bool {
+        matches!(self, WholeJob(..))
+    }
+
     /// Both sides, after their answers were compared.
     pub fn sides(&self) -> Sides {
         match *self {
