@@ -3,8 +3,8 @@
 // degrees, how many samples agree, the score and the bits; then what is stored: the header's bytes and
 // the blocks as the list program prints them; last, whether all of it is right.
 ghost use Prim.Native.Nat.{_≤_, _<_};
-use job_outcome::Report;
-use job_task::Settings;
+use job::Report;
+use job::Settings;
 use libc::STDOUT_FILENO;
 
 const SIDE: usize = 64;
