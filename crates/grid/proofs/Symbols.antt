@@ -56,7 +56,8 @@ module _ (abs prec c : ℕ) where
 -- ---- places
 
 -- the place as the code computes it: from the least codable number up
-pub place-steps : (abs prec slot : ℕ) (z : ℤ) → lessOf prec slot * step prec ≡ centre slot → natAbs (z -ℤ pos (centre slot)) ≤ 2 ^ abs * step prec → placeNumber abs prec slot z ≡ pos (natAbs ((z -ℤ pos (centre slot)) +ℤ pos (2 ^ abs * step prec)) / step prec)
+pub place-steps : (abs prec slot : ℕ) (z : ℤ) → lessOf prec slot * step prec ≡ centre slot → natAbs (z -ℤ pos (centre slot)) ≤ 2 ^ abs * step prec
+    → placeNumber abs prec slot z ≡ pos (natAbs ((z -ℤ pos (centre slot)) +ℤ pos (2 ^ abs * step prec)) / step prec)
 place-steps abs prec slot z e h =
     let d = step prec in
     let a = 2 ^ abs in
@@ -70,14 +71,17 @@ place-steps abs prec slot z e h =
     ∙ sym (floor-steps d (pow-pos (16 - prec)) y a)
     ∙ ap (λ (t : ℤ). shrZ t d) (lifted y (a * d) h)
 
-pub place-code : (abs prec slot : ℕ) (z : ℤ) → lessOf prec slot * step prec ≡ centre slot → natAbs (z -ℤ pos (centre slot)) ≤ 2 ^ abs * step prec → placeOf abs prec slot z ≡ natAbs ((z -ℤ pos (centre slot)) +ℤ pos (2 ^ abs * step prec)) / step prec
+pub place-code : (abs prec slot : ℕ) (z : ℤ) → lessOf prec slot * step prec ≡ centre slot → natAbs (z -ℤ pos (centre slot)) ≤ 2 ^ abs * step prec
+    → placeOf abs prec slot z ≡ natAbs ((z -ℤ pos (centre slot)) +ℤ pos (2 ^ abs * step prec)) / step prec
 unfolding placeOf
 place-code abs prec slot z e h = ap natAbs (place-steps abs prec slot z e h)
 
-pub place-natural : (abs prec slot : ℕ) (z : ℤ) → lessOf prec slot * step prec ≡ centre slot → natAbs (z -ℤ pos (centre slot)) ≤ 2 ^ abs * step prec → placeNumber abs prec slot z ≡ pos (placeOf abs prec slot z)
+pub place-natural : (abs prec slot : ℕ) (z : ℤ) → lessOf prec slot * step prec ≡ centre slot → natAbs (z -ℤ pos (centre slot)) ≤ 2 ^ abs * step prec
+    → placeNumber abs prec slot z ≡ pos (placeOf abs prec slot z)
 place-natural abs prec slot z e h = place-steps abs prec slot z e h ∙ ap pos (sym (place-code abs prec slot z e h))
 
-pub place-below : (abs prec slot : ℕ) (z : ℤ) → lessOf prec slot * step prec ≡ centre slot → natAbs (z -ℤ pos (centre slot)) ≤ 2 ^ abs * step prec → placeOf abs prec slot z < symbols abs
+pub place-below : (abs prec slot : ℕ) (z : ℤ) → lessOf prec slot * step prec ≡ centre slot → natAbs (z -ℤ pos (centre slot)) ≤ 2 ^ abs * step prec
+    → placeOf abs prec slot z < symbols abs
 place-below abs prec slot z e h =
     let y = z -ℤ pos (centre slot) in
     let n = 2 ^ abs * step prec in
@@ -115,5 +119,6 @@ module _ (gmType flag slot : ℕ) (z : ℤ) (h : priorOut slot z ≡ false) wher
   pub row-place : placeNumber (absBits gmType flag slot) (precBits gmType flag slot) slot z ≡ pos (placeOf (absBits gmType flag slot) (precBits gmType flag slot) slot z)
   row-place = place-natural (absBits gmType flag slot) (precBits gmType flag slot) slot z (row-less gmType flag slot) in-reach
 
-  pub row-place-code : placeOf (absBits gmType flag slot) (precBits gmType flag slot) slot z ≡ natAbs ((z -ℤ pos (centre slot)) +ℤ pos (2 ^ absBits gmType flag slot * step (precBits gmType flag slot))) / step (precBits gmType flag slot)
+  pub row-place-code : placeOf (absBits gmType flag slot) (precBits gmType flag slot) slot z
+      ≡ natAbs ((z -ℤ pos (centre slot)) +ℤ pos (2 ^ absBits gmType flag slot * step (precBits gmType flag slot))) / step (precBits gmType flag slot)
   row-place-code = place-code (absBits gmType flag slot) (precBits gmType flag slot) slot z (row-less gmType flag slot) in-reach

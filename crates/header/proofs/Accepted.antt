@@ -87,7 +87,8 @@ module _ (types : List ℕ) (ps : List ℤ) (flag : ℕ) (qs : List ℤ) where
     unfolding headerAfter
     bytes-written header e = left-accepted (writeRefusal start types ps flag qs (length header)) _ header e
 
-    pub wrote : (header after : List ℕ) (n : ℕ) → writeRefusal start types ps flag qs (length header) ≡ 0 → n ≡ length (headerBits types ps flag qs) → after ≡ bitsPlaced start (headerBits types ps flag qs) header
+    pub wrote : (header after : List ℕ) (n : ℕ) → writeRefusal start types ps flag qs (length header) ≡ 0
+        → n ≡ length (headerBits types ps flag qs) → after ≡ bitsPlaced start (headerBits types ps flag qs) header
         → (record { refusal = 0; bits = n } ≡ written start types ps flag qs (length header)) × (after ≡ headerAfter start types ps flag qs header)
     wrote header after n e count bytes =
         (ap (λ (k : ℕ). record { refusal = 0; bits = k }) count ∙ sym (answer-written (length header) e), bytes ∙ sym (bytes-written header e))

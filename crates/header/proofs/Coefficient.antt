@@ -39,7 +39,8 @@ module _ (gmType flag slot : ℕ) where
   pub at-most-its-bits : (z q : ℤ) → length (coefficientBits gmType flag slot z q) ≤ 2 * absBits gmType flag slot - 1
   unfolding coefficientBits
   at-most-its-bits z q =
-      twice-absBits-less-one-at-most (absBits gmType flag slot) (place gmType flag slot q) (symbolOf (absBits gmType flag slot) (precBits gmType flag slot) (centre slot) z) (absBits-range gmType flag slot .0)
+      twice-absBits-less-one-at-most (absBits gmType flag slot) (place gmType flag slot q) (symbolOf (absBits gmType flag slot) (precBits gmType flag slot) (centre slot) z)
+      (absBits-range gmType flag slot .0)
 
   pub at-most-23-bits : (z q : ℤ) → length (coefficientBits gmType flag slot z q) ≤ 23
   at-most-23-bits z q = omega (arith, at-most-its-bits z q, absBits-range gmType flag slot .1)

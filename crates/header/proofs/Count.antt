@@ -37,7 +37,8 @@ module _ (types : List ℕ) (ps : List ℤ) (flag : ℕ) (qs : List ℤ) where
   references-count zero r = refl
   references-count (suc n) r =
       let front : sum (λ i. count (r + i)) (suc n) ≡ count (r + 0) + sum (λ i. count (r + suc i)) n = sum-front (λ i. count (r + i)) n in
-      let rest : sum (λ i. count (r + 1 + i)) n ≡ sum (λ i. count (r + suc i)) n = sum-same (λ i. count (r + 1 + i)) (λ i. count (r + suc i)) n (λ i. ap count (let e : r + 1 + i ≡ r + suc i = omega arith in e)) in
+      let rest : sum (λ i. count (r + 1 + i)) n ≡ sum (λ i. count (r + suc i)) n =
+      sum-same (λ i. count (r + 1 + i)) (λ i. count (r + suc i)) n (λ i. ap count (let e : r + 1 + i ≡ r + suc i = omega arith in e)) in
       let first : count (r + 0) ≡ count r = ap count (let e : r + 0 ≡ r = omega arith in e) in
       length-append (referenceBits flag ps qs (getD types r 0) (6 * r)) (referencesBits flag ps qs types n (r + 1))
       ∙ rw (model-count flag ps qs (getD types r 0) (6 * r), references-count n (r + 1), rest) (sym (front ∙ ap (λ (x : ℕ). x + sum (λ i. count (r + suc i)) n) first))

@@ -36,6 +36,11 @@ right true e = refl
 right false e = sym e
 
 module _ (types : List ℕ) (flag : ℕ) (ps : List ℤ) (r : ℕ) where
+  abbrev rightNumber : ℕ → ℤ
+  rightNumber slot =
+      choose (carries (getD types r 0) slot) (quantized (getD types r 0) flag slot (slotOf ps (6 * r) slot))
+      (filler (getD types r 0) slot (slotOf ps (6 * r) 2) (slotOf ps (6 * r) 3))
+
   pub valid-model : r < length types → typesOver types ≡ false → modelsWrong types flag ps ≡ false → ValidModel (getD types r 0) flag ps (6 * r)
   unfolding typesOver modelsWrong modelWrong slotWrong
   valid-model h known wrong =
@@ -47,11 +52,10 @@ module _ (types : List ℕ) (flag : ℕ) (ps : List ℤ) (r : ℕ) where
         filled = λ slot l c. rw c at (own slot l);
       }
     where
-      own : (slot : ℕ) → slot < 6 → slotOf ps (6 * r) slot ≡ choose (carries (getD types r 0) slot) (quantized (getD types r 0) flag slot (slotOf ps (6 * r) slot)) (filler (getD types r 0) slot (slotOf ps (6 * r) 2) (slotOf ps (6 * r) 3))
+      own : (slot : ℕ) → slot < 6 → slotOf ps (6 * r) slot ≡ rightNumber slot
       own slot l =
           let e : slotAt (getD types r 0) flag ps (6 * r) slot ≡ false = each-fails (slotAt (getD types r 0) flag ps (6 * r)) 6 (each-fails (modelAt types flag ps) (length types) wrong r h) slot l in
-          same-equal (slotOf ps (6 * r) slot) (choose (carries (getD types r 0) slot) (quantized (getD types r 0) flag slot (slotOf ps (6 * r) slot)) (filler (getD types r 0) slot (slotOf ps (6 * r) 2) (slotOf ps (6 * r) 3)))
-          (right (equal (slotOf ps (6 * r) slot) (choose (carries (getD types r 0) slot) (quantized (getD types r 0) flag slot (slotOf ps (6 * r) slot)) (filler (getD types r 0) slot (slotOf ps (6 * r) 2) (slotOf ps (6 * r) 3)))) e)
+          same-equal (slotOf ps (6 * r) slot) (rightNumber slot) (right (equal (slotOf ps (6 * r) slot) (rightNumber slot)) e)
 
 pub valid-prior : (qs : List ℤ) (r : ℕ) → 6 * r + 6 ≤ length qs → priorsOut qs ≡ false → ValidPrior qs (6 * r)
 unfolding priorsOut
@@ -150,7 +154,8 @@ module _ (types : List ℕ) (ps : List ℤ) (flag : ℕ) (qs : List ℤ) (w : Wr
       let xs : List ℕ = referenceBits flag ps qs (getD types r 0) (6 * r) in
       let ys : List ℕ = referencesBits flag ps qs types n (r + 1) in
       let m : referenceRead g flag qs (6 * r) j ≡ record { gmType = getD types r 0; six = sixOf ps (6 * r); bits = length xs } =
-      reference-back g bits flag ps qs (6 * r) (valid-prior qs r (omega arith) (w .within)) (getD types r 0) j (valid-model types flag ps r (omega arith) (w .known) (w .right)) (holds-front g j xs ys h) in
+      reference-back g bits flag ps qs (6 * r) (valid-prior qs r (omega arith) (w .within)) (getD types r 0) j
+      (valid-model types flag ps r (omega arith) (w .known) (w .right)) (holds-front g j xs ys h) in
       let rest : referencesRead g flag qs n (r + 1) (j + length xs) ≡ record { types = take n (drop (r + 1) types); params = take (6 * n) (drop (6 * (r + 1)) ps); bits = length ys } =
       references-back g bits n (r + 1) (j + length xs) (omega arith) (holds-back g j xs ys h) in
       rw (m, rest, length-append xs ys, six-more ps n r (omega arith), one-more types n r (omega arith))

@@ -67,7 +67,8 @@ pub record Worked : Type 0 where
   pub header-bytes : headerAfter 0 types params 1 prior (255 ∷ 255 ∷ 255 ∷ []) ≡ 0xA4 ∷ 0x20 ∷ 0x00 ∷ []
 
 pub worked : Worked
-unfolding quantize nearestOrdinal symbolOf placeOf putBit bitLength nsBits subexpBits codeOf typesOver modelsWrong modelWrong slotWrong filler priorsOut coefficientBits headerBits referenceBits modelBits writeRefusal written headerAfter
+unfolding quantize nearestOrdinal symbolOf placeOf putBit bitLength nsBits subexpBits codeOf typesOver modelsWrong modelWrong slotWrong filler priorsOut
+    coefficientBits headerBits referenceBits modelBits writeRefusal written headerAfter
 worked =
     record {
       centre = refl;

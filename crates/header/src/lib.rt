@@ -11,7 +11,8 @@ ghost use Rattle.grid.specs.Inner.{PriorIn};
 ghost use Rattle.header.specs.Coefficient.{coefficientBits};
 ghost use Rattle.header.specs.Count.{slotCount, modelCount, headerCount};
 ghost use Rattle.header.specs.Inner.{ModelReady, Seven, HeaderReady, TypeFieldIs};
-ghost use Rattle.header.specs.Writing.{slotBits, typeBits, modelBits, referenceBits, headerBits, lengthsWrong, bytesFor, tooShort, bitsPlaced, codeRows, writeRows, writeRefusal, written, headerAfter};
+ghost use Rattle.header.specs.Writing.{slotBits, typeBits, modelBits, referenceBits, headerBits, bitsPlaced, written, headerAfter};
+ghost use Rattle.header.specs.Writing.{lengthsWrong, bytesFor, tooShort, codeRows, writeRows, writeRefusal};
 use bits::BITS_OF_A_BYTE;
 use bits::BitCursor;
 use grid::IDENTITY;
@@ -323,7 +324,8 @@ fn write_header(
     header: &mut [u8],
 ) -> usize
     requires { ⌜ HeaderReady (now types) (now params) (now prior) × (start < 8) × (bytesFor start (length (headerBits (now types) (now params) flag (now prior))) ≤ length (now header)) ⌝ }
-    ensures { λ r. ⌜ (r ≡ length (headerBits (now (types .entry)) (now (params .entry)) flag (now (prior .entry)))) × (now (header .exit) ≡ bitsPlaced start (headerBits (now (types .entry)) (now (params .entry)) flag (now (prior .entry))) (now (header .entry))) ⌝ }
+    ensures { λ r. ⌜ (r ≡ length (headerBits (now (types .entry)) (now (params .entry)) flag (now (prior .entry))))
+        × (now (header .exit) ≡ bitsPlaced start (headerBits (now (types .entry)) (now (params .entry)) flag (now (prior .entry))) (now (header .entry))) ⌝ }
 {
     let end = write_references(BitCursor::new(start), header, types, flag, params, prior);
     let bits = end.at - start;

@@ -33,7 +33,8 @@ module _ (header : List ℕ) (at flag : ℕ) (qs : List ℤ) where
   unfolding models readRefusal
   refused n e some =
       let t : ReadModels = modelsRead header at flag qs in
-      let r : judge (priorRows flag qs) ≡ orElse (judge (priorRows flag qs)) (judge (endRows header at t)) = or-else-refused (judge (priorRows flag qs)) (judge (endRows header at t)) (λ z. some (e ∙ z)) in
+      let r : judge (priorRows flag qs) ≡ orElse (judge (priorRows flag qs)) (judge (endRows header at t)) =
+      or-else-refused (judge (priorRows flag qs)) (judge (endRows header at t)) (λ z. some (e ∙ z)) in
       ap noModels (e ∙ r) ∙ sym (answered-refused noModels (orElse (judge (priorRows flag qs)) (judge (endRows header at t))) (theModels t) (λ z. some (e ∙ r ∙ z)))
 
   pub read-within : judge (priorRows flag qs) ≡ 0 → within header at (modelsRead header at flag qs) ≡ models header at flag qs

@@ -23,7 +23,8 @@ module _ (g : ℕ → ℕ) (bits : (i : ℕ) → g i < 2) (j gmType flag slot : 
   read-below = symbol-within g bits (symbols (absBits gmType flag slot)) (omega arith) j (place gmType flag slot q) (row-place-below gmType flag slot q prior)
 
   -- the number's symbol is the one that was read
-  same-symbol : symbolOf (absBits gmType flag slot) (precBits gmType flag slot) (centre slot) (coefficient g j gmType flag slot q .value) ≡ symbol g j (symbols (absBits gmType flag slot)) (place gmType flag slot q) .value
+  same-symbol : symbolOf (absBits gmType flag slot) (precBits gmType flag slot) (centre slot) (coefficient g j gmType flag slot q .value)
+      ≡ symbol g j (symbols (absBits gmType flag slot)) (place gmType flag slot q) .value
   unfolding coefficient
   same-symbol =
       number-symbol (absBits gmType flag slot) (precBits gmType flag slot) (centre slot) (symbol g j (symbols (absBits gmType flag slot)) (place gmType flag slot q) .value) read-below
@@ -37,7 +38,8 @@ module _ (g : ℕ → ℕ) (bits : (i : ℕ) → g i < 2) (j gmType flag slot : 
   pub coefficient-all : length (coefficientBits gmType flag slot (coefficient g j gmType flag slot q .value) q) ≡ coefficient g j gmType flag slot q .bits
   unfolding coefficientBits coefficient
   coefficient-all =
-      subst (λ (t : ℕ). length (symbolBits (symbols (absBits gmType flag slot)) (place gmType flag slot q) t) ≡ symbol g j (symbols (absBits gmType flag slot)) (place gmType flag slot q) .bits) (sym same-symbol)
+      subst (λ (t : ℕ). length (symbolBits (symbols (absBits gmType flag slot)) (place gmType flag slot q) t) ≡ symbol g j (symbols (absBits gmType flag slot)) (place gmType flag slot q) .bits)
+      (sym same-symbol)
       (symbol-all g bits (symbols (absBits gmType flag slot)) (omega arith) j (place gmType flag slot q) (row-place-below gmType flag slot q prior))
 
   pub coefficient-few : coefficient g j gmType flag slot q .bits ≤ 23
@@ -48,7 +50,9 @@ module _ (g : ℕ → ℕ) (bits : (i : ℕ) → g i < 2) (j gmType flag slot : 
   coefficient-small =
       omega (
         arith,
-        natAbs-add-le ((pos (symbol g j (symbols (absBits gmType flag slot)) (place gmType flag slot q) .value) -ℤ pos (2 ^ absBits gmType flag slot)) *ℤ pos (step (precBits gmType flag slot))) (pos (centre slot)),
-        symbol-distance-small (absBits gmType flag slot) (precBits gmType flag slot) (table-row gmType flag slot) (symbol g j (symbols (absBits gmType flag slot)) (place gmType flag slot q) .value) read-below,
+        natAbs-add-le ((pos (symbol g j (symbols (absBits gmType flag slot)) (place gmType flag slot q) .value) -ℤ pos (2 ^ absBits gmType flag slot)) *ℤ pos (step (precBits gmType flag slot)))
+            (pos (centre slot)),
+        symbol-distance-small (absBits gmType flag slot) (precBits gmType flag slot) (table-row gmType flag slot)
+            (symbol g j (symbols (absBits gmType flag slot)) (place gmType flag slot q) .value) read-below,
         centre-le slot,
       )

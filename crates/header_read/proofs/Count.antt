@@ -22,12 +22,14 @@ use Rattle.header_read.proofs.Valid.{all-priors}
 pub record Counted (header : List ℕ) (at flag : ℕ) (qs : List ℤ) : Type 0 where
   pub adds-up : modelsRead header at flag qs .bits ≡ headerCount (modelsRead header at flag qs .types) (modelsRead header at flag qs .params) flag qs
   pub type-bits : (r : ℕ) → length (typeBits (getD (modelsRead header at flag qs .types) r 0)) ≤ 3
-  pub slot-bits : (r slot : ℕ) → slotCount flag (modelsRead header at flag qs .params) qs (getD (modelsRead header at flag qs .types) r 0) (6 * r) slot ≤ 2 * absBits (getD (modelsRead header at flag qs .types) r 0) flag slot - 1
+  pub slot-bits : (r slot : ℕ) → slotCount flag (modelsRead header at flag qs .params) qs (getD (modelsRead header at flag qs .types) r 0) (6 * r) slot
+      ≤ 2 * absBits (getD (modelsRead header at flag qs .types) r 0) flag slot - 1
   pub most : modelsRead header at flag qs .bits ≤ 987
 
 pub counted : (header : List ℕ) (at flag : ℕ) (qs : List ℤ) → length qs ≡ 42 → priorsOut qs ≡ false → Counted header at flag qs
 counted header at flag qs long within =
-    let all : length (headerBits (modelsRead header at flag qs .types) (modelsRead header at flag qs .params) flag qs) ≡ modelsRead header at flag qs .bits = rewritten header at flag qs (all-priors qs long within) .count in
+    let all : length (headerBits (modelsRead header at flag qs .types) (modelsRead header at flag qs .params) flag qs) ≡ modelsRead header at flag qs .bits =
+    rewritten header at flag qs (all-priors qs long within) .count in
     record {
       adds-up = sym all ∙ header-count (modelsRead header at flag qs .types) (modelsRead header at flag qs .params) flag qs;
       type-bits = λ r. three-type-bits (getD (modelsRead header at flag qs .types) r 0);

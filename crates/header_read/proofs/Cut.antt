@@ -26,20 +26,20 @@ bitAt-take l n j h =
 
 module _ (header : List ℕ) (at flag : ℕ) (qs : List ℤ) (p : PriorsReady qs) (n : ℕ) where
   -- the front part that holds the last bit reads as the whole
-  pub front-reads : at + modelsRead header at flag qs .bits ≤ 8 * n → modelsRead (take n header) at flag qs ≡ modelsRead header at flag qs
-  front-reads h =
+  pub front-same : at + modelsRead header at flag qs .bits ≤ 8 * n → modelsRead (take n header) at flag qs ≡ modelsRead header at flag qs
+  front-same h =
       read-same flag qs (p .places) (p .within) header at (take n header) at (λ i l. sym (bitAt-take header n (at + i) (omega arith)))
 
   -- a reading of the front part that ends in it is a reading of the whole
-  whole-reads : at + modelsRead (take n header) at flag qs .bits ≤ 8 * n → modelsRead header at flag qs ≡ modelsRead (take n header) at flag qs
-  whole-reads h =
+  whole-same : at + modelsRead (take n header) at flag qs .bits ≤ 8 * n → modelsRead header at flag qs ≡ modelsRead (take n header) at flag qs
+  whole-same h =
       read-same flag qs (p .places) (p .within) (take n header) at header at (λ i l. bitAt-take header n (at + i) (omega arith))
 
   ends-first : 8 * n < at + modelsRead header at flag qs .bits → 8 * length (take n header) < at + modelsRead (take n header) at flag qs .bits
   ends-first h =
       ⊎-elim
       (λ (l : 8 * n < at + modelsRead (take n header) at flag qs .bits). omega (arith, length-take n header))
-      (λ (l : at + modelsRead (take n header) at flag qs .bits ≤ 8 * n). absurd (omega (arith, ap (λ (t : ReadModels). t .bits) (whole-reads l))))
+      (λ (l : at + modelsRead (take n header) at flag qs .bits ≤ 8 * n). absurd (omega (arith, ap (λ (t : ReadModels). t .bits) (whole-same l))))
       (lt-or-le (8 * n) (at + modelsRead (take n header) at flag qs .bits))
 
   -- cut before the last bit

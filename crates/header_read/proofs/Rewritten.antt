@@ -173,7 +173,8 @@ module _ (g : ℕ → ℕ) (bits : (i : ℕ) → g i < 2) (flag : ℕ) (qs : Lis
     six-long : length (take 6 (drop (6 * r) ps)) ≡ 6
     six-long = length-take-le 6 (drop (6 * r) ps) (rw (lib.ListN.length-drop (6 * r) ps) (omega (arith, s .long, s .within)))
 
-    whole : take 6 (drop (6 * r) ps) ++ take (6 * n) (drop (6 * r + 6) ps) ≡ referenceRead g flag qs (6 * r) j .six ++ referencesRead g flag qs n (r + 1) (j + referenceRead g flag qs (6 * r) j .bits) .params
+    whole : take 6 (drop (6 * r) ps) ++ take (6 * n) (drop (6 * r + 6) ps)
+        ≡ referenceRead g flag qs (6 * r) j .six ++ referencesRead g flag qs n (r + 1) (j + referenceRead g flag qs (6 * r) j .bits) .params
     whole = sym six-more ∙ s .numbers
 
     pub stands-six : take 6 (drop (6 * r) ps) ≡ referenceRead g flag qs (6 * r) j .six

@@ -28,7 +28,8 @@ use Rattle.header_read.proofs.Valid.{all-priors}
 
 -- ---- written, then read
 
-module _ (types : List ℕ) (ps : List ℤ) (flag : ℕ) (qs : List ℤ) (w : Writable types ps flag qs) (f : flag ≤ 1) (start : ℕ) (old : List ℕ) (room : bytesFor start (length (headerBits types ps flag qs)) ≤ length old) where
+module _ (types : List ℕ) (ps : List ℤ) (flag : ℕ) (qs : List ℤ) (w : Writable types ps flag qs) (f : flag ≤ 1) (start : ℕ) (old : List ℕ)
+    (room : bytesFor start (length (headerBits types ps flag qs)) ≤ length old) where
   ready : PriorsReady qs
   ready = record { places = w .priors; within = w .within }
 
@@ -45,7 +46,8 @@ module _ (types : List ℕ) (ps : List ℤ) (flag : ℕ) (qs : List ℤ) (w : Wr
   -- cut short of its bytes
   pub written-cut : (n : ℕ) → n < bytesFor start (length (headerBits types ps flag qs)) → models (take n (bitsPlaced start (headerBits types ps flag qs) old)) start flag qs ≡ noModels 9
   written-cut n h =
-      let e : modelsRead (bitsPlaced start (headerBits types ps flag qs) old) start flag qs .bits ≡ length (headerBits types ps flag qs) = ap (λ (t : ReadModels). t .bits) (round-trip types ps flag qs w start old room) in
+      let e : modelsRead (bitsPlaced start (headerBits types ps flag qs) old) start flag qs .bits ≡ length (headerBits types ps flag qs) =
+      ap (λ (t : ReadModels). t .bits) (round-trip types ps flag qs w start old room) in
       cut (bitsPlaced start (headerBits types ps flag qs) old) start flag qs ready n f (omega (arith, e))
 
 -- an accepted writing from `start` on is read there: the models written, as many bits as were written, and these are counted

@@ -45,7 +45,8 @@ module _ (g : ℕ → ℕ) (flag : ℕ) (qs : List ℤ) (gmType first : ℕ) (ss
   none-yet = record { numbers = refl; bits = refl; long = refl; small = small-zeros 6; near = omega arith; few = omega arith }
 
   -- the slot s more
-  pub one-more : (values : List ℤ) (j i s : ℕ) (p : Param) → i < 6 → drop i ss ≡ s ∷ drop (i + 1) ss → i + 1 ≤ length ss → SoFar values j i → ParamIs p (coefficient g j gmType flag s (slotOf qs first s)) j
+  pub one-more : (values : List ℤ) (j i s : ℕ) (p : Param) → i < 6 → drop i ss ≡ s ∷ drop (i + 1) ss → i + 1 ≤ length ss → SoFar values j i
+      → ParamIs p (coefficient g j gmType flag s (slotOf qs first s)) j
       → SoFar (set values i (p .value)) (p .next .at) (i + 1)
   one-more values j i s p h e l f is =
       let n : ℕ = coefficient g j gmType flag s (slotOf qs first s) .bits in

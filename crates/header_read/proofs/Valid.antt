@@ -52,7 +52,8 @@ module _ (g : ℕ → ℕ) (bits : (i : ℕ) → g i < 2) (flag : ℕ) (qs ps : 
   slots-codable : (gmType : ℕ) (ss : List ℕ) (j : ℕ) → Known ss → slotsRead g flag qs gmType first ss j .values ≡ numbersOf ps first ss → OnGrid gmType flag ps first ss
   slots-codable gmType [] j k e = tt
   slots-codable gmType (s ∷ ss) j k e = (
-    subst (Codable (absBits gmType flag s) (precBits gmType flag s) (centre s)) (ap (λ (l : List ℤ). getD l 0 (pos 0)) e) (coefficient-codable gmType flag s g bits j (slotOf qs first s) (priors .within s (k .0))),
+    subst (Codable (absBits gmType flag s) (precBits gmType flag s) (centre s)) (ap (λ (l : List ℤ). getD l 0 (pos 0)) e)
+        (coefficient-codable gmType flag s g bits j (slotOf qs first s) (priors .within s (k .0))),
     slots-codable gmType ss (j + coefficient g j gmType flag s (slotOf qs first s) .bits) (k .1) (ap (λ (l : List ℤ). drop 1 l) e),
   )
 
@@ -131,27 +132,34 @@ pub all-priors : (qs : List ℤ) → length qs ≡ 42 → priorsOut qs ≡ false
 all-priors qs e o r l = valid-prior qs r (omega arith) o
 
 module _ (header : List ℕ) (at flag : ℕ) (qs : List ℤ) (long : length qs ≡ 42) (within : priorsOut qs ≡ false) where
-  pub valid : (k : ℕ) → k < 7 → ValidModel (getD (modelsRead header at flag qs .types) k 0) flag (modelsRead header at flag qs .params) (6 * k)
-  valid k l =
-      references-valid (bitAt header) (bitAt-lt header) flag qs (all-priors qs long within) (modelsRead header at flag qs .types) (modelsRead header at flag qs .params) 7 0 at (stands header at flag qs) k (omega arith) (omega arith)
+  abbrev types : List ℕ
+  types = modelsRead header at flag qs .types
 
-  below-seven : (k : ℕ) → k < length (modelsRead header at flag qs .types) → k < 7
+  abbrev params : List ℤ
+  params = modelsRead header at flag qs .params
+
+  pub valid : (k : ℕ) → k < 7 → ValidModel (getD types k 0) flag params (6 * k)
+  valid k l =
+      references-valid (bitAt header) (bitAt-lt header) flag qs (all-priors qs long within) types params 7 0 at (stands header at flag qs) k
+      (omega arith) (omega arith)
+
+  below-seven : (k : ℕ) → k < length types → k < 7
   below-seven k l = omega (arith, seven-types header at flag qs)
 
-  pub writable : Writable (modelsRead header at flag qs .types) (modelsRead header at flag qs .params) flag qs
+  pub writable : Writable types params flag qs
   unfolding typesOver modelsWrong
   writable =
       record {
         seven = seven-types header at flag qs;
         models = params-42 header at flag qs;
         priors = long;
-        known = none-holds (typeAt (modelsRead header at flag qs .types)) (length (modelsRead header at flag qs .types)) (λ k l. le-ltb 3 (getD (modelsRead header at flag qs .types) k 0) (valid k (below-seven k l) .known));
-        right = none-holds (modelAt (modelsRead header at flag qs .types) flag (modelsRead header at flag qs .params)) (length (modelsRead header at flag qs .types)) (λ k l. model-right (getD (modelsRead header at flag qs .types) k 0) flag (modelsRead header at flag qs .params) (6 * k) (valid k (below-seven k l)));
+        known = none-holds (typeAt types) (length types) (λ k l. le-ltb 3 (getD types k 0) (valid k (below-seven k l) .known));
+        right = none-holds (modelAt types flag params) (length types) (λ k l. model-right (getD types k 0) flag params (6 * k) (valid k (below-seven k l)));
         within = within;
       }
 
   -- a writing call with room for it refuses nothing
-  pub not-refused : flag ≤ 1 → (start room : ℕ) → bytesFor start (length (headerBits (modelsRead header at flag qs .types) (modelsRead header at flag qs .params) flag qs)) ≤ room
-      → writeRefusal start (modelsRead header at flag qs .types) (modelsRead header at flag qs .params) flag qs room ≡ 0
+  pub not-refused : flag ≤ 1 → (start room : ℕ) → bytesFor start (length (headerBits types params flag qs)) ≤ room
+      → writeRefusal start types params flag qs room ≡ 0
   not-refused f start room h =
-      writing.not-refused (modelsRead header at flag qs .types) (modelsRead header at flag qs .params) flag qs start room (record { writable = writable; flagged = f; roomy = h })
+      writing.not-refused types params flag qs start room (record { writable = writable; flagged = f; roomy = h })

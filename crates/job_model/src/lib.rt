@@ -4,7 +4,6 @@
 use fit::Fitted;
 use job_task::Settings;
 ghost use mathlib.Core.Path.{_≡_};
-ghost use Rattle.fit.specs.Fitted.{refusalOf};
 ghost use Rattle.job_model.specs.Modelled.{modelled, modelledAs, notModelled};
 ghost use Rattle.job_model.specs.Inner.{Modelling, WithFit};
 
@@ -17,29 +16,6 @@ pub struct Modelled {
     pub types: [u8; 7],
     pub models: [i32; 42],
     pub score: f64,
-}
-
-fn refusal_of(fitted: Fitted) -> u32
-    ensures { λ r. ⌜ r ≡ refusalOf fitted ⌝ }
-{
-    match fitted {
-        Fitted::Refused(number) => number,
-        Fitted::Translation { m0: _, m1: _ } => 0,
-        Fitted::RotZoom {
-            m0: _,
-            m1: _,
-            m2: _,
-            m3: _,
-        } => 0,
-        Fitted::Affine {
-            m0: _,
-            m1: _,
-            m2: _,
-            m3: _,
-            m4: _,
-            m5: _,
-        } => 0,
-    }
 }
 
 fn not_modelled(number: u32) -> Modelled
@@ -85,7 +61,7 @@ pub fn models_of(settings: Settings, types: &[u8], models: &[i32], words: &[u32]
     ensures { λ r. ⌜ r ≡ modelled settings (now (types .entry)) (now (models .entry)) (now (words .entry)) ⌝ }
 {
     let fitted = fit::fit_model(settings.gm_type, words);
-    let refusal = refusal_of(fitted);
+    let refusal = fit::refusal_of(fitted);
     if refusal != 0 {
         return not_modelled(refusal);
     }

@@ -40,10 +40,14 @@ module _ {M : Type 1} (𝓤 : URA M) (H : Heap 𝓤) (A : Atoms 𝓤) (W : Given
     pub lies-in : (v : Val) → Makes 𝓤 H A T (Is T) → Is T x (v ∷ []) → ent 𝓤 (sem 𝓤 H A (cellAt q (T .mir) (v ∷ []) b o)) (sem 𝓤 H A (partAt T q x b o))
     unfolding partOf
     lies-in v makes is =
-        qed W (‵ (cellAt q (T .mir) (v ∷ []) b o) ∷ []) ∵ owned ! T (Is T) makes x (v ∷ []) is $ move ! (1 ∷ 0 ∷ []) $ fjoin ! $ fpack ! (List Val) (λ vs. fsep (cellAt q (T .mir) vs b o) (T .own x vs)) (v ∷ []) $ done !
+        qed W (‵ (cellAt q (T .mir) (v ∷ []) b o) ∷ []) ∵ owned ! T (Is T) makes x (v ∷ []) is $ move ! (1 ∷ 0 ∷ []) $
+        fjoin ! $ fpack ! (List Val) (λ vs. fsep (cellAt q (T .mir) vs b o) (T .own x vs)) (v ∷ []) $ done !
 
     -- and back
     pub lies-out : (vals : T .Denot → List Val) → Tells T (Is T) vals → ent 𝓤 (sem 𝓤 H A (partAt T q x b o)) (sem 𝓤 H A (cellAt q (T .mir) (vals x) b o))
     unfolding partOf
     lies-out vals tells =
-        qed W (‵ (partAt T q x b o) ∷ []) ∵ fpick ! (λ vs. fsplit ! $ move ! (1 ∷ []) $ facts ! T (Is T) (shows 𝓤 H A T) x vs (λ p. rewrite ! 0 (λ (us : List Val). ‵ (cellAt q (T .mir) us b o)) (tells x vs p) refl $ done !))
+        qed W (‵ (partAt T q x b o) ∷ []) ∵
+        fpick !
+        (λ vs. fsplit ! $ move ! (1 ∷ []) $
+        facts ! T (Is T) (shows 𝓤 H A T) x vs (λ p. rewrite ! 0 (λ (us : List Val). ‵ (cellAt q (T .mir) us b o)) (tells x vs p) refl $ done !))

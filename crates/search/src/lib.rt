@@ -59,7 +59,11 @@ pub fn collect_motion_samples(
     ref_half: &mut [u16],
     words: &mut [u32],
 ) -> Searched
-    ensures { λ r. ⌜ Done (task (now («input_y» .entry)) (now («ref_y» .entry)) width height (now (classes .entry))) (lent (now («input_half» .entry)) (now («ref_half» .entry)) (now (words .entry))) r (lent (now («input_half» .exit)) (now («ref_half» .exit)) (now (words .exit))) ⌝ }
+    ensures { λ r. ⌜ Done
+        (task (now («input_y» .entry)) (now («ref_y» .entry)) width height (now (classes .entry)))
+        (lent (now («input_half» .entry)) (now («ref_half» .entry)) (now (words .entry)))
+        r
+        (lent (now («input_half» .exit)) (now («ref_half» .exit)) (now (words .exit))) ⌝ }
 {
     let sides = Sides {
         width: width,

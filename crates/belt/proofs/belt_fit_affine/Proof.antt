@@ -1,4 +1,4 @@
--- `belt::belt_fit_affine` meets its contract: the fit's answer in numbers.
+-- `belt::belt_fit_affine`: the affine fit's answer, given in numbers.
 -- Assumes nothing.
 use borrow.Author.Needs.{needs}
 use Rattle.belt.proofs.belt_fit_affine.Statement.{statement}

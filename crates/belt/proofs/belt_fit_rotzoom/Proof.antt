@@ -1,4 +1,4 @@
--- `belt::belt_fit_rotzoom` meets its contract: the fit's answer in numbers.
+-- `belt::belt_fit_rotzoom`: the rotation-zoom fit's answer, given in numbers.
 -- Assumes nothing.
 use borrow.Author.Needs.{needs}
 use Rattle.belt.proofs.belt_fit_rotzoom.Statement.{statement}

@@ -1,4 +1,4 @@
--- `belt::belt_quantize_global_param` meets its contract: the number handed on is read back from its bits.
+-- `belt::belt_quantize_global_param`: the number handed on is read back from its bits.
 -- Assumes nothing.
 use mir.Facts.{toZ-ofZ}
 use borrow.Author.Needs.{needs}

@@ -1,4 +1,4 @@
--- `belt::belt_quantize_model` meets its contract: the model that the numbers are goes into the call.
+-- `belt::belt_quantize_model`: the model that the numbers make is the one quantized.
 -- Assumes nothing.
 use borrow.Author.Needs.{needs}
 use Rattle.belt.proofs.belt_quantize_model.Statement.{statement}

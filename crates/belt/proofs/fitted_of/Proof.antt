@@ -1,4 +1,4 @@
--- `belt::fitted_of` meets its contract: each return rewrites with the tests that led there.
+-- `belt::fitted_of`: the tests of the type are the definition's, and each type takes its own numbers.
 -- Assumes nothing.
 use borrow.Author.Tests.{eq-eqb, ne-eqb}
 use borrow.Author.Needs.{needs}

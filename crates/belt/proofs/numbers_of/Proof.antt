@@ -1,4 +1,4 @@
--- `belt::numbers_of` meets its contract: by cases on the fitted model.
+-- `belt::numbers_of`: each case of a fit gives its own numbers, and zeros behind them.
 -- Assumes nothing.
 use borrow.Author.Needs.{needs}
 use Rattle.belt.proofs.numbers_of.Statement.{statement}

@@ -1,4 +1,4 @@
--- `bits::bit_length` meets its contract: each halving takes one bit off, and nothing is left at 0. Assumes nothing.
+-- `bits::bit_length`: each halving takes one bit off, and nothing is left at 0. Assumes nothing.
 use borrow.Author.Needs.{needs}
 use Rattle.bits.proofs.bit_length.Statement.{statement}
 use Rattle.bits.proofs.bit_length.Tie as tie

@@ -1,4 +1,4 @@
--- `bits::ns_width` meets its contract: n lies below 2 ^ w and not below half of it, so m is what 2 ^ w has over n. Assumes nothing.
+-- `bits::ns_width`: n lies below 2 ^ w and not below half of it, so m is what 2 ^ w has over n. Assumes nothing.
 use borrow.Author.Needs.{needs}
 use Rattle.bits.proofs.ns_width.Statement.{statement}
 use Rattle.bits.proofs.ns_width.Tie as tie

@@ -1,4 +1,4 @@
--- `bits::with_bit` meets its contract: the old bit's weight is taken away, the new one's is added. Assumes nothing.
+-- `bits::with_bit`: the old bit's weight is taken away, the new one's is added. Assumes nothing.
 use borrow.Author.Needs.{needs}
 use Rattle.bits.proofs.with_bit.Statement.{statement}
 use Rattle.bits.proofs.with_bit.Tie as tie

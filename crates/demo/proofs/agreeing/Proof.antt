@@ -1,4 +1,4 @@
--- `demo::agreeing` is safe and ends: no more samples agree than were looked at, and each turn looks at one more.
+-- `demo::agreeing`: no more samples agree than were looked at, and each turn looks at one more.
 -- Assumes nothing.
 use Prim.Native.Nat.{_≤_, _-_}
 use lib.ListN.{length}

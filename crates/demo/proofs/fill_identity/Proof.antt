@@ -1,4 +1,4 @@
--- `demo::fill_identity` is safe and ends. Assumes nothing.
+-- `demo::fill_identity`: each turn stores one number, and the counter rises to the slice's length. Assumes nothing.
 use Prim.Native.Nat.{_≤_, _-_}
 use mathlib.Core.Path.{_≡_, refl}
 use native.Mathlib.Omega.{arith}

@@ -1,4 +1,4 @@
--- `demo::print_bytes` is safe and ends. Assumes nothing.
+-- `demo::print_bytes`: each turn prints one byte, and the counter rises to the number of bytes. Assumes nothing.
 use Prim.Native.Nat.{_≤_, _-_}
 use lib.ListN.{length}
 use borrow.Author.Needs.{needs}

@@ -1,4 +1,4 @@
--- `demo::same_model` is safe and ends: six slots are left, then fewer. Assumes nothing.
+-- `demo::same_model`: six slots are left, then fewer. Assumes nothing.
 use Prim.Native.Nat.{_≤_, _-_}
 use borrow.Author.Needs.{needs}
 use Rattle.demo.proofs.same_model.Statement.{statement}

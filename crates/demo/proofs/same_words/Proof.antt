@@ -1,4 +1,4 @@
--- `demo::same_words` is safe and ends. Assumes nothing.
+-- `demo::same_words`: the counter rises to the first length, and below the second it reads both. Assumes nothing.
 use Prim.Native.Nat.{_≤_, _-_}
 use lib.ListN.{length}
 use borrow.Author.Needs.{needs}

@@ -1,4 +1,4 @@
--- `centre_of` meets its contract: each return by the tests on its way.
+-- `centre_of`: the two tests on the slot are the definition's.
 -- Assumes nothing.
 use borrow.Author.Tests.{eq-eqb, ne-eqb}
 use Rattle.grid.proofs.centre_of.Statement.{statement}

@@ -1,4 +1,4 @@
--- `from_centre` meets its contract: the difference of an i32 and a u32 fits an i64.
+-- `from_centre`: the difference of an i32 and a u32 fits an i64.
 -- Assumes nothing.
 use Prim.Native.Nat.{ℕ, _<_, _^_}
 use mathlib.Core.Path.{refl}

@@ -1,4 +1,4 @@
--- `from_middle` meets its contract: the product of an ordinal and the step is small.
+-- `from_middle`: a symbol's ordinal times the step is at most 2 ^ 22 either way, so the product fits.
 -- Assumes nothing.
 use Prim.Native.Nat.{ℕ, _^_, _≤_, _<_}
 use mathlib.Core.Path.{refl}

@@ -1,4 +1,4 @@
--- `global_param_bits` meets its contract: each return by the tests on its way.
+-- `global_param_bits`: the tests on slot, type and flag choose the definition's bits.
 -- Assumes nothing.
 use borrow.Author.Tests.{lt-ltb, le-ltb, eq-eqb, ne-eqb}
 use Rattle.grid.proofs.global_param_bits.Statement.{statement}

@@ -1,4 +1,4 @@
--- `is_negative` meets its contract: the test reads the number as it stands.
+-- `is_negative`: the test reads the number as it stands.
 -- Assumes nothing.
 use mir.Facts.{toZ-ofZ}
 use Rattle.grid.proofs.Signs.{negative-test}

@@ -1,4 +1,4 @@
--- `lift` meets its contract: a magnitude is taken from the middle, or added to it.
+-- `lift`: by the sign the magnitude is taken from the middle or added to it, and neither wraps.
 -- Assumes nothing.
 use native.Mathlib.Omega.{arith}
 use native.Mathlib.Nat.{add-comm}

@@ -1,4 +1,4 @@
--- `magnitude` meets its contract: a negative number is turned, and its magnitude fits.
+-- `magnitude`: a negative number is turned, and its magnitude fits.
 -- Assumes nothing.
 use Prim.Native.Nat.{ℕ, _<_, _^_}
 use mathlib.Core.Bool.{true, false}

@@ -1,4 +1,4 @@
--- `nearest_distance` meets its contract: the product is at most 2 ^ absBits steps.
+-- `nearest_distance`: the product is at most 2 ^ absBits steps.
 -- Assumes nothing.
 use mathlib.Core.Path.{refl}
 use native.Mathlib.Omega.{arith}

@@ -1,4 +1,4 @@
--- `nearest_number` meets its contract: the bits and the centre are those of the slot.
+-- `nearest_number`: the bits and the centre are those of the slot.
 -- Assumes nothing.
 use borrow.Author.Needs.{needs}
 use mir.Syntax.{w32}

@@ -1,4 +1,4 @@
--- `nearest_ordinal` meets its contract: the powers are those of the definition, and the test takes the lesser.
+-- `nearest_ordinal`: the powers are those of the definition, and the test takes the lesser.
 -- Assumes nothing.
 use native.Mathlib.Omega.{arith}
 use borrow.Author.Needs.{needs}

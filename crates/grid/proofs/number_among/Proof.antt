@@ -1,4 +1,4 @@
--- `number_among` meets its contract.
+-- `number_among`: a symbol's distance from the middle, added to the centre, is the definition's number.
 -- Assumes nothing.
 use borrow.Author.Needs.{needs}
 use mir.Syntax.{w32, w64}

@@ -1,4 +1,4 @@
--- `number_of` meets its contract. Assumes nothing.
+-- `number_of`: the bits and the centre are the slot's, so the symbol's number is the definition's. Assumes nothing.
 use borrow.Author.Needs.{needs}
 use Rattle.grid.proofs.number_of.Statement.{statement}
 use Rattle.grid.proofs.number_of.Tie as tie
@@ -26,10 +26,15 @@ answered gmType flag slot t b c r eb ec er =
     er ∙ ap (λ (x : ParamBits). numberOf (x .«abs_bits») (x .«prec_bits») c t) eb ∙ ap (λ (x : ℕ). numberOf (absBits gmType flag slot) (precBits gmType flag slot) x t) ec
 
 number-among-requires : tie.Need-number-among-requires
-number-among-requires c κs = asked (c .before .before .args .gm-type) (c .before .before .args .flag) (c .before .before .args .slot) (c .before .before .args .symbol) _ _ (c .before .global-param-bits .ensures) (c .centre-of .ensures) (c .before .before .pre)
+number-among-requires c κs =
+    let a = c .before .before .args in
+    asked (a .gm-type) (a .flag) (a .slot) (a .symbol) _ _ (c .before .global-param-bits .ensures) (c .centre-of .ensures) (c .before .before .pre)
 
 returns : tie.Need-returns
-returns c = result-reads w32 _ (c .number-among .ok) ∙ answered (c .before .before .before .args .gm-type) (c .before .before .before .args .flag) (c .before .before .before .args .slot) (c .before .before .before .args .symbol) _ _ _ (c .before .before .global-param-bits .ensures) (c .before .centre-of .ensures) (c .number-among .ensures)
+returns c =
+    let a = c .before .before .before .args in
+    result-reads w32 _ (c .number-among .ok)
+    ∙ answered (a .gm-type) (a .flag) (a .slot) (a .symbol) _ _ _ (c .before .before .global-param-bits .ensures) (c .before .centre-of .ensures) (c .number-among .ensures)
 
 pub number-of-spec : {M : Type 1} → statement M
 number-of-spec =

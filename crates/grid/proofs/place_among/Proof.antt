@@ -1,4 +1,4 @@
--- `place_among` meets its contract: the prior counted from the least codable number, in whole steps.
+-- `place_among`: the prior is counted from the least codable number, in whole steps.
 -- Assumes nothing.
 use native.Mathlib.Nat.{div-le-self}
 use native.Mathlib.Omega.{arith}

@@ -1,4 +1,4 @@
--- `power_of_two` meets its contract: the shift loses no bit.
+-- `power_of_two`: the shift loses no bit.
 -- Assumes nothing.
 use native.Mathlib.Omega.{arith}
 use native.Mathlib.Nat.{one-mul, mod-eq-of-lt}

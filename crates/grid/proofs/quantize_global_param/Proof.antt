@@ -1,4 +1,4 @@
--- `quantize_global_param` meets its contract: each refusal by the tests on its way, and the quantized number.
+-- `quantize_global_param`: each refusal is the first row whose test holds, and past them stands the nearest number.
 -- Assumes nothing.
 use borrow.Author.Needs.{needs}
 use borrow.Author.Tests.{lt-ltb, le-ltb}

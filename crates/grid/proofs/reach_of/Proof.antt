@@ -1,4 +1,4 @@
--- `reach_of` meets its contract.
+-- `reach_of`: the product of the two powers is the definition's, and no row's passes 2 ^ 22.
 -- Assumes nothing.
 use mathlib.Core.Path.{refl}
 use native.Mathlib.Omega.{arith}

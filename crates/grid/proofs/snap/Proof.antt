@@ -1,4 +1,4 @@
--- `snap` meets its contract: its steps are those of `quantize`, over a sign and a magnitude.
+-- `snap`: its steps are those of `quantize`, over a sign and a magnitude.
 -- Assumes nothing.
 use Prim.Native.Nat.{ℕ, _*_, _^_, _<_}
 use mathlib.Core.Path.{_≡_}

@@ -1,4 +1,4 @@
--- `symbol_among` meets its contract: its steps are those of `symbolOf`, over a sign and a magnitude.
+-- `symbol_among`: its steps are those of `symbolOf`, over a sign and a magnitude.
 -- Assumes nothing.
 use Prim.Native.Nat.{_<_, _^_}
 use borrow.Author.Needs.{needs}

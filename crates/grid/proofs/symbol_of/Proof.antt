@@ -1,4 +1,4 @@
--- `symbol_of` meets its contract. Assumes nothing.
+-- `symbol_of`: the bits and the centre are the slot's, and each symbol is below their count. Assumes nothing.
 use borrow.Author.Needs.{needs}
 use Rattle.grid.proofs.symbol_of.Statement.{statement}
 use Rattle.grid.proofs.symbol_of.Tie as tie
@@ -21,12 +21,18 @@ answered gmType flag slot z b c r eb ec er =
     record { is = e; below = subst (λ (x : ℕ). x < symbols (absBits gmType flag slot)) (sym e) (symbol-below (absBits gmType flag slot) (precBits gmType flag slot) (centre slot) z) }
 
 symbol-among-requires : tie.Need-symbol-among-requires
-symbol-among-requires c κs = subst (λ (b : ParamBits). Row (b .«abs_bits») (b .«prec_bits»)) (sym (c .before .global-param-bits .ensures)) (table-row (c .before .before .args .gm-type) (c .before .before .args .flag) (c .before .before .args .slot))
+symbol-among-requires c κs =
+    let a = c .before .before .args in
+    subst (λ (b : ParamBits). Row (b .«abs_bits») (b .«prec_bits»)) (sym (c .before .global-param-bits .ensures)) (table-row (a .gm-type) (a .flag) (a .slot))
 
 returns : tie.Need-returns
 returns c =
-    answered (c .before .before .before .args .gm-type) (c .before .before .before .args .flag) (c .before .before .before .args .slot) (c .before .before .before .args .value) _ _ _ (c .before .before .global-param-bits .ensures) (c .before .centre-of .ensures)
-    (c .symbol-among .ensures ∙ ap (λ (z : ℤ). symbolOf (c .before .before .global-param-bits .result .«abs_bits») (c .before .before .global-param-bits .result .«prec_bits») (c .before .centre-of .result) z) (toZ-ofZ (c .before .before .before .fits .value)))
+    let e = c .before .before .before in
+    let a = e .args in
+    let bits = c .before .before .global-param-bits in
+    let centred = c .before .centre-of in
+    answered (a .gm-type) (a .flag) (a .slot) (a .value) _ _ _ (bits .ensures) (centred .ensures)
+    (c .symbol-among .ensures ∙ ap (λ (z : ℤ). symbolOf (bits .result .«abs_bits») (bits .result .«prec_bits») (centred .result) z) (toZ-ofZ (e .fits .value)))
 
 pub symbol-of-spec : {M : Type 1} → statement M
 symbol-of-spec =

@@ -1,4 +1,4 @@
--- `symbols_of` meets its contract. Assumes nothing.
+-- `symbols_of`: the bits and the centre are the slot's, and a prior in range has its place there. Assumes nothing.
 use borrow.Author.Needs.{needs}
 use Rattle.grid.proofs.symbols_of.Statement.{statement}
 use Rattle.grid.proofs.symbols_of.Tie as tie
@@ -41,30 +41,44 @@ power-of-two-requires : tie.Need-power-of-two-requires
 power-of-two-requires c κs = omega (arith, bits-few (c .before .args .gm-type) (c .before .args .flag) (c .before .args .slot) _ (c .global-param-bits .ensures))
 
 mul-t7 : tie.Need-mul-t7
-mul-t7 c = omega (arith, c .power-of-two .ensures, pow-mono (bits-few (c .before .before .args .gm-type) (c .before .before .args .flag) (c .before .before .args .slot) _ (c .before .global-param-bits .ensures)))
+mul-t7 c =
+    let a = c .before .before .args in
+    omega (arith, c .power-of-two .ensures, pow-mono (bits-few (a .gm-type) (a .flag) (a .slot) _ (c .before .global-param-bits .ensures)))
 
 add-t8 : tie.Need-add-t8
-add-t8 c = omega (arith, c .power-of-two .ensures, pow-mono (bits-few (c .before .before .args .gm-type) (c .before .before .args .flag) (c .before .before .args .slot) _ (c .before .global-param-bits .ensures)))
+add-t8 c =
+    let a = c .before .before .args in
+    omega (arith, c .power-of-two .ensures, pow-mono (bits-few (a .gm-type) (a .flag) (a .slot) _ (c .before .global-param-bits .ensures)))
 
 cast-t9 : tie.Need-cast-t9
-cast-t9 c = omega (arith, c .power-of-two .ensures, pow-mono (bits-few (c .before .before .args .gm-type) (c .before .before .args .flag) (c .before .before .args .slot) _ (c .before .global-param-bits .ensures)))
+cast-t9 c =
+    let a = c .before .before .args in
+    omega (arith, c .power-of-two .ensures, pow-mono (bits-few (a .gm-type) (a .flag) (a .slot) _ (c .before .global-param-bits .ensures)))
 
 place-among-requires : tie.Need-place-among-requires
 place-among-requires c κs =
-    subst (λ (z : ℤ). Prior (c .before .before .global-param-bits .result .«abs_bits») (c .before .before .global-param-bits .result .«prec_bits») (c .centre-of .result) z) (sym (toZ-ofZ (c .before .before .before .fits .prior)))
-    (asked (c .before .before .before .args .gm-type) (c .before .before .before .args .flag) (c .before .before .before .args .slot) (c .before .before .before .args .prior) _ _ (c .before .before .global-param-bits .ensures) (c .centre-of .ensures) (c .before .before .before .pre .within))
+    let e = c .before .before .before in
+    let a = e .args in
+    let bits = c .before .before .global-param-bits in
+    subst (λ (z : ℤ). Prior (bits .result .«abs_bits») (bits .result .«prec_bits») (c .centre-of .result) z) (sym (toZ-ofZ (e .fits .prior)))
+    (asked (a .gm-type) (a .flag) (a .slot) (a .prior) _ _ (bits .ensures) (c .centre-of .ensures) (e .pre .within))
 
 returns : tie.Need-returns
 returns c =
-    let r = stood (c .before .before .before .before .args .gm-type) (c .before .before .before .before .args .flag) (c .before .before .before .before .args .slot) (c .before .before .before .before .args .prior) _ _ _ (c .before .before .before .global-param-bits .ensures) (c .before .centre-of .ensures) (c .before .before .before .before .pre .within)
-    (c .place-among .ensures ∙ ap (λ (z : ℤ). placeCode (c .before .before .before .global-param-bits .result .«abs_bits») (c .before .before .before .global-param-bits .result .«prec_bits») (c .before .centre-of .result) z) (toZ-ofZ (c .before .before .before .before .fits .prior))) in
-    let m : 2 * c .before .before .power-of-two .result + 1 ≡ symbols (absBits (c .before .before .before .before .args .gm-type) (c .before .before .before .before .args .flag) (c .before .before .before .before .args .slot)) =
-    ap (λ (x : ℕ). 2 * x + 1) (c .before .before .power-of-two .ensures ∙ ap (λ (b : ParamBits). 2 ^ b .«abs_bits») (c .before .before .before .global-param-bits .ensures)) in
+    let e = c .before .before .before .before in
+    let a = e .args in
+    let bits = c .before .before .before .global-param-bits in
+    let centred = c .before .centre-of in
+    let power = c .before .before .power-of-two in
+    let r = stood (a .gm-type) (a .flag) (a .slot) (a .prior) _ _ _ (bits .ensures) (centred .ensures) (e .pre .within)
+    (c .place-among .ensures ∙ ap (λ (z : ℤ). placeCode (bits .result .«abs_bits») (bits .result .«prec_bits») (centred .result) z) (toZ-ofZ (e .fits .prior))) in
+    let m : 2 * power .result + 1 ≡ symbols (absBits (a .gm-type) (a .flag) (a .slot)) =
+    ap (λ (x : ℕ). 2 * x + 1) (power .ensures ∙ ap (λ (b : ParamBits). 2 ^ b .«abs_bits») (bits .ensures)) in
     record {
       mx = m;
       stands = r;
-      below = omega (arith, r, m, row-place-below (c .before .before .before .before .args .gm-type) (c .before .before .before .before .args .flag) (c .before .before .before .before .args .slot) (c .before .before .before .before .args .prior) (c .before .before .before .before .pre .within));
-      few = omega (arith, m, pow-mono (absBits-range (c .before .before .before .before .args .gm-type) (c .before .before .before .before .args .flag) (c .before .before .before .before .args .slot) .1));
+      below = omega (arith, r, m, row-place-below (a .gm-type) (a .flag) (a .slot) (a .prior) (e .pre .within));
+      few = omega (arith, m, pow-mono (absBits-range (a .gm-type) (a .flag) (a .slot) .1));
     }
 
 pub symbols-of-spec : {M : Type 1} → statement M

@@ -1,4 +1,4 @@
--- `to_centre` meets its contract: the sum of a small distance and a centre fits an i32.
+-- `to_centre`: the sum of a small distance and a centre fits an i32.
 -- Assumes nothing.
 use Prim.Native.Nat.{ℕ, _≤_}
 use native.Mathlib.Omega.{arith}

@@ -1,4 +1,4 @@
--- `with_sign` meets its contract: a magnitude below 2 ^ 62 fits an i64 with either sign.
+-- `with_sign`: a magnitude below 2 ^ 62 fits an i64 with either sign.
 -- Assumes nothing.
 use Prim.Native.Nat.{ℕ, _<_, _^_}
 use native.Mathlib.Omega.{arith}

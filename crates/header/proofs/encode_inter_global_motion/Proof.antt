@@ -35,7 +35,9 @@ same-length c =
 returns-2 : tie.Need-returns-2
 returns-2 c =
     let a = c .before .before .before .before .before .before .before .before .args in
-    wrote (a .types .now) (a .params .now) (a .flag) (a .prior .now) 0 (a .header .now) _ _ (sym (c .before .before .before .before .before .refusal-of .ensures) ∙ c .before .before .before .before .if1 .left) (c .before .before .write-header .ensures .0) (c .before .before .write-header .ensures .1)
+    wrote (a .types .now) (a .params .now) (a .flag) (a .prior .now) 0 (a .header .now) _ _
+    (sym (c .before .before .before .before .before .refusal-of .ensures) ∙ c .before .before .before .before .if1 .left)
+    (c .before .before .write-header .ensures .0) (c .before .before .write-header .ensures .1)
 
 pub encode-inter-global-motion-spec : {M : Type 1} → statement M
 encode-inter-global-motion-spec = tie.close (tie.spec refusal-of-requires returns write-header-requires same-length returns-2)

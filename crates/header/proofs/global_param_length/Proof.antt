@@ -1,4 +1,4 @@
--- `header::global_param_length` meets its contract. Assumes nothing.
+-- `header::global_param_length`: the code counted, from the prior's place, is the slot's bits. Assumes nothing.
 use borrow.Author.Needs.{needs}
 use Rattle.header.proofs.global_param_length.Statement.{statement}
 use Rattle.header.proofs.global_param_length.Tie as tie
@@ -21,9 +21,13 @@ unsigned-subexp-length-requires c κs =
 
 returns : tie.Need-returns
 returns c =
-    let s = subst (λ (q : ℤ). SymbolsIs (c .before .before .before .args .gm-type) (c .before .before .before .args .flag) (c .before .before .before .args .slot) q (c .before .before .symbols-of .result)) (toZ-ofZ (c .before .before .before .fits .prior)) (c .before .before .symbols-of .ensures) in
-    let t = subst (λ (z : ℤ). SymbolIs (c .before .before .before .args .gm-type) (c .before .before .before .args .flag) (c .before .before .before .args .slot) z (c .before .symbol-of .result)) (toZ-ofZ (c .before .before .before .fits .value)) (c .before .symbol-of .ensures) in
-    (c .unsigned-subexp-length .ensures .0 ∙ ap length (coded (c .before .before .before .args .gm-type) (c .before .before .before .args .flag) (c .before .before .before .args .slot) (c .before .before .before .args .value) (c .before .before .before .args .prior) _ _ _ (s .mx) (s .stands) (t .is)), c .unsigned-subexp-length .ensures .1)
+    let e = c .before .before .before in
+    let a = e .args in
+    let among = c .before .before .symbols-of in
+    let own = c .before .symbol-of in
+    let s = subst (λ (q : ℤ). SymbolsIs (a .gm-type) (a .flag) (a .slot) q (among .result)) (toZ-ofZ (e .fits .prior)) (among .ensures) in
+    let t = subst (λ (z : ℤ). SymbolIs (a .gm-type) (a .flag) (a .slot) z (own .result)) (toZ-ofZ (e .fits .value)) (own .ensures) in
+    (c .unsigned-subexp-length .ensures .0 ∙ ap length (coded (a .gm-type) (a .flag) (a .slot) (a .value) (a .prior) _ _ _ (s .mx) (s .stands) (t .is)), c .unsigned-subexp-length .ensures .1)
 
 pub global-param-length-spec : {M : Type 1} → statement M
 global-param-length-spec =

@@ -32,7 +32,7 @@ loop-again c =
     let a = c .before .before .before .before .before .args in
     let l = c .before .before .before .loop in
     let e = c .reference-length .ensures in (
-      omega (arith, l .inv .0, e .0, sum-step (λ i. modelCount (c .before .before .before .before .before .args .flag) (c .before .before .before .before .before .args .params .now) (c .before .before .before .before .before .args .prior .now) (getD (c .before .before .before .before .before .args .types .now) i 0) (6 * i)) (c .before .before .before .loop .r)),
+      omega (arith, l .inv .0, e .0, sum-step (λ i. modelCount (a .flag) (a .params .now) (a .prior .now) (getD (a .types .now) i 0) (6 * i)) (l .r)),
       omega (arith, l .inv .1, e .1),
       omega (arith, c .before .before .loop-test .taken),
     )
@@ -48,4 +48,5 @@ returns c =
 pub header-length-spec : {M : Type 1} → statement M
 header-length-spec =
     tie.close
-    (tie.spec Inv-loop μ-loop (λ c. (refl, omega arith, omega arith)) shared-slice-read-reference-length (search needs) reference-length-requires (λ c. search needs) (search needs) (search needs) loop-again returns)
+    (tie.spec Inv-loop μ-loop (λ c. (refl, omega arith, omega arith)) shared-slice-read-reference-length
+    (search needs) reference-length-requires (λ c. search needs) (search needs) (search needs) loop-again returns)

@@ -1,4 +1,4 @@
--- `lengths_wrong` meets its contract.
+-- `lengths_wrong`: the three tests are the definition's, in its order.
 -- Assumes nothing.
 use borrow.Author.Tests.{eq-eqb, ne-eqb}
 use Rattle.header.proofs.lengths_wrong.Statement.{statement}

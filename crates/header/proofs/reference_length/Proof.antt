@@ -35,15 +35,21 @@ loop-holds c =
     (rw n, t .ensures .few, omega arith)
 
 array-read-slot-length : tie.Need-array-read-slot-length Inv-loop μ-loop
-array-read-slot-length c = omega (arith, c .loop-test .taken, c .before .before .before .before .before .slots-of .ensures .count, six-slots-at-most (c .before .before .before .before .before .before .args .gm-type))
+array-read-slot-length c =
+    let s = c .before .before .before .before .before .slots-of in
+    omega (arith, c .loop-test .taken, s .ensures .count, six-slots-at-most (c .before .before .before .before .before .before .args .gm-type))
 
 slot-length-requires : tie.Need-slot-length-requires Inv-loop μ-loop
 slot-length-requires c κs =
-    (c .before .before .before .before .before .before .pre, slot-known (c .before .before .before .before .before .before .args .gm-type) (c .before .before .before .before .before .slots-of .result) (c .before .before .before .before .before .slots-of .ensures) (c .before .loop .i) (c .loop-test .taken))
+    let e = c .before .before .before .before .before .before in
+    let s = c .before .before .before .before .before .slots-of in
+    (e .pre, slot-known (e .args .gm-type) (s .result) (s .ensures) (c .before .loop .i) (c .loop-test .taken))
 
 add-n : tie.Need-add-n Inv-loop μ-loop
 add-n c =
-    omega (arith, c .before .before .loop .inv .1, c .slot-length .ensures .1, c .before .loop-test .taken, c .before .before .before .before .before .before .slots-of .ensures .count, six-slots-at-most (c .before .before .before .before .before .before .before .args .gm-type))
+    let s = c .before .before .before .before .before .before .slots-of in
+    let l = c .before .before .loop in
+    omega (arith, l .inv .1, c .slot-length .ensures .1, c .before .loop-test .taken, s .ensures .count, six-slots-at-most (c .before .before .before .before .before .before .before .args .gm-type))
 
 loop-again : tie.Need-loop-again Inv-loop μ-loop
 loop-again c =
@@ -55,9 +61,12 @@ loop-again c =
 
 returns : tie.Need-returns Inv-loop μ-loop
 returns c =
-    let done : length (slotsOf (c .before .before .before .before .before .before .args .gm-type)) ≤ c .before .loop .i = omega (arith, c .loop-test .left, c .before .before .before .before .before .slots-of .ensures .count) in
-    let e = rw (drop-of-length-le (slotsOf (c .before .before .before .before .before .before .args .gm-type)) done) at (c .before .loop .inv .0) in
-    (omega (arith, e), omega (arith, c .before .loop .inv, c .before .before .before .before .before .slots-of .ensures .count, six-slots-at-most (c .before .before .before .before .before .before .args .gm-type)))
+    let a = c .before .before .before .before .before .before .args in
+    let s = c .before .before .before .before .before .slots-of in
+    let l = c .before .loop in
+    let done : length (slotsOf (a .gm-type)) ≤ l .i = omega (arith, c .loop-test .left, s .ensures .count) in
+    let e = rw (drop-of-length-le (slotsOf (a .gm-type)) done) at (l .inv .0) in
+    (omega (arith, e), omega (arith, l .inv, s .ensures .count, six-slots-at-most (a .gm-type)))
 
 pub reference-length-spec : {M : Type 1} → statement M
 reference-length-spec =

@@ -15,7 +15,9 @@ unfolding writeRefusal
 returns c =
     let a = c .before .before .before .args in
     let e = c .before .code-refusal .ensures in
-    e ∙ or-else-refused (judge (codeRows (a .types .now) (a .params .now) (a .flag) (a .prior .now))) (judge (writeRows (a .start) (a .types .now) (a .params .now) (a .flag) (a .prior .now) (a .room))) (λ z. c .if1 .taken (e ∙ z))
+    e
+    ∙ or-else-refused (judge (codeRows (a .types .now) (a .params .now) (a .flag) (a .prior .now)))
+    (judge (writeRows (a .start) (a .types .now) (a .params .now) (a .flag) (a .prior .now) (a .room))) (λ z. c .if1 .taken (e ∙ z))
 
 write-refusal-requires : tie.Need-write-refusal-requires
 write-refusal-requires c κs =
@@ -27,7 +29,9 @@ unfolding writeRefusal
 returns-2 c =
     let a = c .before .before .before .before .args in
     c .write-refusal .ensures
-    ∙ or-else-none (judge (codeRows (a .types .now) (a .params .now) (a .flag) (a .prior .now))) (judge (writeRows (a .start) (a .types .now) (a .params .now) (a .flag) (a .prior .now) (a .room))) (sym (c .before .before .code-refusal .ensures) ∙ c .before .if1 .left)
+    ∙ or-else-none (judge (codeRows (a .types .now) (a .params .now) (a .flag) (a .prior .now)))
+    (judge (writeRows (a .start) (a .types .now) (a .params .now) (a .flag) (a .prior .now) (a .room)))
+    (sym (c .before .before .code-refusal .ensures) ∙ c .before .if1 .left)
 
 pub refusal-of-spec : {M : Type 1} → statement M
 refusal-of-spec = tie.close (tie.spec (search needs) returns write-refusal-requires returns-2)

@@ -1,4 +1,4 @@
--- `type_field` meets its contract: each type's bits as a field.
+-- `type_field`: each type's bits, read as one number, are the field that it returns.
 -- Assumes nothing.
 use native.Mathlib.Omega.{arith}
 use borrow.Author.Tests.{eq-eqb, ne-eqb}

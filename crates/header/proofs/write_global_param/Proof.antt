@@ -1,4 +1,4 @@
--- `header::write_global_param` meets its contract. Assumes nothing.
+-- `header::write_global_param`: the code of the value's symbol, from the prior's place, is the slot's bits. Assumes nothing.
 use borrow.Author.Needs.{needs}
 use Rattle.header.proofs.write_global_param.Statement.{statement}
 use Rattle.header.proofs.write_global_param.Tie as tie
@@ -16,19 +16,27 @@ symbols-of-requires c κs = subst (λ (q : ℤ). PriorIn (c .before .args .slot)
 
 encode-unsigned-subexp-with-ref-requires : tie.Need-encode-unsigned-subexp-with-ref-requires
 encode-unsigned-subexp-with-ref-requires c κs =
-    let s = subst (λ (q : ℤ). SymbolsIs (c .before .before .before .before .args .gm-type) (c .before .before .before .before .args .flag) (c .before .before .before .before .args .slot) q (c .before .before .symbols-of .result)) (toZ-ofZ (c .before .before .before .before .fits .prior)) (c .before .before .symbols-of .ensures) in
-    let t = subst (λ (z : ℤ). SymbolIs (c .before .before .before .before .args .gm-type) (c .before .before .before .before .args .flag) (c .before .before .before .before .args .slot) z (c .before .symbol-of .result)) (toZ-ofZ (c .before .before .before .before .fits .value)) (c .before .symbol-of .ensures) in (
+    let e = c .before .before .before .before in
+    let a = e .args in
+    let among = c .before .before .symbols-of in
+    let own = c .before .symbol-of in
+    let s = subst (λ (q : ℤ). SymbolsIs (a .gm-type) (a .flag) (a .slot) q (among .result)) (toZ-ofZ (e .fits .prior)) (among .ensures) in
+    let t = subst (λ (z : ℤ). SymbolIs (a .gm-type) (a .flag) (a .slot) z (own .result)) (toZ-ofZ (e .fits .value)) (own .ensures) in (
       s .below,
       omega (arith, s .mx, t .below),
       omega (arith, s .few),
-      room-as (c .before .before .before .before .args .header .now) (c .before .before .before .before .args .cursor .at) _ _ (sym (coded (c .before .before .before .before .args .gm-type) (c .before .before .before .before .args .flag) (c .before .before .before .before .args .slot) (c .before .before .before .before .args .value) (c .before .before .before .before .args .prior) _ _ _ (s .mx) (s .stands) (t .is))) (c .before .before .before .before .pre .1),
+      room-as (a .header .now) (a .cursor .at) _ _ (sym (coded (a .gm-type) (a .flag) (a .slot) (a .value) (a .prior) _ _ _ (s .mx) (s .stands) (t .is))) (e .pre .1),
     )
 
 returns : tie.Need-returns
 returns c =
-    let s = subst (λ (q : ℤ). SymbolsIs (c .before .before .before .before .before .before .before .args .gm-type) (c .before .before .before .before .before .before .before .args .flag) (c .before .before .before .before .before .before .before .args .slot) q (c .before .before .before .before .before .symbols-of .result)) (toZ-ofZ (c .before .before .before .before .before .before .before .fits .prior)) (c .before .before .before .before .before .symbols-of .ensures) in
-    let t = subst (λ (z : ℤ). SymbolIs (c .before .before .before .before .before .before .before .args .gm-type) (c .before .before .before .before .before .before .before .args .flag) (c .before .before .before .before .before .before .before .args .slot) z (c .before .before .before .before .symbol-of .result)) (toZ-ofZ (c .before .before .before .before .before .before .before .fits .value)) (c .before .before .before .before .symbol-of .ensures) in
-    wrote-as _ _ (coded (c .before .before .before .before .before .before .before .args .gm-type) (c .before .before .before .before .before .before .before .args .flag) (c .before .before .before .before .before .before .before .args .slot) (c .before .before .before .before .before .before .before .args .value) (c .before .before .before .before .before .before .before .args .prior) _ _ _ (s .mx) (s .stands) (t .is)) (c .before .before .encode-unsigned-subexp-with-ref .ensures)
+    let e = c .before .before .before .before .before .before .before in
+    let a = e .args in
+    let among = c .before .before .before .before .before .symbols-of in
+    let own = c .before .before .before .before .symbol-of in
+    let s = subst (λ (q : ℤ). SymbolsIs (a .gm-type) (a .flag) (a .slot) q (among .result)) (toZ-ofZ (e .fits .prior)) (among .ensures) in
+    let t = subst (λ (z : ℤ). SymbolIs (a .gm-type) (a .flag) (a .slot) z (own .result)) (toZ-ofZ (e .fits .value)) (own .ensures) in
+    wrote-as _ _ (coded (a .gm-type) (a .flag) (a .slot) (a .value) (a .prior) _ _ _ (s .mx) (s .stands) (t .is)) (c .before .before .encode-unsigned-subexp-with-ref .ensures)
 
 pub write-global-param-spec : {M : Type 1} → statement M
 write-global-param-spec =

@@ -1,4 +1,4 @@
--- `write_header` meets its contract: the zeros behind the references' bits.
+-- `write_header`: the references' bits are written, and the zeros behind them fill the last byte.
 -- Assumes nothing.
 use Prim.Native.Nat.{ℕ, _+_, _≤_, _<_}
 use mathlib.Core.List.{List}
@@ -36,7 +36,9 @@ write-references-requires : tie.Need-write-references-requires
 write-references-requires c κs =
     let e = c .before .before .before .before in
     let a = e .args in
-    (e .pre .0, first-room (a .header .now) _ (a .start) (c .before .new .ensures) (e .pre .1) (headerBits (a .types .now) (a .params .now) (a .flag) (a .prior .now)) (at-most-987-bits (a .flag) (a .types .now) (a .params .now) (a .prior .now)) (e .pre .2))
+    let bits = headerBits (a .types .now) (a .params .now) (a .flag) (a .prior .now) in
+    let few = at-most-987-bits (a .flag) (a .types .now) (a .params .now) (a .prior .now) in
+    (e .pre .0, first-room (a .header .now) _ (a .start) (c .before .new .ensures) (e .pre .1) bits few (e .pre .2))
 
 sub-bits : tie.Need-sub-bits
 sub-bits c = omega (arith, c .before .before .before .write-references .ensures .at, c .before .before .before .before .before .new .ensures)
@@ -45,15 +47,21 @@ byte-align-requires : tie.Need-byte-align-requires
 byte-align-requires c κs =
     let e = c .before .before .before .before .before .before .before .before .before in
     let a = e .args in
-    pad-room (a .header .now) _ (a .start) (c .before .before .before .before .before .before .new .ensures) (e .pre .1) (headerBits (a .types .now) (a .params .now) (a .flag) (a .prior .now)) (at-most-987-bits (a .flag) (a .types .now) (a .params .now) (a .prior .now)) (e .pre .2) _ _ (c .before .before .before .before .write-references .ensures)
+    let bits = headerBits (a .types .now) (a .params .now) (a .flag) (a .prior .now) in
+    let few = at-most-987-bits (a .flag) (a .types .now) (a .params .now) (a .prior .now) in
+    pad-room (a .header .now) _ (a .start) (c .before .before .before .before .before .before .new .ensures) (e .pre .1) bits few (e .pre .2) _ _
+    (c .before .before .before .before .write-references .ensures)
 
 returns : tie.Need-returns
 returns c =
     let e = c .before .before .before .before .before .before .before .before .before .before .before .before in
     let a = e .args in
+    let bits = headerBits (a .types .now) (a .params .now) (a .flag) (a .prior .now) in
+    let few = at-most-987-bits (a .flag) (a .types .now) (a .params .now) (a .prior .now) in
+    let at-start = c .before .before .before .before .before .before .before .before .before .new .ensures in
     let w = c .before .before .before .before .before .before .before .write-references .ensures in (
-      omega (arith, w .at, c .before .before .before .before .before .before .before .before .before .new .ensures),
-      both (a .header .now) _ (a .start) (c .before .before .before .before .before .before .before .before .before .new .ensures) (e .pre .1) (headerBits (a .types .now) (a .params .now) (a .flag) (a .prior .now)) (at-most-987-bits (a .flag) (a .types .now) (a .params .now) (a .prior .now)) (e .pre .2) _ _ w _ _ (c .before .before .byte-align .ensures),
+      omega (arith, w .at, at-start),
+      both (a .header .now) _ (a .start) at-start (e .pre .1) bits few (e .pre .2) _ _ w _ _ (c .before .before .byte-align .ensures),
     )
 
 pub write-header-spec : {M : Type 1} → statement M

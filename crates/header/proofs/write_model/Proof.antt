@@ -41,7 +41,8 @@ abbrev Inv-loop : tie.InvT-loop
 Inv-loop header₀ gmType flag params prior first order count next₀ i₀ header next i =
     (i ≤ count)
     × (length header ≡ length header₀)
-    × Wrote header (next .at) (left flag params prior gmType first i) (putBits header₀ (next₀ .at) (modelBits flag params prior gmType first)) (next₀ .at + length (modelBits flag params prior gmType first))
+    × Wrote header (next .at) (left flag params prior gmType first i) (putBits header₀ (next₀ .at) (modelBits flag params prior gmType first))
+    (next₀ .at + length (modelBits flag params prior gmType first))
 
 abbrev μ-loop : tie.MeasureT-loop
 μ-loop header₀ gmType flag params prior first order count next₀ i₀ header next i = count - i
@@ -75,7 +76,8 @@ loop-again c =
     let e = c .before .before .write-slot .ensures in (
       omega (arith, c .before .before .before .before .loop-test .taken),
       wrote-length (l .header) (l .next .at) _ _ _ e ∙ l .inv .1,
-      more (a .flag) (a .params .now) (a .prior .now) (a .gm-type) (a .first) (s .result) (s .ensures) (l .header) (l .next .at) _ _ (l .i) (c .before .before .before .before .loop-test .taken) (l .inv .2) _ _ e,
+      more (a .flag) (a .params .now) (a .prior .now) (a .gm-type) (a .first) (s .result) (s .ensures) (l .header) (l .next .at) _ _ (l .i)
+          (c .before .before .before .before .loop-test .taken) (l .inv .2) _ _ e,
     )
 
 returns : tie.Need-returns Inv-loop μ-loop

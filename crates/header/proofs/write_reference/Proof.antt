@@ -1,4 +1,4 @@
--- `write_reference` meets its contract: the type bits, then the model's.
+-- `write_reference`: the type's bits are written, and the model's right behind them.
 -- Assumes nothing.
 use borrow.Author.Needs.{needs}
 use Rattle.bits.proofs.Buffer.{room-front, room-back, wrote-both}
@@ -24,7 +24,8 @@ returns : tie.Need-returns
 unfolding referenceBits
 returns c =
     let a = c .before .before .before .before .before .before .before .before .before .args in
-    wrote-both (typeBits (a .gm-type)) (modelBits (a .flag) (a .params .now) (a .prior .now) (a .gm-type) (a .first)) (c .before .before .before .before .before .before .write-type .ensures) (c .before .before .write-model .ensures)
+    wrote-both (typeBits (a .gm-type)) (modelBits (a .flag) (a .params .now) (a .prior .now) (a .gm-type) (a .first))
+    (c .before .before .before .before .before .before .write-type .ensures) (c .before .before .write-model .ensures)
 
 pub write-reference-spec : {M : Type 1} → statement M
 write-reference-spec = tie.close (tie.spec write-type-requires write-model-requires (search needs) returns)

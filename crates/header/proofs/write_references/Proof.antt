@@ -63,7 +63,8 @@ write-reference-requires c κs =
     let l = c .before .before .before .loop in
     let inv = l .inv in (
       model-ready (a .types .now) (a .params .now) (a .prior .now) (l .r) (pre .0) (c .before .before .loop-test .taken),
-      room (a .flag) (a .types .now) (a .params .now) (a .prior .now) (l .header) (l .next .at) _ _ (l .r) (c .before .before .loop-test .taken) (inv .2) (omega (arith, pre .1 .within, inv .1)) (pre .1 .small),
+      room (a .flag) (a .types .now) (a .params .now) (a .prior .now) (l .header) (l .next .at) _ _ (l .r) (c .before .before .loop-test .taken) (inv .2)
+          (omega (arith, pre .1 .within, inv .1)) (pre .1 .small),
     )
 
 loop-again : tie.Need-loop-again Inv-loop μ-loop
@@ -84,4 +85,6 @@ returns c =
     record { at = omega (arith, w .at); buffer = sym (w .buffer) }
 
 pub write-references-spec : {M : Type 1} → statement M
-write-references-spec = tie.close (tie.spec Inv-loop μ-loop loop-holds shared-slice-read-write-reference mul-write-reference write-reference-requires (search needs) (search needs) loop-again (search needs) returns)
+write-references-spec =
+    tie.close
+    (tie.spec Inv-loop μ-loop loop-holds shared-slice-read-write-reference mul-write-reference write-reference-requires (search needs) (search needs) loop-again (search needs) returns)

@@ -1,4 +1,4 @@
--- `write_slot` meets its contract: the two numbers are read, and handed on.
+-- `write_slot`: the value and the prior read at the slot are those whose bits the definition puts.
 -- Assumes nothing.
 use borrow.Author.Needs.{needs}
 use mir.Syntax.{w32}

@@ -1,4 +1,4 @@
--- `write_type` meets its contract: the field's bits are the type's.
+-- `write_type`: the field's bits are the type's.
 -- Assumes nothing.
 use mathlib.Core.Path.{_≡_}
 use native.Mathlib.Omega.{arith}

@@ -1,4 +1,4 @@
--- `answer` meets its contract: the bytes that the bits need, against those there are.
+-- `answer`: the bytes that the bits need are tested against those there are, as in the definition.
 -- Assumes nothing.
 use Prim.Native.Nat.{_*_}
 use native.Mathlib.Omega.{arith}
@@ -9,7 +9,8 @@ use Rattle.header_read.proofs.answer.Tie as tie
 
 returns : tie.Need-returns
 returns c =
-    rw (lt-ltb (8 * c .before .before .before .before .before .args .bytes) (c .before .before .before .before .before .args .seven .next .at) (omega (arith, c .before .if1 .taken))) (c .no-models .ensures)
+    let a = c .before .before .before .before .before .args in
+    rw (lt-ltb (8 * a .bytes) (a .seven .next .at) (omega (arith, c .before .if1 .taken))) (c .no-models .ensures)
 
 returns-2 : tie.Need-returns-2
 returns-2 c =

@@ -1,4 +1,4 @@
--- `opposite` meets its contract: a number that is small enough can be negated.
+-- `opposite`: a number that is small enough can be negated.
 -- Assumes nothing.
 use native.Mathlib.Omega.{arith}
 use lib.IntN.{negℤ, +ℤ-idl}

@@ -1,4 +1,4 @@
--- `read_from` meets its contract: the bytes from the position's on read as all of them do.
+-- `read_from`: the bytes from the position's on read as all of them do.
 -- Assumes nothing.
 use Prim.Native.Nat.{ℕ, _/_}
 use mathlib.Core.List.{List}
@@ -33,10 +33,17 @@ answer-requires c κs =
 returns-2 : tie.Need-returns-2
 returns-2 c =
     let e = c .before .before .before .before .before .before in
-    let a = c .before .before .before .before .before .before .args in
-    let tail = subst (λ (l : List ℕ). SevenIs (c .before .read-references .result) (referencesRead (bitAt l) (a .flag) (a .prior .now) 7 0 (c .before .before .before .new .result .at)) (c .before .before .before .new .result .at)) (tail-whole (a .at / 8) (a .header .now)) (c .before .read-references .ensures) in
-    let read = subst (λ (k : ℕ). SevenIs (c .before .read-references .result) (referencesRead (bitAt (drop (a .at / 8) (a .header .now))) (a .flag) (a .prior .now) 7 0 k) k) (c .before .before .before .new .ensures) tail in
-    c .answer .ensures ∙ from-byte (a .header .now) (a .at) (a .flag) (a .prior .now) (e .pre) (omega (arith, c .before .before .before .before .if1 .left)) (c .before .read-references .result) read
+    let a = e .args in
+    let seven = c .before .read-references in
+    let start = c .before .before .before .new in
+    let tail = subst (λ (l : List ℕ). SevenIs (seven .result) (referencesRead (bitAt l) (a .flag) (a .prior .now) 7 0 (start .result .at)) (start .result .at))
+    (tail-whole (a .at / 8) (a .header .now)) (seven .ensures) in
+    let read = subst (λ (k : ℕ). SevenIs (seven .result) (referencesRead (bitAt (drop (a .at / 8) (a .header .now))) (a .flag) (a .prior .now) 7 0 k) k)
+    (start .ensures) tail in
+    c .answer .ensures
+    ∙ from-byte (a .header .now) (a .at) (a .flag) (a .prior .now) (e .pre) (omega (arith, c .before .before .before .before .if1 .left)) (seven .result) read
 
 pub read-from-spec : {M : Type 1} → statement M
-read-from-spec = tie.close (tie.spec (λ c κs. search needs) returns (λ c. search needs) (λ c κs. search needs) (λ c. search needs) (λ c. search needs) (λ c. search needs) read-references-requires answer-requires returns-2)
+read-from-spec =
+    tie.close
+    (tie.spec (λ c κs. search needs) returns (λ c. search needs) (λ c κs. search needs) (λ c. search needs) (λ c. search needs) (λ c. search needs) read-references-requires answer-requires returns-2)

@@ -28,15 +28,19 @@ returns : tie.Need-returns
 unfolding coefficient
 returns c =
     let e = c .before .before .before .before .before in
-    let a = c .before .before .before .before .before .args in
-    let g : ℕ → ℕ = bitAt (c .before .before .before .before .before .args .header .now) in
-    let s = subst (λ (q : ℤ). SymbolsIs (a .gm-type) (a .flag) (a .slot) q (c .before .before .before .symbols-of .result)) (toZ-ofZ (e .fits .prior)) (c .before .before .before .symbols-of .ensures) in
+    let a = e .args in
+    let g : ℕ → ℕ = bitAt (a .header .now) in
+    let among = c .before .before .before .symbols-of in
+    let s = subst (λ (q : ℤ). SymbolsIs (a .gm-type) (a .flag) (a .slot) q (among .result)) (toZ-ofZ (e .fits .prior)) (among .ensures) in
     let d = c .before .before .decode-unsigned-subexp-with-ref .ensures .0 in
-    let same : symbol g (c .before .before .before .before .before .args .cursor .at) (c .before .before .before .symbols-of .result .mx) (c .before .before .before .symbols-of .result .r) ≡ symbol g (c .before .before .before .before .before .args .cursor .at) (symbols (absBits (c .before .before .before .before .before .args .gm-type) (c .before .before .before .before .before .args .flag) (c .before .before .before .before .before .args .slot))) (place (c .before .before .before .before .before .args .gm-type) (c .before .before .before .before .before .args .flag) (c .before .before .before .before .before .args .slot) (c .before .before .before .before .before .args .prior)) =
-    ap (λ (S : ℕ). symbol g (c .before .before .before .before .before .args .cursor .at) S (c .before .before .before .symbols-of .result .r)) (s .mx)
-    ∙ ap (λ (p : ℕ). symbol g (c .before .before .before .before .before .args .cursor .at) (symbols (absBits (c .before .before .before .before .before .args .gm-type) (c .before .before .before .before .before .args .flag) (c .before .before .before .before .before .args .slot))) p) (s .stands) in
-    let value = result-reads w32 _ (c .number-of .ok) ∙ c .number-of .ensures ∙ ap (numberOf (absBits (a .gm-type) (a .flag) (a .slot)) (precBits (a .gm-type) (a .flag) (a .slot)) (centre (a .slot))) (d .value ∙ ap (λ (t : Taken). t .value) same) in
-    let next = d .next ∙ ap (λ (t : Taken). c .before .before .before .before .before .args .cursor .at + t .bits) same in
+    let same : symbol g (a .cursor .at) (among .result .mx) (among .result .r)
+    ≡ symbol g (a .cursor .at) (symbols (absBits (a .gm-type) (a .flag) (a .slot))) (place (a .gm-type) (a .flag) (a .slot) (a .prior)) =
+    ap (λ (S : ℕ). symbol g (a .cursor .at) S (among .result .r)) (s .mx)
+    ∙ ap (λ (p : ℕ). symbol g (a .cursor .at) (symbols (absBits (a .gm-type) (a .flag) (a .slot))) p) (s .stands) in
+    let value =
+    result-reads w32 _ (c .number-of .ok) ∙ c .number-of .ensures
+    ∙ ap (numberOf (absBits (a .gm-type) (a .flag) (a .slot)) (precBits (a .gm-type) (a .flag) (a .slot)) (centre (a .slot))) (d .value ∙ ap (λ (t : Taken). t .value) same) in
+    let next = d .next ∙ ap (λ (t : Taken). a .cursor .at + t .bits) same in
     record {
       value = value;
       next = next;

@@ -12,7 +12,8 @@ six-filled-requires c κs = c .before .before .read-slots .ensures .small
 returns : tie.Need-returns
 returns c =
     let a = c .before .before .before .before .before .args in
-    modelled (bitAt (a .header .now)) (a .flag) (a .prior .now) (a .first) (a .cursor .at) (a .gm-type) (c .before .before .before .read-slots .result) _ (c .before .before .before .read-slots .ensures) refl (c .six-filled .ensures) refl
+    let s = c .before .before .before .read-slots in
+    modelled (bitAt (a .header .now)) (a .flag) (a .prior .now) (a .first) (a .cursor .at) (a .gm-type) (s .result) _ (s .ensures) refl (c .six-filled .ensures) refl
 
 pub read-model-spec : {M : Type 1} → statement M
 read-model-spec = tie.close (tie.spec (λ c κs. c .before .pre) six-filled-requires returns)

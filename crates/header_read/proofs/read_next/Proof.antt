@@ -1,4 +1,4 @@
--- `read_next` meets its contract: the type is stored at its place, the six numbers at theirs.
+-- `read_next`: the type is stored at its place, the six numbers at theirs.
 -- Assumes nothing.
 use Prim.Native.Nat.{ℕ, _*_}
 use mathlib.Core.List.{List}
@@ -15,10 +15,11 @@ read-reference-requires c κs = c .before .before .before .pre .0
 
 returns : tie.Need-returns
 returns c =
+    let a = c .before .before .before .before .before .before .before .args in
     let m = c .before .before .before .read-reference .ensures in
     record {
-      types = ap (λ (x : ℕ). set (c .before .before .before .before .before .before .before .args .seven .types) (c .before .before .before .before .before .before .before .args .r) x) (m .gmType);
-      params = c .with-six .ensures ∙ ap (λ (six : List ℤ). placed (6 * c .before .before .before .before .before .before .before .args .r) six (c .before .before .before .before .before .before .before .args .seven .params)) (m .six);
+      types = ap (λ (x : ℕ). set (a .seven .types) (a .r) x) (m .gmType);
+      params = c .with-six .ensures ∙ ap (λ (six : List ℤ). placed (6 * a .r) six (a .seven .params)) (m .six);
       next = m .next;
       near = m .near;
     }

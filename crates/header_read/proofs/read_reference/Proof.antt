@@ -1,4 +1,4 @@
--- `read_reference` meets its contract: the type's bits, then the model's.
+-- `read_reference`: the type's bits are read, and the model's right behind them.
 -- Assumes nothing.
 use mathlib.Core.Path.{refl}
 use native.Mathlib.Omega.{arith}

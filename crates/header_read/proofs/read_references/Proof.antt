@@ -1,4 +1,4 @@
--- `read_references` meets its contract: what is read so far, and what is left to read, are all.
+-- `read_references`: what is read so far, followed by what is left to read, is all seven.
 -- Assumes nothing.
 use Prim.Native.Nat.{_-_}
 use mathlib.Core.Path.{refl}
@@ -34,7 +34,8 @@ read-next-requires c κs =
 loop-again : tie.Need-loop-again Inv-loop μ-loop
 loop-again c =
     let a = c .before .before .before .before .args in
-    next-read (bitAt (a .header .now)) (a .flag) (a .prior .now) _ (c .before .before .loop .r) (c .before .before .loop .seven) (c .read-next .result) (c .before .loop-test .taken) (c .before .before .loop .inv) (c .read-next .ensures)
+    let l = c .before .before .loop in
+    next-read (bitAt (a .header .now)) (a .flag) (a .prior .now) _ (l .r) (l .seven) (c .read-next .result) (c .before .loop-test .taken) (l .inv) (c .read-next .ensures)
 
 returns : tie.Need-returns Inv-loop μ-loop
 returns c =

@@ -1,4 +1,4 @@
--- `read_slot` meets its contract: the prior's number is read, and handed on.
+-- `read_slot`: the prior's number read at the slot is the one that the definition counts from.
 -- Assumes nothing.
 use borrow.Author.Needs.{needs}
 use mir.Syntax.{w32}

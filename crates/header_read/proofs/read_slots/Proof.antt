@@ -42,10 +42,14 @@ read-slot-requires c κs =
     )
 
 array-set-from-values : tie.Need-array-set-from-values Inv-loop μ-loop
-array-set-from-values c = omega (arith, c .before .before .loop-test .taken, c .before .before .before .before .before .slots-of .ensures .count, six-slots-at-most (c .before .before .before .before .before .before .before .args .gm-type))
+array-set-from-values c =
+    let s = c .before .before .before .before .before .slots-of in
+    omega (arith, c .before .before .loop-test .taken, s .ensures .count, six-slots-at-most (c .before .before .before .before .before .before .before .args .gm-type))
 
 mul-values : tie.Need-mul-values Inv-loop μ-loop
-mul-values c = omega (arith, c .before .before .loop-test .taken, c .before .before .before .before .before .slots-of .ensures .count, six-slots-at-most (c .before .before .before .before .before .before .before .args .gm-type))
+mul-values c =
+    let s = c .before .before .before .before .before .slots-of in
+    omega (arith, c .before .before .loop-test .taken, s .ensures .count, six-slots-at-most (c .before .before .before .before .before .before .before .args .gm-type))
 
 loop-again : tie.Need-loop-again Inv-loop μ-loop
 loop-again c =

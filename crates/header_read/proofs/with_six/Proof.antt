@@ -1,4 +1,4 @@
--- `with_six` meets its contract: what is left to store, stored, gives what was to be stored.
+-- `with_six`: what is left to store, stored, gives what was to be stored.
 -- Assumes nothing.
 use Prim.Native.Nat.{ℕ, suc, _+_, _-_, _≤_, _<_}
 use mathlib.Core.List.{List}

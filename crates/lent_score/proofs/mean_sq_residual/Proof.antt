@@ -1,5 +1,6 @@
--- `lent_score::mean_sq_residual` meets its contract: a walk of its MIR, by hand, with one loop. The model is made once; each turn takes the next sample out of the slice, copies it, puts it back and calls `score_step`; the end is `score_of`'s. All that the proof knows of the three callees is that each meets its contract.
--- A `&[MotionSample]` is Copy: what it owns is had twice, one copy is kept whole for the exit, and the other is looked into once, before the loop. The variant says what is left: from here as much is to be added as from the first sample.
+-- `lent_score::mean_sq_residual`: each turn adds the next sample's step, so what is left to add is the rest of the sum.
+-- A `&[MotionSample]` is Copy: what it owns is had twice, one copy is kept whole for the exit, and the other is looked
+-- into once, before the loop. The variant says what is left: from here as much is to be added as from the first sample.
 -- Assumes nothing.
 use mathlib.Core.Path.{_≡_, refl, sym, ap, _∙_}
 use Prim.Native.Nat.{ℕ, _+_, _-_, _*_, _≤_, _<_, _^_, zero-le}
@@ -27,9 +28,80 @@ use prog.Wp.{Heap, Out, Env, afterSeq, afterBlock, afterTurn, Calls, Loops, Wp, 
 use ghost.Atoms.{Atoms, sem}
 use contract.Monad.{Fun, fact}
 use contract.Running.{givenOf, tables, tablesOf}
-use types.Kit.{Given, Item, ‵, raw, _⊛_, ⋆, some, later, runs, anyQ, atRet, Sq, _$_, _∵_, !, qed, by, move, keep, drop, use0, use1, split, join, pick, rewrite, fsplit, fjoin, suffices, frame, await, done}
+use types.Kit.{
+  Given,
+  Item,
+  ‵,
+  raw,
+  _⊛_,
+  ⋆,
+  some,
+  later,
+  runs,
+  anyQ,
+  atRet,
+  Sq,
+  _$_,
+  _∵_,
+  !,
+  qed,
+  by,
+  move,
+  keep,
+  drop,
+  use0,
+  use1,
+  split,
+  join,
+  pick,
+  rewrite,
+  fsplit,
+  fjoin,
+  suffices,
+  frame,
+  await,
+  done,
+}
 use types.Part.{whole, sub, look-in}
-use types.Run.{look, look-raw, store, init, forget, stop, hop, fld, from, load, lit, float-lit, of-opd, bin, and-then, no-more, assigns, assigns-last, first, skips, jumps, blocks, branches, land, returns, enter, alloc1, alloc0, params1, pass1, pass0, free1, free0, exec, Below, again, loops}
+use types.Run.{
+  look,
+  look-raw,
+  store,
+  init,
+  forget,
+  stop,
+  hop,
+  fld,
+  from,
+  load,
+  lit,
+  float-lit,
+  of-opd,
+  bin,
+  and-then,
+  no-more,
+  assigns,
+  assigns-last,
+  first,
+  skips,
+  jumps,
+  blocks,
+  branches,
+  land,
+  returns,
+  enter,
+  alloc1,
+  alloc0,
+  params1,
+  pass1,
+  pass0,
+  free1,
+  free0,
+  exec,
+  Below,
+  again,
+  loops,
+}
 use types.Share.{arr-parts}
 use sound.WpLaws.{FmC, fmOf, WpFn-mono}
 use denote.RattleType.{RattleType, owns}
@@ -144,13 +216,16 @@ module _ {M : Type 1} (𝓤 : URA M) (H : Heap 𝓤) (A : Atoms 𝓤) (mem : Mem
   model-said : (ps : List ℤ) (m : ContinuousModel) → ent 𝓤 (ensured 𝓤 H A model-of.ended (model-of.clauses 𝓤 H A mem run) tt (ps, tt) tt m) (fact 𝓤 (m ≡ continuousModel ps))
   model-said ps m = exE 𝓤 _ (λ ws. snd∗ 𝓤 (sem 𝓤 H A (lasts model-of.ended tt (ps, tt) ws)) (fact 𝓤 (m ≡ continuousModel ps)))
 
-  step-said : (m : ContinuousModel) (acc : Float) (s : MotionSample) (r : Float) → ent 𝓤 (ensured 𝓤 H A step.ended (step.clauses 𝓤 H A mem run) tt (m, (acc, (s, tt))) tt r) (fact 𝓤 (r ≡ scoreStep m acc s))
+  step-said : (m : ContinuousModel) (acc : Float) (s : MotionSample) (r : Float)
+      → ent 𝓤 (ensured 𝓤 H A step.ended (step.clauses 𝓤 H A mem run) tt (m, (acc, (s, tt))) tt r) (fact 𝓤 (r ≡ scoreStep m acc s))
   step-said m acc s r = exE 𝓤 _ (λ ws. snd∗ 𝓤 (sem 𝓤 H A (lasts step.ended tt (m, (acc, (s, tt))) ws)) (fact 𝓤 (r ≡ scoreStep m acc s)))
 
   ends-said : (acc : Float) (n : ℕ) (r : Score) → ent 𝓤 (ensured 𝓤 H A ends.ended (ends.clauses 𝓤 H A mem run) tt (acc, (n, tt)) tt r) (fact 𝓤 (r ≡ scoreOf acc n))
   ends-said acc n r = exE 𝓤 _ (λ ws. snd∗ 𝓤 (sem 𝓤 H A (lasts ends.ended tt (acc, (n, tt)) ws)) (fact 𝓤 (r ≡ scoreOf acc n)))
 
-module _ {M : Type 1} (𝓤 : URA M) (H : Heap 𝓤) (A : Atoms 𝓤) (W : Given 𝓤 H A) (mem : Memory → SProp 𝓤) (run : Routine → Fun 𝓤) (κ : Lft) (q : Share) (ps : List ℤ) (pv : Val) (p-is : Is Params ps (pv ∷ [])) (b o : ℕ) (γ : GName) (ys : List MotionSample) (gn : Room R (length ys)) where
+module _ {M : Type 1} (𝓤 : URA M) (H : Heap 𝓤) (A : Atoms 𝓤) (W : Given 𝓤 H A) (mem : Memory → SProp 𝓤)
+    (run : Routine → Fun 𝓤) (κ : Lft) (q : Share) (ps : List ℤ) (pv : Val) (p-is : Is Params ps (pv ∷ [])) (b o : ℕ)
+    (γ : GName) (ys : List MotionSample) (gn : Room R (length ys)) where
   abbrev n : ℕ
   n = length ys
 
@@ -174,7 +249,9 @@ module _ {M : Type 1} (𝓤 : URA M) (H : Heap 𝓤) (A : Atoms 𝓤) (W : Given
   exits r u e =
       qed W (‵ (S.the-row .own r (u ∷ [])) ∷ ‵ (flft κ q) ∷ ‵ Own ∷ []) ∵
       suffices ! _ (ends-at 𝓤 H A scored.ended stayed (scored.clauses 𝓤 H A mem run) W (((κ, tt), (q, tt), tt, (ps, (x, tt)), vals), tt) u r (tt, (tt, tt)) (tt, (tt, tt))) $ says ! e $
-      nothing ! $ move ! (2 ∷ 0 ∷ []) $ join ! $ frame ! $ nothing ! $ move ! (2 ∷ 0 ∷ []) $ fjoin ! $ owned ! Params (Is Params) (array-makes 𝓤 H A W i32 (sint-makes 𝓤 H A W w32) 6) ps _ p-is $ fjoin ! $ frame ! $ done !
+      nothing ! $ move ! (2 ∷ 0 ∷ []) $ join ! $ frame ! $ nothing ! $ move ! (2 ∷ 0 ∷ []) $ fjoin ! $
+      owned ! Params (Is Params) (array-makes 𝓤 H A W i32 (sint-makes 𝓤 H A W w32) 6) ps _ p-is $ fjoin ! $ frame ! $
+      done !
 
   -- the call of `continuous_of_params`
   abbrev to-model : ModelOf 𝓤 H A mem run .Ghost
@@ -219,9 +296,15 @@ module _ {M : Type 1} (𝓤 : URA M) (H : Heap 𝓤) (A : Atoms 𝓤) (W : Given
     to-ends t = ((tt, tt, tt, (t .acc, (n, tt)), (t .mach ∷ [], (vint w64 n ∷ [], tt))), tt)
 
     goes-ends : (t : Upto) → ent 𝓤 (emp 𝓤) (Ends 𝓤 H A mem run .pre (to-ends t))
-    goes-ends t = qed W [] ∵ nothing ! $ owned ! usize (Is usize) (uint-makes 𝓤 H A W w64) n _ (refl, gn .0) $ fjoin ! $ owned ! f64 (Is f64) (float-makes 𝓤 H A W binary64) (t .acc) _ (t .is) $ fjoin ! $ nothing ! $ join ! $ frame ! $ done !
+    goes-ends t =
+        qed W [] ∵ nothing ! $ owned ! usize (Is usize) (uint-makes 𝓤 H A W w64) n _ (refl, gn .0) $ fjoin ! $
+        owned ! f64 (Is f64) (float-makes 𝓤 H A W binary64) (t .acc) _ (t .is) $ fjoin ! $ nothing ! $ join ! $
+        frame ! $ done !
 
-    module _ (𝓣 : Tables 𝓤 H) (fm : FmC 𝓤 H (W .laws) (𝓣 .C)) (known-step : Triple 𝓤 (𝓣 .C #model·score-step) (Step 𝓤 H A mem run)) (known-ends : Triple 𝓤 (𝓣 .C #model·score-of) (Ends 𝓤 H A mem run)) (q′ : Share) (l₀ l₁ l₂ l₃ l₄ l₅ l₆ l₇ l₈ l₉ l₁₀ : ℕ) where
+    module _ (𝓣 : Tables 𝓤 H) (fm : FmC 𝓤 H (W .laws) (𝓣 .C))
+        (known-step : Triple 𝓤 (𝓣 .C #model·score-step) (Step 𝓤 H A mem run))
+        (known-ends : Triple 𝓤 (𝓣 .C #model·score-of) (Ends 𝓤 H A mem run)) (q′ : Share)
+        (l₀ l₁ l₂ l₃ l₄ l₅ l₆ l₇ l₈ l₉ l₁₀ : ℕ) where
       abbrev C : Calls 𝓤 H
       C = 𝓣 .C
 
@@ -233,9 +316,16 @@ module _ {M : Type 1} (𝓤 : URA M) (H : Heap 𝓤) (A : Atoms 𝓤) (W : Given
 
       -- [the elements; what shuts the slice; the copy of what it owns; _10; …; _0; …]
       abbrev At : Upto → List (Item 𝓤)
-      At t = ‵ (row R q′ ys b o) ∷ ‵ (fobor κ q (arr-parts (shares R) n .part q′ ys b o)) ∷ ‵ Own ∷ ‵ (froom word l₁₀ 0) ∷ ‵ (fdies word l₁₀) ∷ ‵ (froom P′.mir l₉ 0) ∷ ‵ (fdies P′.mir l₉) ∷ ‵ (froom tyPtr l₈ 0) ∷ ‵ (fdies tyPtr l₈)
-          ∷ ‵ (froom tyBool l₇ 0) ∷ ‵ (fdies tyBool l₇) ∷ ‵ (froom word l₆ 0) ∷ ‵ (fdies word l₆) ∷ ‵ (fat fullShare word l₅ 0 (vint w64 (t .i))) ∷ ‵ (fdies word l₅) ∷ ‵ (fat fullShare (tyFloat binary64) l₄ 0 (t .mach)) ∷ ‵ (fdies (tyFloat binary64) l₄)
-          ∷ ‵ (fat fullShare K′.mir l₃ 0 mv) ∷ ‵ (fdies K′.mir l₃) ∷ ‵ (fat fullShare slice l₂ 0 v) ∷ ‵ (fdies slice l₂) ∷ ‵ (fat fullShare (tyArray (tyInt w32) 6) l₁ 0 pv) ∷ ‵ (fdies (tyArray (tyInt w32) 6) l₁) ∷ ‵ (froom S′.mir l₀ 0) ∷ ‵ (fdies S′.mir l₀) ∷ []
+      At t =
+          ‵ (row R q′ ys b o) ∷ ‵ (fobor κ q (arr-parts (shares R) n .part q′ ys b o)) ∷ ‵ Own ∷ ‵ (froom word l₁₀ 0)
+          ∷ ‵ (fdies word l₁₀) ∷ ‵ (froom P′.mir l₉ 0) ∷ ‵ (fdies P′.mir l₉) ∷ ‵ (froom tyPtr l₈ 0)
+          ∷ ‵ (fdies tyPtr l₈)
+          ∷ ‵ (froom tyBool l₇ 0) ∷ ‵ (fdies tyBool l₇) ∷ ‵ (froom word l₆ 0) ∷ ‵ (fdies word l₆)
+          ∷ ‵ (fat fullShare word l₅ 0 (vint w64 (t .i))) ∷ ‵ (fdies word l₅)
+          ∷ ‵ (fat fullShare (tyFloat binary64) l₄ 0 (t .mach)) ∷ ‵ (fdies (tyFloat binary64) l₄)
+          ∷ ‵ (fat fullShare K′.mir l₃ 0 mv) ∷ ‵ (fdies K′.mir l₃) ∷ ‵ (fat fullShare slice l₂ 0 v) ∷ ‵ (fdies slice l₂)
+          ∷ ‵ (fat fullShare (tyArray (tyInt w32) 6) l₁ 0 pv) ∷ ‵ (fdies (tyArray (tyInt w32) 6) l₁)
+          ∷ ‵ (froom S′.mir l₀ 0) ∷ ‵ (fdies S′.mir l₀) ∷ []
 
       -- a turn's postcondition: it ends nearer to n, or the loop is left and the rest of the body runs
       abbrev Turned : Upto → Out → SProp 𝓤
@@ -253,29 +343,45 @@ module _ {M : Type 1} (𝓤 : URA M) (H : Heap 𝓤) (A : Atoms 𝓤) (W : Given
           rewrite ! 7 (λ (p : ℕ). ‵ (fat fullShare tyPtr l₈ 0 (vptr b p))) (sym (place-is 32 o (t .i))) refl $
           elem-out ! R (Is R) (shows 𝓤 H A R) machs (LL.tells P.the-type P′.the-laws) q′ ys (t .i) none b o (ltb→lt (t .i) n less) (λ g.
           -- [the sample; what it owns; the others; what shuts the slice; the copy; _10; …; _0; …]
-          assigns ! (of-opd ! (load ! (from ! (hop ! (look ! 9 refl) (stop !))) (look-raw ! 0 refl))) (from ! (stop !)) (init ! 7 refl (LL.lawful P.the-type P′.the-laws 𝓤 H A W .typed (here t) _ g .0)) $
+          assigns ! (of-opd ! (load ! (from ! (hop ! (look ! 9 refl) (stop !))) (look-raw ! 0 refl))) (from ! (stop !))
+          (init ! 7 refl (LL.lawful P.the-type P′.the-laws 𝓤 H A W .typed (here t) _ g .0)) $
           elem-back ! R q′ ys (t .i) none (machs (here t)) b o (ltb→lt (t .i) n less) $
           use0 W (raw (Step 𝓤 H A mem run .pre (to-step t))) (goes-step t g) $
-          calls-at ! fm (Step 𝓤 H A mem run) known-step (to-step t) (and-then ! (load ! (from ! (stop !)) (look ! 18 refl)) (and-then ! (load ! (from ! (stop !)) (look ! 16 refl)) (and-then ! (load ! (from ! (stop !)) (look ! 6 refl)) (no-more !)))) (λ u.
-          use1 W (later (some (λ (r : Float). (‵ ftrue ⊛ ‵ (f64 .own r (u ∷ []))) ⊛ raw (ensured 𝓤 H A step.ended (step.clauses 𝓤 H A mem run) tt (m, (t .acc, (here t, tt))) tt r)))) (id⊢ 𝓤 _) $ await ! tt $ pick ! (λ r.
+          calls-at ! fm (Step 𝓤 H A mem run) known-step (to-step t)
+          (and-then ! (load ! (from ! (stop !)) (look ! 18 refl))
+          (and-then ! (load ! (from ! (stop !)) (look ! 16 refl)) (and-then ! (load ! (from ! (stop !)) (look ! 6 refl)) (no-more !))))
+          (λ u.
+          use1 W
+          (later (some (λ (r : Float). (‵ ftrue ⊛ ‵ (f64 .own r (u ∷ []))) ⊛ raw (ensured 𝓤 H A step.ended (step.clauses 𝓤 H A mem run) tt (m, (t .acc, (here t, tt))) tt r))))
+          (id⊢ 𝓤 _) $
+          await ! tt $ pick ! (λ r.
           split ! $ move ! (1 ∷ []) $ use1 W (raw (fact 𝓤 (r ≡ f (t .acc) (here t)))) (step-said 𝓤 H A mem run m (t .acc) (here t) r) $ heard ! (r ≡ f (t .acc) (here t)) (λ e. split ! $ drop ! $
           facts ! f64 (Is f64) (shows 𝓤 H A f64) r (u ∷ []) (λ is.
           land ! (from ! (stop !)) (store ! 15 refl (float-lawful 𝓤 H A W binary64 .typed r _ is .0)) $
-          assigns-last ! (bin ! (load ! (from ! (stop !)) (look ! 13 refl)) (lit ! tt) (record { fits = index-fits (next less r u e is) })) (from ! (stop !)) (store ! 13 refl (tt, record { fits = index-fits (next less r u e is) })) $
+          assigns-last !
+          (bin ! (load ! (from ! (stop !)) (look ! 13 refl)) (lit ! tt) (record { fits = index-fits (next less r u e is) }))
+          (from ! (stop !)) (store ! 13 refl (tt, record { fits = index-fits (next less r u e is) })) $
           forget ! 5 refl $ forget ! 7 refl $ forget ! 9 refl $ forget ! 11 refl $ again ! Nearer At t (next less r u e is) (add-one-dec n (t .i) (ltb→lt (t .i) n less))))))))
           (λ over. jumps ! $ exec ! C Λ En body.t-5 (atRet En Post) $ shuts-slice ! tt R q′ ys b o $
           -- [the token; the copy; _10; …; _0; …]
           assigns ! (of-opd ! (load ! (from ! (fld ! refl (stop !))) (look-in ! 18 (sub ! 1 refl (whole !))))) (from ! (stop !)) (init ! 2 refl (tt, record { fits = gn .0 })) $
           use0 W (raw (Ends 𝓤 H A mem run .pre (to-ends t))) (goes-ends t) $
           calls-at ! fm (Ends 𝓤 H A mem run) known-ends (to-ends t) (and-then ! (load ! (from ! (stop !)) (look ! 15 refl)) (and-then ! (load ! (from ! (stop !)) (look ! 3 refl)) (no-more !))) (λ u.
-          use1 W (later (some (λ (r : Score). (‵ ftrue ⊛ ‵ (S.the-row .own r (u ∷ []))) ⊛ raw (ensured 𝓤 H A ends.ended (ends.clauses 𝓤 H A mem run) tt (t .acc, (n, tt)) tt r)))) (id⊢ 𝓤 _) $ await ! tt $ pick ! (λ r.
+          use1 W
+          (later (some (λ (r : Score). (‵ ftrue ⊛ ‵ (S.the-row .own r (u ∷ []))) ⊛ raw (ensured 𝓤 H A ends.ended (ends.clauses 𝓤 H A mem run) tt (t .acc, (n, tt)) tt r))))
+          (id⊢ 𝓤 _) $
+          await ! tt $ pick ! (λ r.
           split ! $ move ! (1 ∷ []) $ use1 W (raw (fact 𝓤 (r ≡ scoreOf (t .acc) n))) (ends-said 𝓤 H A mem run (t .acc) n r) $ heard ! (r ≡ scoreOf (t .acc) n) (λ e. split ! $ drop ! $
           -- [the result; the token; the copy; _10; …; _0; …]
           peeks ! S.the-row (Is S.the-row) (shows 𝓤 H A S.the-row) r (u ∷ []) (λ is.
           land ! (from ! (stop !)) (init ! 23 refl (LL.lawful S.the-type S′.the-laws 𝓤 H A W .typed r _ is .0)) $
-          returns ! (look ! 23 refl) $ forget ! 3 refl $ forget ! 9 refl $ forget ! 11 refl $ forget ! 13 refl $ forget ! 15 refl $ forget ! 17 refl $ forget ! 19 refl $ forget ! 21 refl $ forget ! 23 refl $
-          move ! (23 ∷ 24 ∷ []) $ free1 ! $ move ! (21 ∷ 22 ∷ []) $ free1 ! $ move ! (19 ∷ 20 ∷ []) $ free1 ! $ move ! (17 ∷ 18 ∷ []) $ free1 ! $ move ! (15 ∷ 16 ∷ []) $ free1 ! $ move ! (13 ∷ 14 ∷ []) $ free1 ! $
-          move ! (11 ∷ 12 ∷ []) $ free1 ! $ move ! (9 ∷ 10 ∷ []) $ free1 ! $ move ! (7 ∷ 8 ∷ []) $ free1 ! $ move ! (5 ∷ 6 ∷ []) $ free1 ! $ move ! (3 ∷ 4 ∷ []) $ free1 ! $ free0 ! $ by ! (exits r u (ended over r e)))))))
+          returns ! (look ! 23 refl) $ forget ! 3 refl $ forget ! 9 refl $ forget ! 11 refl $ forget ! 13 refl $
+          forget ! 15 refl $ forget ! 17 refl $ forget ! 19 refl $ forget ! 21 refl $ forget ! 23 refl $
+          move ! (23 ∷ 24 ∷ []) $ free1 ! $ move ! (21 ∷ 22 ∷ []) $ free1 ! $ move ! (19 ∷ 20 ∷ []) $ free1 ! $
+          move ! (17 ∷ 18 ∷ []) $ free1 ! $ move ! (15 ∷ 16 ∷ []) $ free1 ! $ move ! (13 ∷ 14 ∷ []) $ free1 ! $
+          move ! (11 ∷ 12 ∷ []) $ free1 ! $ move ! (9 ∷ 10 ∷ []) $ free1 ! $ move ! (7 ∷ 8 ∷ []) $ free1 ! $
+          move ! (5 ∷ 6 ∷ []) $ free1 ! $ move ! (3 ∷ 4 ∷ []) $ free1 ! $ free0 ! $
+          by ! (exits r u (ended over r e)))))))
         where
           index-fits : (t′ : Upto) → t′ .i < 2 ^ 64
           index-fits t′ = lt-of-le-of-lt (t′ .within) (gn .0)
@@ -303,15 +409,24 @@ module _ {M : Type 1} (𝓤 : URA M) (H : Heap 𝓤) (A : Atoms 𝓤) (W : Given
     abbrev start : Upto
     start = record { i = 0; acc = nought; mach = vfloat binary64 nought; within = zero-le; is = (refl, nought-fits); left = refl }
 
-  module _ (𝓣 : Tables 𝓤 H) (fm : FmC 𝓤 H (W .laws) (𝓣 .C)) (known-model : Triple 𝓤 (𝓣 .C #model·continuous-of-params) (ModelOf 𝓤 H A mem run)) (known-step : Triple 𝓤 (𝓣 .C #model·score-step) (Step 𝓤 H A mem run)) (known-ends : Triple 𝓤 (𝓣 .C #model·score-of) (Ends 𝓤 H A mem run)) where
+  module _ (𝓣 : Tables 𝓤 H) (fm : FmC 𝓤 H (W .laws) (𝓣 .C))
+      (known-model : Triple 𝓤 (𝓣 .C #model·continuous-of-params) (ModelOf 𝓤 H A mem run))
+      (known-step : Triple 𝓤 (𝓣 .C #model·score-step) (Step 𝓤 H A mem run))
+      (known-ends : Triple 𝓤 (𝓣 .C #model·score-of) (Ends 𝓤 H A mem run)) where
     module _ (l₀ l₁ l₂ l₃ l₄ l₅ l₆ l₇ l₈ l₉ l₁₀ : ℕ) (m : ContinuousModel) (mv : Val) (m-is : Is K.the-row m (mv ∷ [])) (m-of : m ≡ continuousModel ps) where
       abbrev Locals : Env 𝓤 H
       Locals = En m mv m-is m-of 𝓣 fm known-step known-ends fullShare l₀ l₁ l₂ l₃ l₄ l₅ l₆ l₇ l₈ l₉ l₁₀
 
       -- the sum and the count begin at 0, the slice is looked into, and the loop runs
-      starts : Sq W (‵ (froom word l₁₀ 0) ∷ ‵ (fdies word l₁₀) ∷ ‵ (froom P′.mir l₉ 0) ∷ ‵ (fdies P′.mir l₉) ∷ ‵ (froom tyPtr l₈ 0) ∷ ‵ (fdies tyPtr l₈) ∷ ‵ (froom tyBool l₇ 0) ∷ ‵ (fdies tyBool l₇) ∷ ‵ (froom word l₆ 0) ∷ ‵ (fdies word l₆)
-          ∷ ‵ (froom word l₅ 0) ∷ ‵ (fdies word l₅) ∷ ‵ (froom (tyFloat binary64) l₄ 0) ∷ ‵ (fdies (tyFloat binary64) l₄) ∷ ‵ (fat fullShare K′.mir l₃ 0 mv) ∷ ‵ (fdies K′.mir l₃) ∷ ‵ (fat fullShare slice l₂ 0 v) ∷ ‵ (fdies slice l₂)
-          ∷ ‵ (fat fullShare (tyArray (tyInt w32) 6) l₁ 0 pv) ∷ ‵ (fdies (tyArray (tyInt w32) 6) l₁) ∷ ‵ (froom S′.mir l₀ 0) ∷ ‵ (fdies S′.mir l₀) ∷ (‵ (flft κ q) ⊛ ‵ ftrue) ∷ ‵ (owns (Params ∷ ShrSlice (named 0) κ R ∷ []) (ps, (x, tt)) vals) ∷ [])
+      starts : Sq W (‵ (froom word l₁₀ 0) ∷ ‵ (fdies word l₁₀) ∷ ‵ (froom P′.mir l₉ 0) ∷ ‵ (fdies P′.mir l₉)
+          ∷ ‵ (froom tyPtr l₈ 0) ∷ ‵ (fdies tyPtr l₈) ∷ ‵ (froom tyBool l₇ 0) ∷ ‵ (fdies tyBool l₇)
+          ∷ ‵ (froom word l₆ 0) ∷ ‵ (fdies word l₆)
+          ∷ ‵ (froom word l₅ 0) ∷ ‵ (fdies word l₅) ∷ ‵ (froom (tyFloat binary64) l₄ 0)
+          ∷ ‵ (fdies (tyFloat binary64) l₄) ∷ ‵ (fat fullShare K′.mir l₃ 0 mv) ∷ ‵ (fdies K′.mir l₃)
+          ∷ ‵ (fat fullShare slice l₂ 0 v) ∷ ‵ (fdies slice l₂)
+          ∷ ‵ (fat fullShare (tyArray (tyInt w32) 6) l₁ 0 pv) ∷ ‵ (fdies (tyArray (tyInt w32) 6) l₁)
+          ∷ ‵ (froom S′.mir l₀ 0) ∷ ‵ (fdies S′.mir l₀) ∷ (‵ (flft κ q) ⊛ ‵ ftrue)
+          ∷ ‵ (owns (Params ∷ ShrSlice (named 0) κ R ∷ []) (ps, (x, tt)) vals) ∷ [])
           (runs (𝓣 .C) (𝓣 .Λ) Locals body.t-2 (atRet Locals Post))
       starts =
           assigns ! (of-opd ! (float-lit ! tt)) (from ! (stop !)) (init ! 12 refl (float-lawful 𝓤 H A W binary64 .typed nought _ (refl, nought-fits) .0)) $
@@ -321,29 +436,50 @@ module _ {M : Type 1} (𝓤 : URA M) (H : Heap 𝓤) (A : Atoms 𝓤) (W : Given
           move ! (25 ∷ []) $ split ! $ move ! (2 ∷ 0 ∷ []) $
           looks-slice ! tt R (Is R) (shows 𝓤 H A R) machs (LL.tells P.the-type P′.the-laws) (LL.copy P.the-type P′.the-copy 𝓤 H A W) ys b o (λ q′.
           keep ! (0 ∷ 1 ∷ 4 ∷ 6 ∷ 7 ∷ 8 ∷ 9 ∷ 10 ∷ 11 ∷ 12 ∷ 13 ∷ 14 ∷ 15 ∷ 16 ∷ 17 ∷ 18 ∷ 19 ∷ 20 ∷ 21 ∷ 22 ∷ 23 ∷ 24 ∷ 25 ∷ 26 ∷ 27 ∷ []) $ first ! $ blocks ! $
-          loops ! 𝓣 (Nearer m mv m-is m-of) (Nearer-wf m mv m-is m-of) (At m mv m-is m-of 𝓣 fm known-step known-ends q′ l₀ l₁ l₂ l₃ l₄ l₅ l₆ l₇ l₈ l₉ l₁₀) (turns m mv m-is m-of 𝓣 fm known-step known-ends q′ l₀ l₁ l₂ l₃ l₄ l₅ l₆ l₇ l₈ l₉ l₁₀) (start m mv m-is m-of))
+          loops ! 𝓣 (Nearer m mv m-is m-of) (Nearer-wf m mv m-is m-of)
+          (At m mv m-is m-of 𝓣 fm known-step known-ends q′ l₀ l₁ l₂ l₃ l₄ l₅ l₆ l₇ l₈ l₉ l₁₀)
+          (turns m mv m-is m-of 𝓣 fm known-step known-ends q′ l₀ l₁ l₂ l₃ l₄ l₅ l₆ l₇ l₈ l₉ l₁₀)
+          (start m mv m-is m-of))
 
     walk : ent 𝓤 (onEntry 𝓤 H A scored.signature (κ, tt) (q, tt) (ps, (x, tt)) vals) (WpFn 𝓤 H (𝓣 .C) (𝓣 .Λ) code.function (pv ∷ v ∷ []) Post)
     walk =
         qed W ((‵ (flft κ q) ⊛ ‵ ftrue) ∷ ‵ (owns (Params ∷ ShrSlice (named 0) κ R ∷ []) (ps, (x, tt)) vals) ∷ []) ∵ enter ! (𝓣 .C) (𝓣 .Λ) code.function (pv ∷ v ∷ []) _ $
-        alloc1 ! (λ l₀. alloc1 ! (λ l₁. alloc1 ! (λ l₂. alloc1 ! (λ l₃. alloc1 ! (λ l₄. alloc1 ! (λ l₅. alloc1 ! (λ l₆. alloc1 ! (λ l₇. alloc1 ! (λ l₈. alloc1 ! (λ l₉. alloc1 ! (λ l₁₀. alloc0 ! $ params1 ! $
+        alloc1 ! (λ l₀. alloc1 ! (λ l₁. alloc1 ! (λ l₂. alloc1 ! (λ l₃. alloc1 ! (λ l₄. alloc1 ! (λ l₅. alloc1 ! (λ l₆.
+        alloc1 ! (λ l₇. alloc1 ! (λ l₈. alloc1 ! (λ l₉. alloc1 ! (λ l₁₀. alloc0 ! $
+        params1 ! $
         pass1 ! (init ! 18 refl (array-lawful 𝓤 H A W i32 (sint-lawful 𝓤 H A W w32) 6 .typed ps _ p-is .0)) $ pass1 ! (init ! 16 refl (tt, (tt, (record { fits = gn .0 }, tt)))) $ pass0 ! $
         use0 W (raw (ModelOf 𝓤 H A mem run .pre to-model)) goes-model $
         calls-at ! fm (ModelOf 𝓤 H A mem run) known-model to-model (and-then ! (load ! (from ! (stop !)) (look ! 19 refl)) (no-more !)) (λ mv.
-        use1 W (later (some (λ (m : ContinuousModel). (‵ ftrue ⊛ ‵ (K.the-row .own m (mv ∷ []))) ⊛ raw (ensured 𝓤 H A model-of.ended (model-of.clauses 𝓤 H A mem run) tt (ps, tt) tt m)))) (id⊢ 𝓤 _) $ await ! tt $ pick ! (λ m.
+        use1 W
+        (later
+        (some (λ (m : ContinuousModel). (‵ ftrue ⊛ ‵ (K.the-row .own m (mv ∷ []))) ⊛ raw (ensured 𝓤 H A model-of.ended (model-of.clauses 𝓤 H A mem run) tt (ps, tt) tt m))))
+        (id⊢ 𝓤 _) $
+        await ! tt $ pick ! (λ m.
         split ! $ move ! (1 ∷ []) $ use1 W (raw (fact 𝓤 (m ≡ continuousModel ps))) (model-said 𝓤 H A mem run ps m) $ heard ! (m ≡ continuousModel ps) (λ e. split ! $ drop ! $
         facts ! K.the-row (Is K.the-row) (shows 𝓤 H A K.the-row) m (mv ∷ []) (λ is.
         land ! (from ! (stop !)) (init ! 14 refl (LL.lawful K.the-type K′.the-laws 𝓤 H A W .typed m _ is .0)) $ starts l₀ l₁ l₂ l₃ l₄ l₅ l₆ l₇ l₈ l₉ l₁₀ m mv is e)))))))))))))))
 
 module _ {M : Type 1} (𝓤 : URA M) (H : Heap 𝓤) (A : Atoms 𝓤) (W : Given 𝓤 H A) (mem : Memory → SProp 𝓤) (run : Routine → Fun 𝓤) (𝓣 : Tables 𝓤 H) where
-  mean-sq-residual-walks : Triple 𝓤 (𝓣 .C #model·continuous-of-params) (ModelOf 𝓤 H A mem run) → Triple 𝓤 (𝓣 .C #model·score-step) (Step 𝓤 H A mem run) → Triple 𝓤 (𝓣 .C #model·score-of) (Ends 𝓤 H A mem run)
+  mean-sq-residual-walks : Triple 𝓤 (𝓣 .C #model·continuous-of-params) (ModelOf 𝓤 H A mem run)
+      → Triple 𝓤 (𝓣 .C #model·score-step) (Step 𝓤 H A mem run) → Triple 𝓤 (𝓣 .C #model·score-of) (Ends 𝓤 H A mem run)
       → Walks 𝓤 H A scored.ended stayed (WpFn 𝓤 H (𝓣 .C) (𝓣 .Λ) code.function) (scored.clauses 𝓤 H A mem run)
-  mean-sq-residual-walks known-model known-step known-ends = walked 𝓤 H A scored.ended stayed (scored.clauses 𝓤 H A mem run) (WpFn 𝓤 H (𝓣 .C) (𝓣 .Λ) code.function) (λ κs. (array-vals (sint-vals w32), (slice-vals, tt))) (λ κs. (array-tells i32 (sint-vals w32) (sint-tells w32) 6, (shr-slice-tells (named 0) (κs .0) R, tt)))
-      (λ κs qs bounds a g are. via 𝓤 _ (fst∗ 𝓤 _ (emp 𝓤)) (walk 𝓤 H A W mem run (κs .0) (qs .0) (a .0) _ (are .0) (a .1 .0 .ptr .0) (a .1 .0 .ptr .1) (a .1 .0 .name) (a .1 .0 .now) (are .1 .0 .0 .1) 𝓣 (fmOf 𝓤 H (W .laws) 𝓣) known-model known-step known-ends))
+  mean-sq-residual-walks known-model known-step known-ends =
+      walked 𝓤 H A scored.ended stayed (scored.clauses 𝓤 H A mem run) (WpFn 𝓤 H (𝓣 .C) (𝓣 .Λ) code.function)
+      (λ κs. (array-vals (sint-vals w32), (slice-vals, tt)))
+      (λ κs. (array-tells i32 (sint-vals w32) (sint-tells w32) 6, (shr-slice-tells (named 0) (κs .0) R, tt)))
+      (λ κs qs bounds a g are.
+      via 𝓤 _ (fst∗ 𝓤 _ (emp 𝓤))
+      (walk 𝓤 H A W mem run (κs .0) (qs .0) (a .0) _ (are .0) (a .1 .0 .ptr .0) (a .1 .0 .ptr .1) (a .1 .0 .name)
+      (a .1 .0 .now) (are .1 .0 .0 .1) 𝓣 (fmOf 𝓤 H (W .laws) 𝓣) known-model known-step known-ends))
 
-  mean-sq-residual-meets : Triple 𝓤 (𝓣 .C #model·continuous-of-params) (ModelOf 𝓤 H A mem run) → Triple 𝓤 (𝓣 .C #model·score-step) (Step 𝓤 H A mem run) → Triple 𝓤 (𝓣 .C #model·score-of) (Ends 𝓤 H A mem run)
+  mean-sq-residual-meets : Triple 𝓤 (𝓣 .C #model·continuous-of-params) (ModelOf 𝓤 H A mem run)
+      → Triple 𝓤 (𝓣 .C #model·score-step) (Step 𝓤 H A mem run) → Triple 𝓤 (𝓣 .C #model·score-of) (Ends 𝓤 H A mem run)
       → Meets 𝓤 H A scored.signature (WpFn 𝓤 H (𝓣 .C) (𝓣 .Λ) code.function) (scored.spec 𝓤 H A mem run)
-  mean-sq-residual-meets known-model known-step known-ends = walk-meets 𝓤 H A scored.ended stayed W (goes-none 𝓤 H A W 1 (λ _. Params) yes (λ κs x f. refl), (goes-none-slice 𝓤 H A W 1 (0 ∷ []) tt (plain (λ _. R)) yes, tt)) (scored.clauses 𝓤 H A mem run) (WpFn 𝓤 H (𝓣 .C) (𝓣 .Λ) code.function) (WpFn-mono 𝓤 H (W .laws) 𝓣 code.function)
+  mean-sq-residual-meets known-model known-step known-ends =
+      walk-meets 𝓤 H A scored.ended stayed W
+      (goes-none 𝓤 H A W 1 (λ _. Params) yes (λ κs x f. refl), (goes-none-slice 𝓤 H A W 1 (0 ∷ []) tt (plain (λ _. R)) yes, tt))
+      (scored.clauses 𝓤 H A mem run) (WpFn 𝓤 H (𝓣 .C) (𝓣 .Λ) code.function)
+      (WpFn-mono 𝓤 H (W .laws) 𝓣 code.function)
       (mean-sq-residual-walks known-model known-step known-ends)
 
 pub mean-sq-residual-spec : {M : Type 1} → stated.statement M

@@ -1,4 +1,4 @@
--- `carries_slot` meets its contract: each return by the tests on its way.
+-- `carries_slot`: each type's return is the definition's bound on the slot.
 -- Assumes nothing.
 use borrow.Author.Tests.{eq-eqb, ne-eqb}
 use Rattle.models.proofs.carries_slot.Statement.{statement}

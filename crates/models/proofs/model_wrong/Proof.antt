@@ -1,4 +1,4 @@
--- `model_wrong` meets its contract: none so far, and the first that holds ends it.
+-- `model_wrong`: no slot before the counter's is wrong, and the first that is ends the loop.
 -- Assumes nothing.
 use Prim.Native.Nat.{_-_, _≤_}
 use mathlib.Core.Bool.{false}

@@ -1,4 +1,4 @@
--- `models_wrong` meets its contract: none so far, and the first that holds ends it.
+-- `models_wrong`: no model before the counter's is wrong, and the first that is ends the loop.
 -- Assumes nothing.
 use Prim.Native.Nat.{_-_, _≤_}
 use mathlib.Core.Bool.{false}

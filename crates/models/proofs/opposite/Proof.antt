@@ -1,4 +1,4 @@
--- `opposite` meets its contract: every i32 and its opposite fit 64 bits.
+-- `opposite`: every i32 and its opposite fit 64 bits.
 -- Assumes nothing.
 use native.Mathlib.Omega.{arith}
 use lib.IntN.{ℤ, negℤ, +ℤ-idl}

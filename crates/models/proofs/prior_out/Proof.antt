@@ -1,4 +1,4 @@
--- `prior_out` meets its contract: the distance from the centre against the slot's reach.
+-- `prior_out`: the distance from the centre is tested against the reach of the slot, as in the definition.
 -- Assumes nothing.
 use borrow.Author.Needs.{needs}
 use borrow.Author.Tests.{lt-ltb, le-ltb}

@@ -1,4 +1,4 @@
--- `priors_out` meets its contract: none so far, and the first that holds ends it.
+-- `priors_out`: no prior before the counter's is out of range, and the first that is ends the loop.
 -- Assumes nothing.
 use Prim.Native.Nat.{_-_, _≤_}
 use mathlib.Core.Bool.{false}

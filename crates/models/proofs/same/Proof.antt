@@ -1,4 +1,4 @@
--- `same` meets its contract: numbers in range are equal where their bits are.
+-- `same`: numbers in range are equal where their bits are.
 -- Assumes nothing.
 use mir.Syntax.{w32}
 use Rattle.models.proofs.Integers.{equal-bits}

@@ -1,4 +1,4 @@
--- `slot_at` meets its contract: three elements are read, and handed on.
+-- `slot_at`: the numbers read are the slot's own and the model's [2] and [3], as in the definition.
 -- Assumes nothing.
 use borrow.Author.Needs.{needs}
 use mir.Syntax.{w32}

@@ -1,4 +1,4 @@
--- `slot_wrong` meets its contract: a carried slot, ROTZOOM's pair, and the identity value, each by its tests.
+-- `slot_wrong`: a carried slot, ROTZOOM's pair and the identity value are told apart by the definition's tests.
 -- Assumes nothing.
 use mathlib.Core.Path.{_∙_, sym}
 use native.Mathlib.Omega.{arith}

@@ -1,4 +1,4 @@
--- `types_over` meets its contract: none so far, and the first that holds ends it.
+-- `types_over`: no type before the counter's is over the last code, and the first that is ends the loop.
 -- Assumes nothing.
 use Prim.Native.Nat.{_-_, _≤_}
 use mathlib.Core.Bool.{false}

@@ -39,7 +39,9 @@ loop-again c =
     let a = c .before .before .before .before .before .before .before .before .args in
     let w = a .width in (
       omega arith,
-      c .before .before .halve-row .ensures ∙ rowByRow-more (halfPel (a .p .now) w) (w / 2) (c .before .before .before .before .before .loop .r) (a .out .now) (c .before .before .before .before .before .loop .inv .1),
+      c .before .before .halve-row .ensures
+          ∙ rowByRow-more (halfPel (a .p .now) w) (w / 2) (c .before .before .before .before .before .loop .r)
+          (a .out .now) (c .before .before .before .before .before .loop .inv .1),
       c .before .before .halve-row .kept .1 .1 .1 .0 ∙ c .before .before .before .before .before .loop .inv .2,
     )
 

@@ -26,7 +26,9 @@ loop-again : tie.Need-loop-again Inv-loop μ-loop
 loop-again c =
     let a = c .before .before .before .before .before .before .before .before .before .before .args in (
       omega arith,
-      listing-more (halfOfRows (a .top .now) (a .bottom .now)) (a .out .now) (c .before .before .before .before .before .before .loop .c) (omega arith) (c .before .before .before .before .before .before .loop .inv .1) (c .half-pel .ensures),
+      listing-more (halfOfRows (a .top .now) (a .bottom .now)) (a .out .now)
+          (c .before .before .before .before .before .before .loop .c) (omega arith)
+          (c .before .before .before .before .before .before .loop .inv .1) (c .half-pel .ensures),
       simp length-set (c .before .before .before .before .before .before .loop .inv .2),
     )
 
@@ -36,4 +38,8 @@ returns c =
     listing-all (halfOfRows (a .top .now) (a .bottom .now)) (a .out .now) {i = c .before .loop .c} (omega arith) refl (c .before .loop .inv .1)
 
 pub half-row-spec : {M : Type 1} → statement M
-half-row-spec = tie.close (tie.spec Inv-loop μ-loop loop-holds (search needs) (search needs) (search needs) (search needs) (search needs) (search needs) (search needs) (search needs) (search needs) (search needs) (search needs) (search needs) (search needs) (search needs) (search needs) loop-again (search needs) returns)
+half-row-spec =
+    tie.close
+    (tie.spec Inv-loop μ-loop loop-holds (search needs) (search needs) (search needs) (search needs) (search needs)
+    (search needs) (search needs) (search needs) (search needs) (search needs) (search needs) (search needs) (search needs)
+    (search needs) (search needs) loop-again (search needs) returns)

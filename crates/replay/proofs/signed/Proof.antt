@@ -1,4 +1,4 @@
--- `signed` meets its contract: from 2 ^ 31 on a word stands for itself less 2 ^ 32.
+-- `signed`: from 2 ^ 31 on a word stands for itself less 2 ^ 32.
 -- Assumes nothing.
 use Prim.Native.Nat.{ℕ, suc, _-_, _≤_, _<_}
 use mathlib.Core.Path.{_≡_, sym}

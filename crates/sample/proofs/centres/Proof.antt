@@ -1,4 +1,4 @@
--- `sample::centres` meets its contract: the table is filled up to each place in turn.
+-- `sample::centres`: each turn puts one centre into the table, and 64 turns fill it.
 -- Assumes nothing.
 use Prim.Native.Nat.{_-_, _≤_}
 use mathlib.Core.Path.{_≡_, refl}

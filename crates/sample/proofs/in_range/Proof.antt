@@ -1,4 +1,4 @@
--- `sample::in_range` meets its contract. Assumes nothing.
+-- `sample::in_range`: the two tests are those of the definition, v's first. Assumes nothing.
 use borrow.Author.Needs.{needs}
 use borrow.Author.Tests.{le-leb, lt-leb}
 use Rattle.sample.proofs.in_range.Statement.{statement}

@@ -1,4 +1,4 @@
--- `sample::pels_of` meets its contract: a stored motion below 512 and its eighths are small enough to keep their value as i32.
+-- `sample::pels_of`: a stored motion below 512 and its eighths are small enough to keep their value as i32.
 -- Assumes nothing.
 use borrow.Author.Needs.{needs}
 use mir.Syntax.{w32}

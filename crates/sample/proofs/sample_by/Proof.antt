@@ -1,4 +1,4 @@
--- `sample::sample_by` meets its contract: the centres are the table's.
+-- `sample::sample_by`: the table holds each row's and column's centre, so the numbers looked up are the definition's.
 -- Assumes nothing.
 use Prim.Native.Nat.{_<_}
 use borrow.Author.Needs.{needs}

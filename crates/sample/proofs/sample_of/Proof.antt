@@ -1,4 +1,4 @@
--- `sample::sample_of` meets its contract. Assumes nothing.
+-- `sample::sample_of`: each of the four numbers is the definition's, of the same field of the word. Assumes nothing.
 use borrow.Author.Needs.{needs}
 use Rattle.sample.proofs.sample_of.Statement.{statement}
 use Rattle.sample.proofs.sample_of.Tie as tie

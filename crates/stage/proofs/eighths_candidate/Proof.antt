@@ -47,7 +47,8 @@ returns-2 c =
     let cx = a .centre .x in
     let by : Offset = record { y = cy + a .k / 3 * a .step - a .step; x = cx + a .k % 3 * a .step - a .step } in
     ap (seen 223) (c .better .ensures)
-    ∙ consider-other (eighthsCost (a .input .now) (a .reference .now) (a .place)) 1 (a .step) 223 cy cx (a .k) (a .best) by (c .before .sad-subpel .result) (c .before .before .before .before .if1 .left)
+    ∙ consider-other (eighthsCost (a .input .now) (a .reference .now) (a .place)) 1 (a .step) 223 cy cx (a .k) (a .best)
+    by (c .before .sad-subpel .result) (c .before .before .before .before .if1 .left)
     (omega arith)
     (omega arith)
     (c .before .sad-subpel .ensures .same)

@@ -1,4 +1,4 @@
--- `subexp::climb` meets its contract. The invariant: what is left to read stands on the rung reached. Assumes nothing.
+-- `subexp::climb`: what is left to read stands on the rung reached. Assumes nothing.
 use Rattle.subexp.proofs.climb.Statement.{statement}
 use Rattle.subexp.proofs.climb.Tie as tie
 use Prim.Native.Nat.{_+_, _-_}

@@ -1,4 +1,4 @@
--- `subexp::code_of` meets its contract: by the middle of the range, from one end or the other; a code number is below S. Assumes nothing.
+-- `subexp::code_of`: the middle decides which end is counted from, and a code number is below S. Assumes nothing.
 use borrow.Author.Needs.{needs}
 use Rattle.subexp.proofs.code_of.Statement.{statement}
 use Rattle.subexp.proofs.code_of.Tie as tie

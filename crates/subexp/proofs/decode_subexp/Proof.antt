@@ -1,4 +1,4 @@
--- `subexp::decode_subexp` meets its contract: the climb says which arm the definition takes, and what is read on the rung is counted from its start. Assumes nothing.
+-- `subexp::decode_subexp`: the climb chooses the definition's arm, and what is read counts from the rung's start. Assumes nothing.
 use borrow.Author.Needs.{needs}
 use Rattle.subexp.proofs.decode_subexp.Statement.{statement}
 use Rattle.subexp.proofs.decode_subexp.Tie as tie

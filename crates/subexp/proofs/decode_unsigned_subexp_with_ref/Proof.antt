@@ -1,4 +1,4 @@
--- `subexp::decode_unsigned_subexp_with_ref` meets its contract: the number read is a code number below S, and its symbol is the definition's. Assumes nothing.
+-- `subexp::decode_unsigned_subexp_with_ref`: what is read is a code number below S, and so has a symbol. Assumes nothing.
 use borrow.Author.Needs.{needs}
 use Rattle.subexp.proofs.decode_unsigned_subexp_with_ref.Statement.{statement}
 use Rattle.subexp.proofs.decode_unsigned_subexp_with_ref.Tie as tie

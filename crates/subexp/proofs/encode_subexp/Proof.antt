@@ -1,4 +1,4 @@
--- `subexp::encode_subexp` meets its contract: the code is ones up to its rung and then the code on it, written one after the other. Assumes nothing.
+-- `subexp::encode_subexp`: ones up to the code's rung and the code on it are written one behind the other. Assumes nothing.
 use borrow.Author.Needs.{needs}
 use Rattle.subexp.proofs.encode_subexp.Statement.{statement}
 use Rattle.subexp.proofs.encode_subexp.Tie as tie

@@ -1,4 +1,4 @@
--- `subexp::encode_unsigned_subexp_with_ref` meets its contract: a symbol's bits are those of its code number. Assumes nothing.
+-- `subexp::encode_unsigned_subexp_with_ref`: a symbol's bits are those of its code number. Assumes nothing.
 use borrow.Author.Needs.{needs}
 use Rattle.subexp.proofs.encode_unsigned_subexp_with_ref.Statement.{statement}
 use Rattle.subexp.proofs.encode_unsigned_subexp_with_ref.Tie as tie

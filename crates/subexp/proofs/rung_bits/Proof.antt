@@ -1,4 +1,4 @@
--- `subexp::rung_bits` meets its contract: three bits, and from the second rung on one more for each. Assumes nothing.
+-- `subexp::rung_bits`: three bits, and from the second rung on one more for each. Assumes nothing.
 use borrow.Author.Needs.{needs}
 use Rattle.subexp.proofs.rung_bits.Statement.{statement}
 use Rattle.subexp.proofs.rung_bits.Tie as tie

@@ -1,4 +1,4 @@
--- `subexp::rung_code_length` meets its contract: on the last rung an ns code, on the others a zero and the rung's bits. Assumes nothing.
+-- `subexp::rung_code_length`: on the last rung an ns code, on the others a zero and the rung's bits. Assumes nothing.
 use borrow.Author.Needs.{needs}
 use Rattle.subexp.proofs.rung_code_length.Statement.{statement}
 use Rattle.subexp.proofs.rung_code_length.Tie as tie

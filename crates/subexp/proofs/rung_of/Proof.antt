@@ -1,4 +1,4 @@
--- `subexp::rung_of` meets its contract. The invariant: what is left of the code stands on the rung reached. Assumes nothing.
+-- `subexp::rung_of`: what is left of the code stands on the rung reached. Assumes nothing.
 use Rattle.subexp.proofs.rung_of.Statement.{statement}
 use Rattle.subexp.proofs.rung_of.Tie as tie
 use native.Mathlib.Omega.{arith}

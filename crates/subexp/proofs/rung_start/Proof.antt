@@ -1,4 +1,4 @@
--- `subexp::rung_start` meets its contract: behind the first rung, start and step are one. Assumes nothing.
+-- `subexp::rung_start`: behind the first rung, start and step are one. Assumes nothing.
 use borrow.Author.Needs.{needs}
 use Rattle.subexp.proofs.rung_start.Statement.{statement}
 use Rattle.subexp.proofs.rung_start.Tie as tie

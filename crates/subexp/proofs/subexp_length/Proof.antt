@@ -1,4 +1,4 @@
--- `subexp::subexp_length` meets its contract: as many ones as rungs passed, and the code on the rung. Assumes nothing.
+-- `subexp::subexp_length`: as many ones as rungs passed, and the code on the rung. Assumes nothing.
 use borrow.Author.Needs.{needs}
 use Rattle.subexp.proofs.subexp_length.Statement.{statement}
 use Rattle.subexp.proofs.subexp_length.Tie as tie

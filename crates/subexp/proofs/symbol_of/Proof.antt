@@ -1,4 +1,4 @@
--- `subexp::symbol_of` meets its contract: by the middle of the range, from one end or the other; what comes back is a symbol. Assumes nothing.
+-- `subexp::symbol_of`: the middle decides which end is counted from, and the result is a symbol. Assumes nothing.
 use borrow.Author.Needs.{needs}
 use Rattle.subexp.proofs.symbol_of.Statement.{statement}
 use Rattle.subexp.proofs.symbol_of.Tie as tie

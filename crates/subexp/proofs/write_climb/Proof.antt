@@ -1,4 +1,4 @@
--- `subexp::write_climb` meets its contract: i ones are the field 2 ^ i - 1 of i bits. Assumes nothing.
+-- `subexp::write_climb`: i ones are the field 2 ^ i - 1 of i bits. Assumes nothing.
 use borrow.Author.Needs.{needs}
 use Rattle.subexp.proofs.write_climb.Statement.{statement}
 use Rattle.subexp.proofs.write_climb.Tie as tie

@@ -1,4 +1,4 @@
--- `subexp::write_rung_code` meets its contract: on the last rung the ns code, on the others the zero and the field, which is the definition's choice. Assumes nothing.
+-- `subexp::write_rung_code`: the last rung takes the ns code, the others the zero and the field. Assumes nothing.
 use borrow.Author.Needs.{needs}
 use Rattle.subexp.proofs.write_rung_code.Statement.{statement}
 use Rattle.subexp.proofs.write_rung_code.Tie as tie

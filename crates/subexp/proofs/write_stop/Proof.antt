@@ -1,4 +1,4 @@
--- `subexp::write_stop` meets its contract: a bit and a field behind it are written as their concatenation. Assumes nothing.
+-- `subexp::write_stop`: a bit and a field behind it are written as their concatenation. Assumes nothing.
 use borrow.Author.Needs.{needs}
 use Rattle.subexp.proofs.write_stop.Statement.{statement}
 use Rattle.subexp.proofs.write_stop.Tie as tie

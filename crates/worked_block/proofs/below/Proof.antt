@@ -1,4 +1,4 @@
--- `worked_block::below` meets its contract. Assumes nothing.
+-- `worked_block::below`: 0 and a remainder are at most what was divided, and 0 is never divided by. Assumes nothing.
 use borrow.Author.Needs.{needs}
 use native.Mathlib.Nat.{mod-le}
 use Rattle.worked_block.proofs.below.Statement.{statement}

@@ -1,4 +1,4 @@
--- `worked_block::make_words` is safe and ends. Assumes nothing.
+-- `worked_block::make_words`: remainders keep the fields in range, and the counter rises to the slice's length. Assumes nothing.
 use borrow.Author.Needs.{needs}
 use Prim.Native.Nat.{_≤_, _-_}
 use mathlib.Core.Path.{_≡_, refl}

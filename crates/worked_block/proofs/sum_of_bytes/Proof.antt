@@ -1,4 +1,4 @@
--- `worked_block::sum_of_bytes` is safe and ends. Assumes nothing.
+-- `worked_block::sum_of_bytes`: each turn adds one byte, wrapping, and the counter rises to their number. Assumes nothing.
 use borrow.Author.Needs.{needs}
 use Prim.Native.Nat.{_≤_, _-_}
 use lib.ListN.{length}

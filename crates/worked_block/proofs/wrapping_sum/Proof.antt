@@ -1,4 +1,4 @@
--- `worked_block::wrapping_sum` is safe and ends. Assumes nothing.
+-- `worked_block::wrapping_sum`: each turn adds one word, wrapping, and the counter rises to their number. Assumes nothing.
 use borrow.Author.Needs.{needs}
 use Prim.Native.Nat.{_≤_, _-_}
 use lib.ListN.{length}

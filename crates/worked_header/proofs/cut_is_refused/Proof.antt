@@ -1,4 +1,4 @@
--- `cut_is_refused` meets its contract: each turn tries one length.
+-- `cut_is_refused`: each turn tries one length, and the lengths rise to `used`.
 -- Assumes nothing.
 use Prim.Native.Nat.{_≤_, _-_}
 use borrow.Author.Needs.{needs}

@@ -1,4 +1,4 @@
--- `holds` meets its contract: bit i is in byte i / 8 of 160.
+-- `holds`: bit i is in byte i / 8 of 160, and i rises to 1280.
 -- Assumes nothing.
 use Prim.Native.Nat.{_≤_, _-_}
 use borrow.Author.Needs.{needs}

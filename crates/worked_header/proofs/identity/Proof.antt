@@ -1,4 +1,4 @@
--- `identity` meets its contract: each turn fills one number.
+-- `identity`: each turn fills one of the 42 numbers, and the counter rises to 42.
 -- Assumes nothing.
 use Prim.Native.Nat.{_≤_, _-_}
 use borrow.Author.Needs.{needs}

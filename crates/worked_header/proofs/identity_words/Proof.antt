@@ -1,4 +1,4 @@
--- `identity_words` meets its contract: each turn fills one word.
+-- `identity_words`: each turn fills one of the 43 words, and the counter rises to 43.
 -- Assumes nothing.
 use Prim.Native.Nat.{_≤_, _-_}
 use borrow.Author.Needs.{needs}

@@ -1,4 +1,4 @@
--- `numbers_of` meets its contract: the array keeps its length.
+-- `numbers_of`: each store keeps the array's 43 places, and the counter rises to 43.
 -- Assumes nothing.
 use Prim.Native.Nat.{_≤_, _-_}
 use mathlib.Core.Path.{_≡_}

@@ -1,4 +1,4 @@
--- `worked_job::bytes_hold` is safe and ends. Assumes nothing.
+-- `worked_job::bytes_hold`: each turn compares one byte, and the counter rises to the number of bytes. Assumes nothing.
 use Prim.Native.Nat.{_≤_, _-_}
 use lib.ListN.{length}
 use borrow.Author.Needs.{needs}

@@ -1,4 +1,4 @@
--- `worked_job::bytes_untouched` is safe and ends. Assumes nothing.
+-- `worked_job::bytes_untouched`: each turn tests one byte, and the counter rises to their number. Assumes nothing.
 use Prim.Native.Nat.{_≤_, _-_}
 use lib.ListN.{length}
 use borrow.Author.Needs.{needs}

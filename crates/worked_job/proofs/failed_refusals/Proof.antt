@@ -1,4 +1,4 @@
--- `worked_job::failed_refusals` is safe and ends. Assumes nothing.
+-- `worked_job::failed_refusals`: each turn adds at most 18, so nothing wraps, and `first` rises to 18. Assumes nothing.
 use Prim.Native.Nat.{_≤_, _-_, _*_}
 use borrow.Author.Needs.{needs}
 use Rattle.worked_job.proofs.failed_refusals.Statement.{statement}

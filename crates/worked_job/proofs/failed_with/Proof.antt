@@ -1,4 +1,4 @@
--- `worked_job::failed_with` is safe and ends. Assumes nothing.
+-- `worked_job::failed_with`: each turn adds at most 1, so the sum is at most `second`, which rises to 18. Assumes nothing.
 use Prim.Native.Nat.{_≤_, _-_}
 use borrow.Author.Needs.{needs}
 use Rattle.worked_job.proofs.failed_with.Statement.{statement}

@@ -1,4 +1,4 @@
--- `worked_job::failures` is safe and ends. Assumes nothing.
+-- `worked_job::failures`: a case adds at most one failure, so the sum is at most the counter, which rises. Assumes nothing.
 use Prim.Native.Nat.{_≤_, _-_}
 use borrow.Author.Needs.{needs}
 use Rattle.worked_job.proofs.failures.Statement.{statement}

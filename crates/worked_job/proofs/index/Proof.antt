@@ -1,4 +1,4 @@
--- `worked_job::index` is safe and ends. Assumes nothing.
+-- `worked_job::index`: a product of two numbers below 65536, and one more added, fits a usize. Assumes nothing.
 use Prim.Native.Nat.{_≤_, _-_}
 use native.Mathlib.Omega.{arith}
 use native.Mathlib.Nat.{mul-le-mul}

@@ -1,4 +1,4 @@
--- `worked_job::map_plane` is safe and ends. Assumes nothing.
+-- `worked_job::map_plane`: a width of 0 is not divided by, and the counter rises to the plane's length. Assumes nothing.
 use Prim.Native.Nat.{_≤_, _-_}
 use mathlib.Core.Path.{_≡_, refl}
 use native.Mathlib.Omega.{arith}

@@ -1,4 +1,4 @@
--- `worked_job::next_numbers` is safe and ends. Assumes nothing.
+-- `worked_job::next_numbers`: each turn stores one number, and the counter rises to the slice's length. Assumes nothing.
 use Prim.Native.Nat.{_≤_, _-_}
 use mathlib.Core.Path.{_≡_, refl}
 use native.Mathlib.Omega.{arith}

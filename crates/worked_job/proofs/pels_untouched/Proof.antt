@@ -1,4 +1,4 @@
--- `worked_job::pels_untouched` is safe and ends. Assumes nothing.
+-- `worked_job::pels_untouched`: the counter starts at most at the number of pels, and rises to it. Assumes nothing.
 use Prim.Native.Nat.{_≤_, _-_}
 use lib.ListN.{length}
 use borrow.Author.Needs.{needs}

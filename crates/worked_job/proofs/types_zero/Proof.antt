@@ -1,4 +1,4 @@
--- `worked_job::types_zero` is safe and ends. Assumes nothing.
+-- `worked_job::types_zero`: each turn tests one type of the 7, and the counter rises to 7. Assumes nothing.
 use Prim.Native.Nat.{_≤_, _-_}
 use borrow.Author.Needs.{needs}
 use Rattle.worked_job.proofs.types_zero.Statement.{statement}

@@ -1,4 +1,4 @@
--- `worked_job::words_untouched` is safe and ends. Assumes nothing.
+-- `worked_job::words_untouched`: the counter starts at most at the number of words, and rises to it. Assumes nothing.
 use Prim.Native.Nat.{_≤_, _-_}
 use lib.ListN.{length}
 use borrow.Author.Needs.{needs}

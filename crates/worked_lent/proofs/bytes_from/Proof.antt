@@ -1,4 +1,4 @@
--- `worked_lent::bytes_from` meets its contract: each turn fills one byte.
+-- `worked_lent::bytes_from`: each turn fills one of the 24 bytes, and the counter rises to 24.
 -- Assumes nothing.
 use Prim.Native.Nat.{_≤_, _-_}
 use borrow.Author.Needs.{needs}

@@ -1,4 +1,4 @@
--- `worked_lent::failed_scores` meets its contract: at most one failure a case.
+-- `worked_lent::failed_scores`: a case adds at most one failure, so the sum is at most the counter, which rises to `count`.
 -- Assumes nothing.
 use Prim.Native.Nat.{_≤_, _-_}
 use borrow.Author.Needs.{needs}

@@ -1,4 +1,4 @@
--- `worked_lent::numbers_agree` meets its contract: each turn compares one number.
+-- `worked_lent::numbers_agree`: each turn compares one number of the 42, and the counter rises to 42.
 -- Assumes nothing.
 use Prim.Native.Nat.{_≤_, _-_}
 use borrow.Author.Needs.{needs}

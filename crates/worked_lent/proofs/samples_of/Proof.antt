@@ -1,4 +1,4 @@
--- `worked_lent::samples_of` meets its contract: each turn fills one element.
+-- `worked_lent::samples_of`: each turn fills one of the 64 samples, and the counter rises to 64.
 -- Assumes nothing.
 use Prim.Native.Nat.{_≤_, _-_}
 use borrow.Author.Needs.{needs}

@@ -1,4 +1,4 @@
--- `worked_lent::scores_agree` meets its contract: the words lent are the first n.
+-- `worked_lent::scores_agree`: n is at most 64, so the first n words can be lent.
 -- Assumes nothing.
 use native.Mathlib.Omega.{arith}
 use lib.ListN.{length-take}

@@ -1,4 +1,4 @@
--- `worked_lent::types_agree` meets its contract: each turn compares one type.
+-- `worked_lent::types_agree`: each turn compares one type of the 7, and the counter rises to 7.
 -- Assumes nothing.
 use Prim.Native.Nat.{_≤_, _-_}
 use borrow.Author.Needs.{needs}

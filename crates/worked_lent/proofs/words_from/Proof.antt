@@ -1,4 +1,4 @@
--- `worked_lent::words_from` meets its contract: each turn fills one word.
+-- `worked_lent::words_from`: each turn fills one of the 64 words, and the counter rises to 64.
 -- Assumes nothing.
 use Prim.Native.Nat.{_≤_, _-_}
 use borrow.Author.Needs.{needs}

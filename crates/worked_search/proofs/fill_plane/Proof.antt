@@ -1,4 +1,4 @@
--- `worked_search::fill_plane` is safe and ends. Assumes nothing.
+-- `worked_search::fill_plane`: a width of 0 is not divided by, and the counter rises to the plane's length. Assumes nothing.
 use borrow.Author.Needs.{needs}
 use Prim.Native.Nat.{_≤_, _-_}
 use mathlib.Core.Path.{_≡_, refl}

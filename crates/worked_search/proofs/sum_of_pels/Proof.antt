@@ -1,4 +1,4 @@
--- `worked_search::sum_of_pels` is safe and ends. Assumes nothing.
+-- `worked_search::sum_of_pels`: each turn adds one pel, wrapping, and the counter rises to their number. Assumes nothing.
 use borrow.Author.Needs.{needs}
 use Prim.Native.Nat.{_≤_, _-_}
 use lib.ListN.{length}

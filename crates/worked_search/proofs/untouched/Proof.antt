@@ -1,4 +1,4 @@
--- `worked_search::untouched` is safe and ends. Assumes nothing.
+-- `worked_search::untouched`: each turn tests one pel, and the counter rises to the number of pels. Assumes nothing.
 use borrow.Author.Needs.{needs}
 use Prim.Native.Nat.{_≤_, _-_}
 use lib.ListN.{length}

@@ -1,4 +1,4 @@
--- `worked_search::words_hold` is safe and ends. Assumes nothing.
+-- `worked_search::words_hold`: each turn compares one word, and the counter rises to their number. Assumes nothing.
 use borrow.Author.Needs.{needs}
 use Prim.Native.Nat.{_≤_, _-_}
 use lib.ListN.{length}

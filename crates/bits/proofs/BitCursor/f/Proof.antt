@@ -1,4 +1,4 @@
--- `bits::BitCursor::f` meets its contract. The invariant: what was read, in front of what is left to read, is the field. Assumes nothing.
+-- `bits::BitCursor::f`: what was read, in front of what is left to read, is the field. Assumes nothing.
 use borrow.Author.Needs.{needs}
 use Rattle.bits.proofs.BitCursor.f.Statement.{statement}
 use Rattle.bits.proofs.BitCursor.f.Tie as tie

@@ -1,4 +1,4 @@
--- `bits::BitCursor::ns` meets its contract: by the test on what was read first, the code took the shorter or the longer arm of the definition. Assumes nothing.
+-- `bits::BitCursor::ns`: the test on what was read first chooses the definition's arm. Assumes nothing.
 use borrow.Author.Needs.{needs}
 use Rattle.bits.proofs.BitCursor.ns.Statement.{statement}
 use Rattle.bits.proofs.BitCursor.ns.Tie as tie

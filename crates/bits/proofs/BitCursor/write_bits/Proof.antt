@@ -1,4 +1,4 @@
--- `bits::BitCursor::write_bits` meets its contract. The invariant: what is left to put here gives what was to be put at the start. Assumes nothing.
+-- `bits::BitCursor::write_bits`: what is left to put here gives what was to be put at the start. Assumes nothing.
 use borrow.Author.Needs.{needs}
 use Rattle.bits.proofs.BitCursor.write_bits.Statement.{statement}
 use Rattle.bits.proofs.BitCursor.write_bits.Tie as tie

@@ -1,4 +1,4 @@
--- `bits::BitCursor::write_ns` meets its contract: the field written is the arm of the definition that v falls into. Assumes nothing.
+-- `bits::BitCursor::write_ns`: the field written is the arm of the definition that v falls into. Assumes nothing.
 use borrow.Author.Needs.{needs}
 use Rattle.bits.proofs.BitCursor.write_ns.Statement.{statement}
 use Rattle.bits.proofs.BitCursor.write_ns.Tie as tie

@@ -1,4 +1,4 @@
--- `cost::eighths::blend` meets its contract.
+-- `cost::eighths::blend`: two sums across and one down are the definition's, and the rounded 64th of them fits a pel.
 -- Assumes nothing.
 use native.Mathlib.Omega.{arith}
 use borrow.Author.Needs.{needs}
@@ -8,13 +8,33 @@ use Rattle.cost.proofs.eighths.blend.Statement.{statement}
 use Rattle.cost.proofs.eighths.blend.Tie as tie
 
 weighted-requires-3 : tie.Need-weighted-requires-3
-weighted-requires-3 c κs = omega (arith, weighted-le 65535 (c .before .before .args .p00) (c .before .before .args .p01) (c .before .before .args .fx) (omega arith) (omega arith) (omega arith), weighted-le 65535 (c .before .before .args .p10) (c .before .before .args .p11) (c .before .before .args .fx) (omega arith) (omega arith) (omega arith))
+weighted-requires-3 c κs =
+    let a = c .before .before .args in
+    omega (
+      arith,
+      weighted-le 65535 (a .p00) (a .p01) (a .fx) (omega arith) (omega arith) (omega arith),
+      weighted-le 65535 (a .p10) (a .p11) (a .fx) (omega arith) (omega arith) (omega arith),
+    )
 
 add-result : tie.Need-add-result
-add-result c = omega (arith, weighted-le 524280 (c .before .before .weighted .result) (c .before .weighted2 .result) (c .before .before .before .args .fy) (omega arith) (omega (arith, weighted-le 65535 (c .before .before .before .args .p00) (c .before .before .before .args .p01) (c .before .before .before .args .fx) (omega arith) (omega arith) (omega arith))) (omega (arith, weighted-le 65535 (c .before .before .before .args .p10) (c .before .before .before .args .p11) (c .before .before .before .args .fx) (omega arith) (omega arith) (omega arith))))
+add-result c =
+    let a = c .before .before .before .args in
+    omega (
+      arith,
+      weighted-le 524280 (c .before .before .weighted .result) (c .before .weighted2 .result) (a .fy) (omega arith)
+          (omega (arith, weighted-le 65535 (a .p00) (a .p01) (a .fx) (omega arith) (omega arith) (omega arith)))
+          (omega (arith, weighted-le 65535 (a .p10) (a .p11) (a .fx) (omega arith) (omega arith) (omega arith))),
+    )
 
 cast-result : tie.Need-cast-result
-cast-result c = omega (arith, weighted-le 524280 (c .before .before .weighted .result) (c .before .weighted2 .result) (c .before .before .before .args .fy) (omega arith) (omega (arith, weighted-le 65535 (c .before .before .before .args .p00) (c .before .before .before .args .p01) (c .before .before .before .args .fx) (omega arith) (omega arith) (omega arith))) (omega (arith, weighted-le 65535 (c .before .before .before .args .p10) (c .before .before .before .args .p11) (c .before .before .before .args .fx) (omega arith) (omega arith) (omega arith))))
+cast-result c =
+    let a = c .before .before .before .args in
+    omega (
+      arith,
+      weighted-le 524280 (c .before .before .weighted .result) (c .before .weighted2 .result) (a .fy) (omega arith)
+          (omega (arith, weighted-le 65535 (a .p00) (a .p01) (a .fx) (omega arith) (omega arith) (omega arith)))
+          (omega (arith, weighted-le 65535 (a .p10) (a .p11) (a .fx) (omega arith) (omega arith) (omega arith))),
+    )
 
 returns : tie.Need-returns
 unfolding bilinear

@@ -22,7 +22,13 @@ loop-holds : tie.Need-loop-holds Inv-loop μ-loop
 loop-holds c = none _ _ _
 
 loop-again : tie.Need-loop-again Inv-loop μ-loop
-loop-again c = more (c .before .before .before .before .before .before .before .before .loop .inv) (omega arith) (c .absolute-difference .ensures .same ∙ ap (difference (getD (c .before .before .before .before .before .before .before .before .before .before .before .before .args .input .now) (c .before .before .before .before .before .before .before .before .loop .j) 0)) (c .before .blend .ensures)) (c .absolute-difference .ensures .small)
+loop-again c =
+    let turn = c .before .before .before .before .before .before .before .before in
+    let a = turn .before .before .before .before .args in
+    more (turn .loop .inv) (omega arith)
+    (c .absolute-difference .ensures .same
+    ∙ ap (difference (getD (a .input .now) (turn .loop .j) 0)) (c .before .blend .ensures))
+    (c .absolute-difference .ensures .small)
 
 returns : tie.Need-returns Inv-loop μ-loop
 unfolding bilinearDifference
@@ -30,4 +36,7 @@ returns c = all _ (c .before .loop .inv) (omega arith) (omega arith)
 
 pub row-of-16-spec : {M : Type 1} → statement M
 row-of-16-spec =
-    tie.close (tie.spec Inv-loop μ-loop loop-holds (search needs) (search needs) (search needs) (search needs) (search needs) (search needs) (search needs) (search needs) (search needs) (search needs) (search needs) (search needs) (search needs) (search needs) (search needs) (search needs) (search needs) loop-again returns)
+    tie.close
+    (tie.spec Inv-loop μ-loop loop-holds (search needs) (search needs) (search needs) (search needs) (search needs)
+    (search needs) (search needs) (search needs) (search needs) (search needs) (search needs) (search needs) (search needs)
+    (search needs) (search needs) (search needs) (search needs) loop-again returns)

@@ -1,4 +1,4 @@
--- `cost::eighths::weighted` meets its contract.
+-- `cost::eighths::weighted`: the two weights sum to 8, so the sum is at most 8 times the larger and fits.
 -- Assumes nothing.
 use native.Mathlib.Omega.{arith}
 use borrow.Author.Needs.{needs}

@@ -27,7 +27,9 @@ loop-again : tie.Need-loop-again Inv-loop μ-loop
 loop-again c =
     let a = c .before .before .before .before .before .before .before .before .before .args in
     more (c .before .before .before .before .before .loop .inv) (omega arith)
-    (c .absolute-difference .ensures .same ∙ pel-differs (a .input .now) (a .place) (a .n) (c .before .before .before .before .before .loop .j) (c .before .before .before .before .before .before .row-start .ensures) (c .before .displaced .ensures))
+    (c .absolute-difference .ensures .same
+    ∙ pel-differs (a .input .now) (a .place) (a .n) (c .before .before .before .before .before .loop .j)
+    (c .before .before .before .before .before .before .row-start .ensures) (c .before .displaced .ensures))
     (c .absolute-difference .ensures .small)
 
 returns : tie.Need-returns Inv-loop μ-loop
@@ -35,4 +37,7 @@ unfolding rowCost
 returns c = all _ (c .before .loop .inv) (omega arith) (omega arith)
 
 pub clamped-row-spec : {M : Type 1} → statement M
-clamped-row-spec = tie.close (tie.spec Inv-loop μ-loop (search needs) loop-holds (search needs) (search needs) (search needs) (search needs) (search needs) (search needs) (search needs) (search needs) (search needs) loop-again returns)
+clamped-row-spec =
+    tie.close
+    (tie.spec Inv-loop μ-loop (search needs) loop-holds (search needs) (search needs) (search needs) (search needs)
+    (search needs) (search needs) (search needs) (search needs) (search needs) loop-again returns)

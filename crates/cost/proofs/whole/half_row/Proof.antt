@@ -12,9 +12,15 @@ returns c =
     record {
       same =
           c .row-of-8 .ensures .same
-          ∙ row-inside (a .input .now) (a .reference .now) (a .place) (a .by) 12 8 (c .before .before .before .before .row-start .ensures) (c .before .before .before .displaced-start .ensures) (c .before .before .before .before .before .before .before .pre .1 .1);
+          ∙ row-inside (a .input .now) (a .reference .now) (a .place) (a .by) 12 8
+          (c .before .before .before .before .row-start .ensures)
+          (c .before .before .before .displaced-start .ensures)
+          (c .before .before .before .before .before .before .before .pre .1 .1);
       small = c .row-of-8 .ensures .small;
     }
 
 pub half-row-spec : {M : Type 1} → statement M
-half-row-spec = tie.close (tie.spec (search needs) (search needs) (search needs) (search needs) (search needs) (search needs) (search needs) (search needs) (search needs) (search needs) (search needs) (search needs) (search needs) returns)
+half-row-spec =
+    tie.close
+    (tie.spec (search needs) (search needs) (search needs) (search needs) (search needs) (search needs) (search needs)
+    (search needs) (search needs) (search needs) (search needs) (search needs) (search needs) returns)

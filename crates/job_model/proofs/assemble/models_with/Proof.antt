@@ -1,4 +1,4 @@
--- `models_with` meets its contract: the array is filled from the front.
+-- `models_with`: each turn fills the next of the 42 places with the definition's number.
 -- Assumes nothing.
 use Prim.Native.Nat.{ℕ, _+_, _*_, _-_, _≤_}
 use mathlib.Core.List.{List}

@@ -1,4 +1,4 @@
--- `number_at` meets its contract: before the place, at it, after it.
+-- `number_at`: an index lies before the numbers put in, among them or behind them.
 -- Assumes nothing.
 use Prim.Native.Nat.{ℕ, _-_}
 use mathlib.Core.Path.{_≡_, sym, ap, _∙_}

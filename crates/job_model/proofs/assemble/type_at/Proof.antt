@@ -1,4 +1,4 @@
--- `type_at` meets its contract: before the place, at it, after it.
+-- `type_at`: an index lies before the type put in, at it or behind it.
 -- Assumes nothing.
 use Prim.Native.Nat.{ℕ, _-_}
 use mathlib.Core.List.{[], _∷_}

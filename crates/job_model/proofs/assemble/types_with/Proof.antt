@@ -1,4 +1,4 @@
--- `types_with` meets its contract: the array is filled from the front.
+-- `types_with`: each turn fills the next of the 7 places with the definition's type.
 -- Assumes nothing.
 use Prim.Native.Nat.{ℕ, _+_, _-_, _≤_}
 use mathlib.Core.List.{List, [], _∷_}
