@@ -178,7 +178,7 @@ fn prior(lcg: &mut Lcg) -> Models {
     })
 }
 
-/// The words of a frame's blocks, written out from document 01.
+/// The words of a frame's blocks, written out from docs/RULES.md.
 fn blocks(frame: u16, words: &[u32]) -> Vec<u32> {
     let mut out = Vec::new();
     for (ordinal, chunk) in words.chunks(BLOCK_SAMPLES).enumerate() {
