@@ -3,7 +3,7 @@
 use std::fmt;
 use std::hint::black_box;
 
-use belt::{Buffers, Fitted, Frame, Lent, Refusal};
+use belt::{Buffers, Fitted, Frame, Lent, Model, Refusal};
 use oracle::Samples;
 
 use crate::frames;
@@ -88,6 +88,10 @@ impl Case {
             Fit(_, 4096) | Score(4096) => Some(SUMS),
             _ => None,
         }
+    }
+
+    pub fn is_a_job(&self) -> bool {
+        matches!(self, WholeJob(..))
     }
 
     /// Both sides, after their answers were compared.
@@ -197,12 +201,12 @@ fn fit(kind: u8, n: usize) -> Sides {
 
 fn score(n: usize) -> Sides {
     let words = oracle::blocks::words(n as u32, n);
-    let ours = belt::mean_sq_residual(&PARAMS, &words).expect("not too many words");
+    let ours = belt::mean_sq_residual(&Model(PARAMS), &words).expect("not too many words");
     assert!(same(ours, Samples::of_words(&words).score(&PARAMS)));
     on_words(
         words,
         |words| {
-            black_box(belt::mean_sq_residual(black_box(&PARAMS), words).ok());
+            black_box(belt::mean_sq_residual(black_box(&Model(PARAMS)), words).ok());
         },
         |samples| {
             black_box(samples.score(black_box(&PARAMS)));
@@ -214,7 +218,7 @@ fn quantize_model(kind: u8, n: usize) -> Sides {
     let words = oracle::blocks::words(n as u32, n);
     let (fitted, model) = fits(kind, &words);
     let rust = Samples::of_words(&words).quantize_model(&model, kind, true);
-    assert_eq!(belt::quantize_model(&fitted, HIGH_PRECISION, &words), Ok(rust));
+    assert_eq!(belt::quantize_model(&fitted, HIGH_PRECISION, &words), Ok(Model(rust)));
     on_words(
         words,
         move |words| {
@@ -291,7 +295,7 @@ fn read_header(kind: u8, distance: Distance) -> Sides {
     let (bytes, bits) = header.rust_write();
     let ours = header.read(&bytes).expect("a whole header");
     assert_eq!(header.rust_read(&bytes), Some((header.types, header.models, bits)));
-    assert_eq!((ours.types, &ours.params[..], ours.bits), (header.types, header.models.as_flattened(), bits));
+    assert_eq!((ours.types, ours.models.map(|model| model.0), ours.bits), (header.types, header.models, bits));
 
     let rust_bytes = bytes.clone();
     Sides {

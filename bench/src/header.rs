@@ -1,6 +1,6 @@
 //! Headers from fixed seeds, written and read by both sides.
 
-use belt::Refusal;
+use belt::{Refusal, StoredModel};
 use oracle::Models;
 use oracle::list::Lcg;
 
@@ -58,8 +58,8 @@ impl Header {
     }
 
     pub fn write(&self, room: &mut [u8]) -> Result<usize, Refusal> {
-        let (models, prior) = (self.models.as_flattened(), self.prior.as_flattened());
-        belt::encode_inter_global_motion(&self.types, models, HIGH_PRECISION, prior, room)
+        let (models, prior) = (self.models.map(StoredModel), self.prior.map(StoredModel));
+        belt::encode_inter_global_motion(&self.types, &models, HIGH_PRECISION, &prior, room)
     }
 
     pub fn rust_write(&self) -> (Vec<u8>, usize) {
@@ -67,7 +67,7 @@ impl Header {
     }
 
     pub fn read(&self, bytes: &[u8]) -> Result<belt::Models, Refusal> {
-        belt::read_global_motion_params(bytes, 0, HIGH_PRECISION, self.prior.as_flattened())
+        belt::read_global_motion_params(bytes, 0, HIGH_PRECISION, &self.prior.map(StoredModel))
     }
 
     pub fn rust_read(&self, bytes: &[u8]) -> Option<([u8; 7], Models, usize)> {

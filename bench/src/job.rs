@@ -1,11 +1,11 @@
 //! A whole job: by the proved library, and composed of the Rust's parts with the blocks of `frames`.
 
-use belt::{Buffers, Refusal, Report, Settings, Task};
+use belt::{Buffers, Model, Refusal, Report, Settings, StoredModel, Task};
 use oracle::Samples;
 
 use crate::frames;
 use crate::header::{Distance, Header};
-use crate::inputs::{self, AFFINE, FRAME, HIGH_PRECISION, Scene, TRANSLATION};
+use crate::inputs::{self, AFFINE, FRAME, HIGH_PRECISION, Scene};
 
 /// The reference that the fitted model is for: the first of seven.
 const REFERENCE: u8 = 1;
@@ -45,8 +45,8 @@ impl Job {
             settings: self.settings,
             classes: &self.classes,
             types: &self.header.types[1..],
-            models: self.header.models[1..].as_flattened(),
-            prior: self.header.prior.as_flattened(),
+            models: &self.header.models.map(StoredModel)[1..],
+            prior: &self.header.prior.map(StoredModel),
         };
         belt::job(&task, &mut lent.lend())
     }
@@ -64,11 +64,11 @@ impl Job {
 
         let mut header = self.header;
         header.types[0] = gm_type;
-        header.models[0] = stored(gm_type, model);
+        header.models[0] = Model(model).row_first(gm_type).0;
         let (bytes, bits) = header.rust_write();
         left.header[..bytes.len()].copy_from_slice(&bytes);
         frames::write(frame, &left.words, &mut left.blocks).ok()?;
-        let models = std::array::from_fn(|i| header.models[i / 6][i % 6]);
+        let models = header.models.map(StoredModel);
         Some(Report { types: header.types, models, score, bits, samples: found.len() })
     }
 
@@ -77,12 +77,4 @@ impl Job {
         left.input_half = oracle::half_plane(&self.input, self.width, self.height);
         left.ref_half = oracle::half_plane(&self.reference, self.width, self.height);
     }
-}
-
-/// A model as the header stores it: a translation has the row first.
-fn stored(kind: u8, mut model: [i32; 6]) -> [i32; 6] {
-    if kind == TRANSLATION {
-        model.swap(0, 1);
-    }
-    model
 }

@@ -11,6 +11,7 @@ mod inputs;
 mod job;
 mod timing;
 
+use std::time::Instant;
 use std::{env, fs};
 
 use belt::Refusal;
@@ -48,11 +49,15 @@ fn repeat(case: &str, side: &str, times: &str) {
 
 fn measure(file: &str) {
     compare_the_rest();
+    let cases = cases::all();
+    let (count, begun) = (cases.len(), Instant::now());
+    let mut absolute = String::new();
     let mut table = String::from(
         "| call | input | ours / Rust | at most | ours / Rust, samples ready made |\n|---|---|---|---|---|\n",
     );
     print!("{table}");
-    for case in cases::all() {
+    for (number, case) in cases.into_iter().enumerate() {
+        eprintln!("bench: case {} of {count}, {} s so far", number + 1, begun.elapsed().as_secs());
         let sides = case.sides();
         let mut works = vec![sides.ours, sides.rust];
         works.extend(sides.ready);
@@ -62,8 +67,13 @@ fn measure(file: &str) {
         let line = format!("| {case} | {:.2} | {most} | {ready} |\n", best[0] / best[1]);
         print!("{line}");
         table += &line;
+        if case.is_a_job() {
+            absolute += &format!("| {case} | {:.2} | {:.2} |\n", 1000.0 * best[0], 1000.0 * best[1]);
+        }
     }
-    let page = format!("{}\n{table}", head());
+    let times = "## Times of a job\n\nIn milliseconds, on the machine above, one thread.\n\n\
+                 | call | input | ours | Rust |\n|---|---|---|---|\n";
+    let page = format!("{}\n{table}\n{times}{absolute}", head());
     fs::write(file, page).expect("the page's folder is there");
 }
 
@@ -104,8 +114,8 @@ fn head() -> String {
          'At most' is the ratio that is wanted; calls without one are only reported.\n\n\
          Searches, fits, scores, quantizations and headers are measured against the Rust that is ported. \
          Fits, scores and quantizations take sample words. The Rust has no such form: in the first ratio it makes its list of samples of the \
-         same words, in the last column it has that list ready made and ours still reads words. \
-         Blocks are measured against a plain Rust writing of document 01 over lent buffers (`bench/src/frames.rs`).\n\n\
+         same words; in the last column, 'samples ready made', it has that list ready made and ours still reads words. \
+         Blocks are measured against a plain Rust writing of docs/RULES.md over lent buffers (`bench/src/frames.rs`).\n\n\
          A header has seven models of one type at high precision. A near prior is up to three steps of the grid from the models and gives short codes, \
          a far one is at the other end of the range and gives long codes; seven identities have no codes, and ours only judges their prior. \
          Ours judges models, prior and room before it writes, and the Rust doesn't. \

@@ -1,50 +1,136 @@
-/* The proved library's calls (crates/belt), for C and C++ on x86-64.
+/* The proved library's calls (crates/belt), for C and C++ on x86-64 Linux. docs/RULES.md has the rules: what a
+   plane, a sample word, a block, a model and a header are, bit by bit; names in quotes are its sections.
+   belt_motion.h beside this file reads words and models in pels.
 
    A list is a pointer and a count of elements; no pointer is NULL, and each is aligned for its elements.
    Where the count is 0 the pointer is not read. Lent buffers (pointers that aren't const) overlap nothing
-   else that is passed. The library allocates nothing and keeps nothing between calls.
+   else that is passed. A count that names more than there is can't be seen here, and is the caller's to get right.
 
-   A result's first field is the refusal: 0, or the number of the row that refuses, and then all fields
-   after it are 0. A refused call leaves its lent buffers as they were; belt_job has one exception.
-   An accepted call writes only the part of a buffer that it uses.
+   The library allocates nothing, keeps nothing between calls and has no state of its own: any number of threads
+   may call it at once, each with its own buffers. It expects the floating-point environment that a process begins
+   with: rounding to nearest, traps off, subnormal numbers kept. It needs memcpy, memset and no other function.
 
-   No.  Condition
-    1   side over 1,024, or over 4,096 samples
-    2   plane, class, type, model or prior list of wrong length
-    4   type, class or flag code out of range; type 0 for a fit
-    5   slot over 5, reference outside 1 to 7
-    7   model off the grid, uncarried slot or pair wrong
-    8   prior out of range
-   12   words to store out of range or not rising
-    3   output or working buffer too short
-    6   elimination refuses
-    9   bytes end before the last bit or block
-   10   block check wrong
-   11   block field, filler or sequence wrong
-
-   Rows are judged in this order, over the whole input; blocks go one by one, 9, 10, 11 for each, and a call
-   that reads a frame judges 3 last.
-
-   Types: 0 identity, 1 translation, 2 rotation-zoom, 3 affine. Classes: 0 unsorted, 1 fibre, 2 rigid
-   plastic, 3 metal. A flag is 1 for high precision, else 0. A model is six numbers at 16 fraction bits;
-   the identity is 0, 0, 65536, 0, 0, 65536. 'x first' is the order of the fits; 'as stored' has the row
-   first in slots 0 and 1 of a translation, and is the same otherwise. */
+   A result's first field is the refusal: BELT_ACCEPTED, or the number of the row that refuses ('When a call
+   says no'), and then all fields after it are 0. A refused call leaves its lent buffers as they were; belt_job
+   has one exception. An accepted call writes only the part of a buffer that it uses. Rows are judged in the
+   order of enum belt_refusal, over the whole input; blocks go one by one, and a call that reads a frame judges
+   BELT_TOO_SHORT last. 'Refuses' at a call lists its rows in that order. */
 #ifndef BELT_H
 #define BELT_H
 
 #include <stddef.h>
 #include <stdint.h>
 
+#define BELT_VERSION_MAJOR 0
+#define BELT_VERSION_MINOR 1
+#define BELT_VERSION_PATCH 0
+#define BELT_VERSION "0.1.0"
+
+/* Sizes. */
+#define BELT_MOST_SIDE 1024       /* the longest side of a plane, in pels */
+#define BELT_BLOCK_SIDE 16        /* the side of the blocks that a plane is searched in */
+#define BELT_MOST_SAMPLES 4096    /* the most samples of a frame or a list */
+#define BELT_MOST_EIGHTHS 223     /* no motion passes it either way: 27.875 pels */
+#define BELT_BLOCK_BYTES 512      /* a sample block */
+#define BELT_BLOCK_WORDS 125      /* the most words in it */
+#define BELT_HEADER_BYTES 124     /* enough for every header; a job asks for as many */
+#define BELT_TEXT_BYTES 4096      /* enough for every block's text */
+#define BELT_REFERENCES 7
+#define BELT_NUMBERS 42           /* six for each reference */
+#define BELT_OTHER_TYPES 6        /* of the references beside a job's own */
+#define BELT_OTHER_NUMBERS 36
+#define BELT_ONE 65536            /* 1 at 16 fraction bits */
+
 #ifdef __cplusplus
 extern "C" {
 #endif
 
+enum belt_type { BELT_IDENTITY = 0, BELT_TRANSLATION = 1, BELT_ROTZOOM = 2, BELT_AFFINE = 3 };
+enum belt_class { BELT_UNSORTED = 0, BELT_FIBRE = 1, BELT_RIGID_PLASTIC = 2, BELT_METAL = 3 };
+enum belt_flag { BELT_LOW_PRECISION = 0, BELT_HIGH_PRECISION = 1 };
+
+/* The rows, in the order in which they are judged. */
+enum belt_refusal {
+    BELT_ACCEPTED = 0,
+    BELT_TOO_LARGE = 1,
+    BELT_WRONG_LENGTH = 2,
+    BELT_NO_SUCH_CODE = 4,
+    BELT_NO_SUCH_SLOT = 5,
+    BELT_OFF_GRID = 7,
+    BELT_PRIOR_OUT = 8,
+    BELT_NOT_RISING = 12,
+    BELT_TOO_SHORT = 3,
+    BELT_SINGULAR = 6,
+    BELT_ENDS_FIRST = 9,
+    BELT_WRONG_CHECK = 10,
+    BELT_WRONG_BLOCK = 11
+};
+
+/* A row's condition; "accepted" for 0, "no such row" for a number that isn't in the table. */
+static inline const char *belt_refusal_text(uint32_t refusal) {
+    switch (refusal) {
+    case BELT_ACCEPTED: return "accepted";
+    case BELT_TOO_LARGE: return "side over 1,024, or over 4,096 samples";
+    case BELT_WRONG_LENGTH: return "plane, class, type, model or prior list of wrong length";
+    case BELT_NO_SUCH_CODE: return "type, class or flag code out of range; type 0 for a fit";
+    case BELT_NO_SUCH_SLOT: return "slot over 5, reference outside 1 to 7";
+    case BELT_OFF_GRID: return "model off the grid, uncarried slot or pair wrong";
+    case BELT_PRIOR_OUT: return "prior out of range";
+    case BELT_NOT_RISING: return "words to store out of range or not rising";
+    case BELT_TOO_SHORT: return "output or working buffer too short";
+    case BELT_SINGULAR: return "elimination refuses";
+    case BELT_ENDS_FIRST: return "bytes end before the last bit or block";
+    case BELT_WRONG_CHECK: return "block check wrong";
+    case BELT_WRONG_BLOCK: return "block field, filler or sequence wrong";
+    default: return "no such row";
+    }
+}
+
+/* How many samples a plane has, how many values each of its half planes, and how many bytes the blocks of so many
+   samples: the room that a search or a job asks for. */
+static inline size_t belt_sample_count(size_t width, size_t height) {
+    return (width / BELT_BLOCK_SIDE) * (height / BELT_BLOCK_SIDE);
+}
+static inline size_t belt_half_plane_values(size_t width, size_t height) {
+    return belt_sample_count(width, height) == 0 ? 0 : (width / 2) * (height / 2);
+}
+static inline size_t belt_blocks_of(size_t samples) {
+    return samples / BELT_BLOCK_WORDS + (samples % BELT_BLOCK_WORDS != 0);
+}
+static inline size_t belt_block_bytes(size_t samples) {
+    return BELT_BLOCK_BYTES * belt_blocks_of(samples);
+}
+
+/* A model, six numbers at 16 fraction bits, in one of two orders that can't be told apart by their numbers; so they
+   are two types. 'Model' has the equation. x first is the order of the fits, of the grid and of the score. As stored
+   is the order of headers, priors and reports: a translation has its row (v) in slot 0 and its column (u) in slot 1.
+   The other types are the same in both orders. */
+struct belt_model { int32_t params[6]; };
+struct belt_stored_model { int32_t params[6]; };
+
+#define BELT_IDENTITY_PARAMS {0, 0, BELT_ONE, 0, 0, BELT_ONE}
+
+/* One order from the other. */
+static inline struct belt_stored_model belt_row_first(uint8_t type, struct belt_model model) {
+    struct belt_stored_model stored;
+    for (int slot = 0; slot < 6; slot++)
+        stored.params[slot] = model.params[type == BELT_TRANSLATION && slot < 2 ? 1 - slot : slot];
+    return stored;
+}
+static inline struct belt_model belt_x_first(uint8_t type, struct belt_stored_model stored) {
+    struct belt_model model;
+    for (int slot = 0; slot < 6; slot++)
+        model.params[slot] = stored.params[type == BELT_TRANSLATION && slot < 2 ? 1 - slot : slot];
+    return model;
+}
+
 /* How many samples were found. */
 struct belt_searched { uint32_t refusal; size_t samples; };
-/* Two numbers of a translation, four of a rotation-zoom, six of an affine model, zeros after them. */
+/* Two numbers of a translation, four of a rotation-zoom, six of an affine model, x first, zeros after them. */
 struct belt_fit_answer { uint32_t refusal; double numbers[6]; };
-struct belt_quantized_model { uint32_t refusal; int32_t params[6]; };
+struct belt_quantized_model { uint32_t refusal; struct belt_model model; };
 struct belt_quantized_param { uint32_t refusal; int32_t value; };
+/* In square pels. */
 struct belt_score { uint32_t refusal; double score; };
 /* How many blocks were written. */
 struct belt_stored { uint32_t refusal; size_t blocks; };
@@ -52,20 +138,21 @@ struct belt_frame_read { uint32_t refusal; uint16_t frame; size_t samples; };
 struct belt_block_read { uint32_t refusal; uint16_t frame; size_t ordinal; size_t count; };
 /* How many bits were written. */
 struct belt_written { uint32_t refusal; size_t bits; };
-/* Seven types and models, as stored, in rising order of reference, and the bits consumed. */
-struct belt_models { uint32_t refusal; uint8_t types[7]; int32_t params[42]; size_t bits; };
+/* Seven types and models in rising order of reference, and the bits consumed. */
+struct belt_models { uint32_t refusal; uint8_t types[7]; struct belt_stored_model models[7]; size_t bits; };
 /* The frame number of the blocks, the type to fit (1 to 3), the reference of the model (1 to 7), the flag. */
 struct belt_settings { uint16_t frame; uint8_t type; uint8_t reference; uint8_t flag; };
-/* Seven types and models, as stored, in rising order of reference; the fitted model's score; the header's
+/* Seven types and models in rising order of reference; the fitted model's score in square pels; the header's
    bits; how many samples there are. */
 struct belt_report {
-    uint32_t refusal; uint8_t types[7]; int32_t models[42]; double score; size_t bits; size_t samples;
+    uint32_t refusal; uint8_t types[7]; struct belt_stored_model models[7]; double score; size_t bits; size_t samples;
 };
 
-/* Motion search.
+/* Motion search ('Search').
    In: two planes of width x height pels, row by row, and a class for each whole 16x16 block.
-   Out: both half planes, (width / 2) x (height / 2) values each, and one sample word for each block, row by
-   row. With a side under 16 there are no samples, and the buffers aren't touched.
+   Out: both half planes, belt_half_plane_values each, and one sample word for each block, row by row. With a side
+   under 16 there are no samples, and the buffers aren't touched. Motion beyond BELT_MOST_EIGHTHS isn't found, and
+   isn't refused: belt_agreeing of belt_motion.h shows it.
    Refuses: 1, 2, 4, 3. */
 struct belt_searched belt_collect_motion_samples(
     const uint16_t *input_y, size_t input_pels,
@@ -76,78 +163,79 @@ struct belt_searched belt_collect_motion_samples(
     uint16_t *ref_half, size_t ref_half_pels,
     uint32_t *words, size_t word_count);
 
-/* Least squares fits.
+/* Least squares fits ('Fits and score').
    In: up to 4,096 sample words, in any order and of any field value.
    Out: the model's numbers. A translation of no samples is not-a-number twice.
    Refuses: 1; rotation-zoom and affine also 6. */
-struct belt_fit_answer belt_fit_translation(const uint32_t *words, size_t count);
-struct belt_fit_answer belt_fit_rotzoom(const uint32_t *words, size_t count);
-struct belt_fit_answer belt_fit_affine(const uint32_t *words, size_t count);
+struct belt_fit_answer belt_fit_translation(const uint32_t *words, size_t word_count);
+struct belt_fit_answer belt_fit_rotzoom(const uint32_t *words, size_t word_count);
+struct belt_fit_answer belt_fit_affine(const uint32_t *words, size_t word_count);
 
-/* A fitted model on the grid.
+/* A fitted model on the grid ('Fits and score').
    In: the type, 1 to 3, the numbers of its fit, the flag, and the words that the translation is fitted
    again to. Out: the model, x first.
    Refuses: 1, 4. */
 struct belt_quantized_model belt_quantize_model(
-    uint8_t type, const double numbers[6], uint8_t flag, const uint32_t *words, size_t count);
+    uint8_t type, const double numbers[6], uint8_t flag, const uint32_t *words, size_t word_count);
 
-/* Mean squared residual.
+/* Mean squared residual ('Fits and score').
    In: a model, x first, and up to 4,096 sample words. Out: the score, 0.0 for no words.
    Refuses: 1. */
-struct belt_score belt_mean_sq_residual(const int32_t params[6], const uint32_t *words, size_t count);
+struct belt_score belt_mean_sq_residual(const struct belt_model *model, const uint32_t *words, size_t word_count);
 
-/* One number on the grid.
+/* One number on the grid ('Grid').
    In: type 0 to 3, flag, slot 0 to 5 and any number. Out: the codable number nearest to it.
    Refuses: 4, 5. */
 struct belt_quantized_param belt_quantize_global_param(uint8_t type, uint8_t flag, uint8_t slot, int32_t value);
 
-/* A frame's words as blocks.
-   In: the frame number and up to 4,096 words, rising by row and column. Out: 512 bytes for each 125 words
-   or part of it.
+/* A frame's words as blocks ('Sample block').
+   In: the frame number and up to 4,096 words, rising by row and column. Out: belt_block_bytes of so many words.
    Refuses: 1, 12, 3. */
-struct belt_stored belt_write_frame(uint16_t frame, const uint32_t *words, size_t count, uint8_t *blocks, size_t room);
+struct belt_stored belt_write_frame(
+    uint16_t frame, const uint32_t *words, size_t word_count, uint8_t *blocks, size_t blocks_room);
 
-/* A frame's blocks as words.
+/* A frame's blocks as words ('Sample block').
    In: bytes that begin with the frame's blocks; those after its last block aren't read. Out: the frame
    number and the words. No bytes read as frame 0 with no samples.
    Refuses: 9, 10, 11, 3. */
-struct belt_frame_read belt_read_frame(const uint8_t *bytes, size_t length, uint32_t *words, size_t room);
+struct belt_frame_read belt_read_frame(const uint8_t *bytes, size_t byte_count, uint32_t *words, size_t word_room);
 
-/* One block without its neighbours.
+/* One block without its neighbours ('Sample block').
    In: bytes that begin with the block. Out: its frame number, its ordinal and how many words it holds.
    Refuses: 9, 10, 11. */
-struct belt_block_read belt_judge_block(const uint8_t *bytes, size_t length);
+struct belt_block_read belt_judge_block(const uint8_t *bytes, size_t byte_count);
 
-/* A block as text.
+/* A block as text ('Job').
    In: bytes that begin with the block. Out: how many of the 4,096 bytes the text takes: a line with frame,
    ordinal and count, then a line for each word with row, column, v, u in eighths and class; or 'refused'
    and the number. Nothing ends the text. It refuses nothing. */
-size_t belt_list_block(const uint8_t *bytes, size_t length, uint8_t text[4096]);
+size_t belt_list_block(const uint8_t *bytes, size_t byte_count, uint8_t text[BELT_TEXT_BYTES]);
 
-/* A header written.
-   In: 7 types and 42 numbers, as stored, in rising order of reference, the flag, and a prior for each
-   number. Out: the bits from bit 0 of the buffer on, high bit first, the last byte filled up with zeros.
-   The buffer needs the exact bytes; 124 are always enough.
+/* A header written ('Header').
+   In: 7 types and 7 models (42 numbers), as stored, in rising order of reference, the flag, and a prior for each
+   number. Counts of models are counts of their numbers. Out: the bits from bit 0 of the buffer on, high bit first,
+   the last byte filled up with zeros. The buffer needs the exact bytes; BELT_HEADER_BYTES are always enough.
    Refuses: 2, 4, 7, 8, 3. */
 struct belt_written belt_encode_inter_global_motion(
     const uint8_t *types, size_t type_count,
-    const int32_t *params, size_t param_count,
+    const struct belt_stored_model *models, size_t number_count,
     uint8_t flag,
-    const int32_t *prior, size_t prior_count,
+    const struct belt_stored_model *prior, size_t prior_number_count,
     uint8_t *header, size_t header_room);
 
-/* A header read.
+/* A header read ('Reading by the standard').
    In: bytes, the bit to begin at, the flag, and the 42 numbers of the prior. Out: the seven types and
    models, as stored, and the bits consumed.
    Refuses: 2, 4, 8, 9. */
 struct belt_models belt_read_global_motion_params(
-    const uint8_t *header, size_t length, size_t at, uint8_t flag, const int32_t *prior, size_t prior_count);
+    const uint8_t *header, size_t header_bytes, size_t at, uint8_t flag,
+    const struct belt_stored_model *prior, size_t prior_number_count);
 
-/* A whole job: search, fit, grid, score, blocks and header.
-   In: two planes, the settings, a class for each whole 16x16 block, 6 types and 36 numbers of the other
+/* A whole job: search, fit, grid, score, blocks and header ('Job').
+   In: two planes, the settings, a class for each whole 16x16 block, 6 types and 6 models (36 numbers) of the other
    references in rising order, as stored, and the 42 numbers of the prior.
    Out: the report; half planes and words as the search leaves them; the frame's blocks; the header. The
-   header buffer needs 124 bytes. A header reads back as the report's models, and blocks as its words.
+   header buffer needs BELT_HEADER_BYTES. A header reads back as the report's models, and blocks as its words.
    Refuses: 1, 2, 4, 5, 7, 8, 3, 6. After 6 the half planes and the words are in their buffers, and
    blocks and header are as they were. */
 struct belt_report belt_job(
@@ -157,11 +245,11 @@ struct belt_report belt_job(
     struct belt_settings settings,
     const uint8_t *classes, size_t class_count,
     const uint8_t *types, size_t type_count,
-    const int32_t *models, size_t model_count,
-    const int32_t *prior, size_t prior_count,
+    const struct belt_stored_model *models, size_t number_count,
+    const struct belt_stored_model *prior, size_t prior_number_count,
     uint16_t *input_half, size_t input_half_pels,
     uint16_t *ref_half, size_t ref_half_pels,
-    uint32_t *words, size_t word_count,
+    uint32_t *words, size_t word_room,
     uint8_t *blocks, size_t blocks_room,
     uint8_t *header, size_t header_room);
 

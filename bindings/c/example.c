@@ -1,11 +1,13 @@
 /* Jobs of the three types on frames that this program computes: it prints each report and the header in
-   hexadecimal, reads header and blocks back and compares, does the same work by the single calls, and prints
-   the text of a block. Ends with 1 where a call refuses or something differs. */
+   hexadecimal, reads header and blocks back and compares, does the same work by the single calls, says what the
+   motion is in pels, and prints the text of a block. Then it shows a pan beyond the search's range, and tries a
+   refusal of each call. Ends with 1 where a call refuses or something differs. It is C99, and C++11. */
 #include <stdio.h>
 #include <stdlib.h>
 #include <string.h>
 
 #include "belt.h"
+#include "belt_motion.h"
 
 enum {
     WIDTH = 80,
@@ -13,18 +15,15 @@ enum {
     PELS = WIDTH * HEIGHT,
     HALF = (WIDTH / 2) * (HEIGHT / 2),
     SAMPLES = (WIDTH / 16) * (HEIGHT / 16),
-    BLOCK_BYTES = 512,
-    BLOCKS = (SAMPLES + 124) / 125 * BLOCK_BYTES,
-    HEADER_BYTES = 124,
-    TEXT_BYTES = 4096
+    BLOCKS = (SAMPLES + BELT_BLOCK_WORDS - 1) / BELT_BLOCK_WORDS * BELT_BLOCK_BYTES
 };
 
-static const int32_t identity[6] = {0, 0, 65536, 0, 0, 65536};
+static const struct belt_stored_model identity = {BELT_IDENTITY_PARAMS};
 
-static int32_t prior[42];
+static struct belt_stored_model prior[BELT_REFERENCES];
 static uint16_t input[PELS], reference[PELS], input_half[HALF], ref_half[HALF];
 static uint32_t words[SAMPLES], words_read[SAMPLES];
-static uint8_t classes[SAMPLES], blocks[BLOCKS], header[HEADER_BYTES], text[TEXT_BYTES];
+static uint8_t classes[SAMPLES], blocks[BLOCKS], header[BELT_HEADER_BYTES], text[BELT_TEXT_BYTES];
 
 /* A value for each place, without a pattern. */
 static uint16_t pel(uint32_t y, uint32_t x) {
@@ -38,21 +37,27 @@ static size_t held(size_t at, int by, size_t side) {
     return moved < 0 ? 0 : moved >= (long)side ? side - 1 : (size_t)moved;
 }
 
-/* Each pel of the input is the reference's, four rows below and two columns to the left; edges repeat. */
-static void draw(void) {
+/* Each pel of the input is the reference's, so many rows below and columns to the right; edges repeat. */
+static void draw(int dy, int dx) {
     for (size_t y = 0; y < HEIGHT; y++)
         for (size_t x = 0; x < WIDTH; x++)
             reference[y * WIDTH + x] = pel((uint32_t)y, (uint32_t)x);
     for (size_t y = 0; y < HEIGHT; y++)
         for (size_t x = 0; x < WIDTH; x++)
-            input[y * WIDTH + x] = reference[held(y, 4, HEIGHT) * WIDTH + held(x, -2, WIDTH)];
+            input[y * WIDTH + x] = reference[held(y, dy, HEIGHT) * WIDTH + held(x, dx, WIDTH)];
 }
 
 static void refused(const char *call, uint32_t refusal) {
-    if (refusal != 0) {
-        printf("%s refused %u\n", call, (unsigned)refusal);
+    if (refusal != BELT_ACCEPTED) {
+        printf("%s refused %u: %s\n", call, (unsigned)refusal, belt_refusal_text(refusal));
         exit(1);
     }
+}
+
+static void wants(const char *what, uint32_t refusal, uint32_t row) {
+    printf("%s: refused %u, %s\n", what, (unsigned)refusal, belt_refusal_text(refusal));
+    if (refusal != row)
+        exit(1);
 }
 
 static void same(int equal, const char *what) {
@@ -61,20 +66,39 @@ static void same(int equal, const char *what) {
         exit(1);
 }
 
-static const uint8_t other_types[6];
+static const uint8_t other_types[BELT_OTHER_TYPES] = {0};
 
 static struct belt_report run(struct belt_settings settings, size_t input_pels) {
     return belt_job(
-        input, input_pels, reference, PELS, WIDTH, HEIGHT, settings, classes, SAMPLES, other_types, 6, prior, 36,
-        prior, 42, input_half, HALF, ref_half, HALF, words, SAMPLES, blocks, BLOCKS, header, HEADER_BYTES);
+        input, input_pels, reference, PELS, WIDTH, HEIGHT, settings, classes, SAMPLES, other_types, BELT_OTHER_TYPES,
+        prior, BELT_OTHER_NUMBERS, prior, BELT_NUMBERS, input_half, HALF, ref_half, HALF, words, SAMPLES, blocks,
+        BLOCKS, header, BELT_HEADER_BYTES);
 }
 
-static void print_report(const struct belt_report *report, uint8_t type) {
-    printf("type %d: %zu samples, score %.6f, %zu header bits\n", type, report->samples, report->score, report->bits);
-    for (int r = 0; r < 7; r++) {
+static struct belt_model own_model(const struct belt_report *report, struct belt_settings settings) {
+    return belt_x_first(settings.type, report->models[settings.reference - 1]);
+}
+
+/* -0.0 as 0.0, so that the same text comes out everywhere. */
+static double plain(double value) {
+    return value < 0.0005 && value > -0.0005 ? 0.0 : value;
+}
+
+static void print_motion(struct belt_model model, size_t samples) {
+    struct belt_motion shift = belt_motion_at(model, 0.0, 0.0);
+    printf("moved %.3f right, %.3f down; zoom %.4f, turn %.3f degrees; %u of %u samples agree within 1/4 pel\n",
+           plain(shift.u), plain(shift.v), belt_zoom(model), plain(belt_degrees(model)),
+           (unsigned)belt_agreeing(model, words, samples, 0.25), (unsigned)samples);
+}
+
+static void print_report(const struct belt_report *report, struct belt_settings settings) {
+    printf("type %d: %u samples, score %.6f, %u header bits\n", settings.type, (unsigned)report->samples,
+           report->score, (unsigned)report->bits);
+    print_motion(own_model(report, settings), report->samples);
+    for (int r = 0; r < BELT_REFERENCES; r++) {
         printf("reference %d type %d:", r + 1, report->types[r]);
         for (int slot = 0; slot < 6; slot++)
-            printf(" %ld", (long)report->models[6 * r + slot]);
+            printf(" %ld", (long)report->models[r].params[slot]);
         printf("\n");
     }
     printf("header:");
@@ -84,10 +108,11 @@ static void print_report(const struct belt_report *report, uint8_t type) {
 }
 
 static void read_back(const struct belt_report *report, struct belt_settings settings) {
-    struct belt_models read = belt_read_global_motion_params(header, HEADER_BYTES, 0, settings.flag, prior, 42);
+    struct belt_models read =
+        belt_read_global_motion_params(header, BELT_HEADER_BYTES, 0, settings.flag, prior, BELT_NUMBERS);
     refused("belt_read_global_motion_params", read.refusal);
     same(read.bits == report->bits && memcmp(read.types, report->types, sizeof read.types) == 0 &&
-             memcmp(read.params, report->models, sizeof read.params) == 0,
+             memcmp(read.models, report->models, sizeof read.models) == 0,
          "header read back");
     struct belt_frame_read frame = belt_read_frame(blocks, BLOCKS, words_read, SAMPLES);
     refused("belt_read_frame", frame.refusal);
@@ -97,15 +122,15 @@ static void read_back(const struct belt_report *report, struct belt_settings set
 }
 
 static struct belt_fit_answer fit(uint8_t type) {
-    return type == 1   ? belt_fit_translation(words_read, SAMPLES)
-           : type == 2 ? belt_fit_rotzoom(words_read, SAMPLES)
-                       : belt_fit_affine(words_read, SAMPLES);
+    return type == BELT_TRANSLATION ? belt_fit_translation(words_read, SAMPLES)
+           : type == BELT_ROTZOOM   ? belt_fit_rotzoom(words_read, SAMPLES)
+                                    : belt_fit_affine(words_read, SAMPLES);
 }
 
 /* The search, the model and its score, the blocks and the header again, each by its own call. */
 static void by_single_calls(const struct belt_report *report, struct belt_settings settings) {
     static uint16_t halves[2][HALF];
-    static uint8_t blocks_again[BLOCKS], header_again[HEADER_BYTES];
+    static uint8_t blocks_again[BLOCKS], header_again[BELT_HEADER_BYTES];
     struct belt_searched found = belt_collect_motion_samples(
         input, PELS, reference, PELS, WIDTH, HEIGHT, classes, SAMPLES, halves[0], HALF, halves[1], HALF, words_read,
         SAMPLES);
@@ -116,55 +141,102 @@ static void by_single_calls(const struct belt_report *report, struct belt_settin
 
     struct belt_fit_answer fitted = fit(settings.type);
     refused("the fit", fitted.refusal);
-    struct belt_quantized_model model =
+    struct belt_quantized_model answer =
         belt_quantize_model(settings.type, fitted.numbers, settings.flag, words_read, SAMPLES);
-    refused("belt_quantize_model", model.refusal);
+    refused("belt_quantize_model", answer.refusal);
     int on_grid = 1;
     for (uint8_t slot = 0; slot < 6; slot++) {
         struct belt_quantized_param nearest =
-            belt_quantize_global_param(settings.type, settings.flag, slot, model.params[slot]);
+            belt_quantize_global_param(settings.type, settings.flag, slot, answer.model.params[slot]);
         refused("belt_quantize_global_param", nearest.refusal);
-        on_grid = on_grid && nearest.value == model.params[slot];
+        on_grid = on_grid && nearest.value == answer.model.params[slot];
     }
     same(on_grid, "numbers on the grid");
-    struct belt_score score = belt_mean_sq_residual(model.params, words_read, SAMPLES);
+    struct belt_score score = belt_mean_sq_residual(&answer.model, words_read, SAMPLES);
     refused("belt_mean_sq_residual", score.refusal);
-    int row_first = settings.type == 1;
-    const int32_t *stored = report->models + 6 * (settings.reference - 1);
-    same(stored[row_first] == model.params[0] && stored[1 - row_first] == model.params[1] &&
-             memcmp(stored + 2, model.params + 2, 4 * sizeof *stored) == 0 && score.score == report->score,
+    struct belt_stored_model stored = belt_row_first(settings.type, answer.model);
+    same(memcmp(&stored, &report->models[settings.reference - 1], sizeof stored) == 0 &&
+             !(score.score < report->score) && !(score.score > report->score),
          "model and score");
 
     struct belt_stored put = belt_write_frame(settings.frame, words_read, SAMPLES, blocks_again, BLOCKS);
     refused("belt_write_frame", put.refusal);
     struct belt_block_read judged = belt_judge_block(blocks_again, BLOCKS);
     refused("belt_judge_block", judged.refusal);
-    same(put.blocks == 1 && judged.frame == settings.frame && judged.ordinal == 0 && judged.count == SAMPLES &&
-             memcmp(blocks_again, blocks, sizeof blocks) == 0,
+    same(put.blocks == belt_blocks_of(SAMPLES) && judged.frame == settings.frame && judged.ordinal == 0 &&
+             judged.count == SAMPLES && memcmp(blocks_again, blocks, sizeof blocks) == 0,
          "blocks");
     struct belt_written wrote = belt_encode_inter_global_motion(
-        report->types, 7, report->models, 42, settings.flag, prior, 42, header_again, HEADER_BYTES);
+        report->types, BELT_REFERENCES, report->models, BELT_NUMBERS, settings.flag, prior, BELT_NUMBERS, header_again,
+        BELT_HEADER_BYTES);
     refused("belt_encode_inter_global_motion", wrote.refusal);
     same(wrote.bits == report->bits && memcmp(header_again, header, (wrote.bits + 7) / 8) == 0, "header");
 }
 
+/* A pan by 40 columns is beyond the range: no row refuses it, but few samples agree. */
+static void too_far(struct belt_settings settings) {
+    draw(0, 40);
+    struct belt_report report = run(settings, PELS);
+    refused("belt_job", report.refusal);
+    size_t agreeing = belt_agreeing(own_model(&report, settings), words, report.samples, 0.25);
+    printf("a pan by 40 pels: %u of %u samples agree\n", (unsigned)agreeing, (unsigned)report.samples);
+    if (agreeing > report.samples / 4)
+        exit(1);
+}
+
+/* A refusal of each call. */
+static void refusals(struct belt_settings settings) {
+    static const uint8_t zeros[BELT_BLOCK_BYTES] = {0};
+    static const uint32_t falling[2] = {1u << 20, 0};
+    static const double numbers[6] = {0};
+    const struct belt_model still = {BELT_IDENTITY_PARAMS};
+    wants("a job on a plane that is a pel short", run(settings, PELS - 1).refusal, BELT_WRONG_LENGTH);
+    wants("a search of a plane 1,025 wide",
+          belt_collect_motion_samples(input, PELS, reference, PELS, 1025, HEIGHT, classes, SAMPLES, input_half, HALF,
+                                      ref_half, HALF, words, SAMPLES)
+              .refusal,
+          BELT_TOO_LARGE);
+    wants("a rotation-zoom of no words", belt_fit_rotzoom(words, 0).refusal, BELT_SINGULAR);
+    wants("an affine model of no words", belt_fit_affine(words, 0).refusal, BELT_SINGULAR);
+    static uint32_t many[BELT_MOST_SAMPLES + 1];
+    wants("a translation of 4,097 words", belt_fit_translation(many, BELT_MOST_SAMPLES + 1).refusal, BELT_TOO_LARGE);
+    wants("a score over 4,097 words", belt_mean_sq_residual(&still, many, BELT_MOST_SAMPLES + 1).refusal,
+          BELT_TOO_LARGE);
+    wants("type 4 on the grid", belt_quantize_model(4, numbers, 1, words, SAMPLES).refusal, BELT_NO_SUCH_CODE);
+    wants("slot 6", belt_quantize_global_param(BELT_AFFINE, 1, 6, 0).refusal, BELT_NO_SUCH_SLOT);
+    wants("words that fall", belt_write_frame(5, falling, 2, blocks, BLOCKS).refusal, BELT_NOT_RISING);
+    wants("a frame of zeros", belt_read_frame(zeros, BELT_BLOCK_BYTES, words, SAMPLES).refusal, BELT_WRONG_CHECK);
+    wants("a block of 511 bytes", belt_judge_block(zeros, BELT_BLOCK_BYTES - 1).refusal, BELT_ENDS_FIRST);
+    wants("a header into 0 bytes",
+          belt_encode_inter_global_motion(zeros, BELT_REFERENCES, prior, BELT_NUMBERS, 1, prior, BELT_NUMBERS, header, 0)
+              .refusal,
+          BELT_TOO_SHORT);
+    wants("a header of 0 bytes", belt_read_global_motion_params(header, 0, 0, 1, prior, BELT_NUMBERS).refusal,
+          BELT_ENDS_FIRST);
+}
+
 int main(void) {
-    for (int i = 0; i < 42; i++)
-        prior[i] = identity[i % 6];
+    for (int i = 0; i < BELT_REFERENCES; i++)
+        prior[i] = identity;
     for (int i = 0; i < SAMPLES; i++)
         classes[i] = (uint8_t)(i % 4);
-    draw();
-    for (uint8_t type = 1; type <= 3; type++) {
-        const struct belt_settings settings = {5, type, 2, 1};
+    same(belt_sample_count(WIDTH, HEIGHT) == SAMPLES && belt_half_plane_values(WIDTH, HEIGHT) == HALF &&
+             belt_block_bytes(SAMPLES) == BLOCKS && belt_half_plane_values(15, HEIGHT) == 0 &&
+             belt_block_bytes(126) == 2 * BELT_BLOCK_BYTES,
+         "sizes");
+    draw(4, -2);
+    for (uint8_t type = BELT_TRANSLATION; type <= BELT_AFFINE; type++) {
+        const struct belt_settings settings = {5, type, 2, BELT_HIGH_PRECISION};
         struct belt_report report = run(settings, PELS);
         refused("belt_job", report.refusal);
-        print_report(&report, type);
+        print_report(&report, settings);
         read_back(&report, settings);
         by_single_calls(&report, settings);
     }
     size_t length = belt_list_block(blocks, BLOCKS, text);
     fwrite(text, 1, length, stdout);
-    struct belt_report no = run((struct belt_settings){5, 1, 2, 1}, PELS - 1);
-    printf("a plane that is a pel short: refused %u\n", (unsigned)no.refusal);
-    return no.refusal == 2 ? 0 : 1;
+    const struct belt_settings settings = {5, BELT_TRANSLATION, 2, BELT_HIGH_PRECISION};
+    too_far(settings);
+    refusals(settings);
+    return 0;
 }

@@ -20,7 +20,7 @@ use uncompressed_header_tail::{GlobalMotionParams, TOTAL_REFS_PER_FRAME, WarpMod
 /// Six numbers for each of the references 1 to 7.
 pub type Models = [[i32; 6]; 7];
 
-/// Stored motions are eighths of a pel plus this (document 01, 'Sample word').
+/// Stored motions are eighths of a pel plus this (docs/RULES.md, 'Sample word').
 const MOTION_BIAS: i32 = 223;
 /// A block's side, and its centre from its first pel.
 const BLOCK: usize = 16;

@@ -7,7 +7,7 @@ use std::str::{FromStr, SplitWhitespace};
 
 type Answer<T = String> = Result<T, String>;
 
-/// Document 01, 'Plane'.
+/// docs/RULES.md, 'Plane'.
 const LARGEST_SIDE: usize = 1024;
 
 fn main() -> io::Result<()> {

@@ -1,4 +1,4 @@
-//! What document 01 says of the Rust's arithmetic, held to this compiler's.
+//! What docs/RULES.md says of the Rust's arithmetic, held to this compiler's.
 
 use oracle::list::Lcg;
 use oracle::{

@@ -1,4 +1,4 @@
-//! The worked values of document 01 that the Rust can answer.
+//! The worked values of docs/RULES.md that the Rust can answer.
 
 use oracle::{IDENTITY, coefficient, quantize_global_param, read_header, search, write_header};
 

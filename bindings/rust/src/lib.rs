@@ -1,17 +1,23 @@
 //! The proved motion core, for Rust.
 //!
 //! Search, fits, grid, blocks, header and the whole job of the static library `libbelt.a`, over slices and structs.
-//! Each call's answer is an equation that is proved of the library's code, refused and accepted alike; the
-//! compiler's back end and the passing of arguments between the two languages are not proved, and are compared by
-//! `oracle/compare`.
+//! `docs/RULES.md` of the repository has the rules: what a plane, a sample word, a block, a model and a header are, bit
+//! by bit; names in quotes here are its sections. Each call's answer is an equation that is proved of the library's
+//! code, refused and accepted alike; the compiler's back end and the passing of arguments between the two languages
+//! are not proved, and are compared by `oracle/compare`.
 //!
 //! A call that refuses answers with the table's row, a [`Refusal`], and leaves the lent slices as they were; the one
-//! exception is [`Refusal::Singular`] of [`job`]. An accepted call writes only the part that it uses.
+//! exception is [`Refusal::Singular`] of [`job`]. An accepted call writes only the part that it uses. The library
+//! keeps nothing between calls, so any number of threads may call it at once. It expects the floating-point
+//! environment that a process begins with: rounding to nearest, traps off.
 //!
 //! Types are 0 identity, 1 translation, 2 rotation-zoom, 3 affine; classes 0 unsorted, 1 fibre, 2 rigid plastic,
 //! 3 metal; a flag is 1 for high precision, else 0. Codes are plain numbers, so that one that comes from outside is
-//! judged by the library. A model is six numbers at 16 fraction bits. 'x first' is the order of the fits;
-//! 'as stored' has the row first in slots 0 and 1 of a translation, and is the same otherwise.
+//! judged by the library. A model has one of two orders, each a type of its own: [`Model`], x first, is what fits,
+//! grid and score have; [`StoredModel`] is what headers, priors and reports have.
+//!
+//! A plane is at most 1,024 pels wide and high, and the search finds motion of at most 27.875 pels. What moved
+//! further isn't refused: [`Model::agreeing`] shows it.
 //!
 //! ```
 //! use belt::{Buffers, IDENTITIES, Settings, Task};
@@ -29,55 +35,52 @@
 //!         settings: Settings { frame: 5, gm_type: 1, reference: 1, flag: 1 },
 //!         classes: &[0; 12],
 //!         types: &[0; 6],
-//!         models: &IDENTITIES[..36],
+//!         models: &IDENTITIES[..6],
 //!         prior: &IDENTITIES,
 //!     },
 //!     &mut buffers.lend(),
 //! )?;
+//! let model = report.models[0].x_first(report.types[0]);
+//! assert_eq!((model.shift().u, model.shift().v), (-2.0, 0.0));
+//! assert_eq!(model.agreeing(&buffers.words, 0.25), 12);
 //! let read = belt::read_global_motion_params(&buffers.header, 0, 1, &IDENTITIES)?;
-//! assert_eq!((read.types, read.params, read.bits), (report.types, report.models, report.bits));
+//! assert_eq!((read.types, read.models, read.bits), (report.types, report.models, report.bits));
 //! # Ok::<(), belt::Refusal>(())
 //! ```
 #![deny(unsafe_code)]
-#![warn(missing_docs)]
+#![deny(missing_docs)]
 
+mod model;
 #[allow(unsafe_code)]
 mod raw;
 mod refusal;
 
+pub use model::{IDENTITIES, Model, Motion, Sample, StoredModel};
 pub use raw::TEXT_BYTES;
-pub use refusal::Refusal;
+pub use refusal::{Length, Refusal};
 
-use refusal::judged;
+use refusal::{judged, judged_lists};
 
 /// The longest side of a plane, in pels.
 pub const MOST_SIDE: usize = 1024;
 /// The side of the blocks that a plane is searched in.
 pub const BLOCK_SIDE: usize = 16;
+/// The most samples of a frame or a list.
+pub const MOST_SAMPLES: usize = 4096;
+/// No motion passes so many eighths either way: 27.875 pels.
+pub const MOST_EIGHTHS: u16 = 223;
 /// The bytes of a sample block.
 pub const BLOCK_BYTES: usize = 512;
 /// The words that a sample block holds.
 pub const BLOCK_WORDS: usize = 125;
 /// The bytes that a header never exceeds, and that a job asks for.
 pub const HEADER_BYTES: usize = 124;
-/// The model of no motion.
-pub const IDENTITY: [i32; 6] = [0, 0, 65536, 0, 0, 65536];
-/// Seven models of no motion: the prior of a frame that has none.
-pub const IDENTITIES: [i32; 42] = {
-    let mut all = [0; 42];
-    let mut i = 0;
-    while i < all.len() {
-        all[i] = IDENTITY[i % 6];
-        i += 1;
-    }
-    all
-};
 
 /// A fitted model: its type, 1 to 3, and two, four or six numbers, zeros after them.
 #[derive(Clone, Copy, Debug, PartialEq)]
 pub struct Fitted {
     /// The type: 1 translation, 2 rotation-zoom, 3 affine.
-    pub kind: u8,
+    pub gm_type: u8,
     /// The numbers, in pels, x first.
     pub numbers: [f64; 6],
 }
@@ -107,8 +110,8 @@ pub struct Block {
 pub struct Models {
     /// The types of references 1 to 7.
     pub types: [u8; 7],
-    /// Six numbers for each reference, as stored.
-    pub params: [i32; 42],
+    /// Their models.
+    pub models: [StoredModel; 7],
     /// The bits that the reading consumed.
     pub bits: usize,
 }
@@ -133,9 +136,9 @@ pub struct Task<'a> {
     pub input: &'a [u16],
     /// The plane that it is sought in.
     pub reference: &'a [u16],
-    /// The sides of both, in pels.
+    /// The sides of both, in pels, at most [`MOST_SIDE`].
     pub width: usize,
-    /// The sides of both, in pels.
+    /// The sides of both, in pels, at most [`MOST_SIDE`].
     pub height: usize,
     /// Frame number, type, reference and flag.
     pub settings: Settings,
@@ -143,22 +146,22 @@ pub struct Task<'a> {
     pub classes: &'a [u8],
     /// The types of the six other references, rising.
     pub types: &'a [u8],
-    /// Their 36 numbers, as stored.
-    pub models: &'a [i32],
-    /// The 42 numbers of the prior.
-    pub prior: &'a [i32],
+    /// Their six models.
+    pub models: &'a [StoredModel],
+    /// The seven models of the prior.
+    pub prior: &'a [StoredModel],
 }
 
 /// What a job is lent.
 #[derive(Debug)]
 pub struct Lent<'a> {
-    /// Room for the input's half plane.
+    /// Room for the input's half plane: [`half_plane_values`].
     pub input_half: &'a mut [u16],
-    /// Room for the reference's half plane.
+    /// Room for the reference's half plane: [`half_plane_values`].
     pub ref_half: &'a mut [u16],
     /// Room for a word for each sample.
     pub words: &'a mut [u32],
-    /// Room for the frame's blocks.
+    /// Room for the frame's blocks: [`block_bytes`].
     pub blocks: &'a mut [u8],
     /// Room for [`HEADER_BYTES`].
     pub header: &'a mut [u8],
@@ -169,9 +172,9 @@ pub struct Lent<'a> {
 pub struct Report {
     /// The types of references 1 to 7; the fitted model has the type asked for.
     pub types: [u8; 7],
-    /// Six numbers for each reference, as stored.
-    pub models: [i32; 42],
-    /// The fitted model's mean squared residual.
+    /// The models of references 1 to 7.
+    pub models: [StoredModel; 7],
+    /// The fitted model's mean squared residual, in square pels.
     pub score: f64,
     /// The bits of the header.
     pub bits: usize,
@@ -198,13 +201,12 @@ impl Buffers {
     /// Zeros, as many as planes of these sides need. Sides over [`MOST_SIDE`], which every call refuses, count as it.
     pub fn new(width: usize, height: usize) -> Self {
         let (width, height) = (width.min(MOST_SIDE), height.min(MOST_SIDE));
-        let samples = sample_count(width, height);
-        let half = if samples == 0 { 0 } else { width / 2 * (height / 2) };
+        let (samples, half) = (sample_count(width, height), half_plane_values(width, height));
         Self {
             input_half: vec![0; half],
             ref_half: vec![0; half],
             words: vec![0; samples],
-            blocks: vec![0; BLOCK_BYTES * samples.div_ceil(BLOCK_WORDS)],
+            blocks: vec![0; block_bytes(samples)],
             header: vec![0; HEADER_BYTES],
         }
     }
@@ -231,8 +233,42 @@ pub fn sample_count(width: usize, height: usize) -> usize {
     (width / BLOCK_SIDE).saturating_mul(height / BLOCK_SIDE)
 }
 
-/// Searches the motion of each whole 16×16 block of `input_y` in `ref_y`: half planes and one word for each block.
-/// Answers how many there are. Rows 1, 2, 4, 3.
+/// How many values a half plane has: none where there are no samples.
+pub fn half_plane_values(width: usize, height: usize) -> usize {
+    if sample_count(width, height) == 0 { 0 } else { (width / 2).saturating_mul(height / 2) }
+}
+
+/// How many bytes the blocks of so many samples take.
+pub fn block_bytes(samples: usize) -> usize {
+    samples.div_ceil(BLOCK_WORDS).saturating_mul(BLOCK_BYTES)
+}
+
+/// The lists that a search and a job judge: two planes and the classes.
+fn planes(input: &[u16], reference: &[u16], classes: &[u8], width: usize, height: usize) -> [Length; 3] {
+    let pels = width.saturating_mul(height);
+    [
+        Length::of("input", input, pels),
+        Length::of("reference", reference, pels),
+        Length::of("classes", classes, sample_count(width, height)),
+    ]
+}
+
+/// The buffers that a search and a job fill: half planes and words.
+fn rooms(input_half: &[u16], ref_half: &[u16], words: &[u32], width: usize, height: usize) -> [Length; 3] {
+    let half = half_plane_values(width, height);
+    [
+        Length::of("input_half", input_half, half),
+        Length::of("ref_half", ref_half, half),
+        Length::of("words", words, sample_count(width, height)),
+    ]
+}
+
+/// Searches the motion of each whole 16×16 block of `input_y` in `ref_y` ('Search'): half planes and one word for
+/// each block. Answers how many there are.
+///
+/// # Errors
+///
+/// [`Refusal::TooLarge`], [`Refusal::WrongLength`], [`Refusal::NoSuchCode`], [`Refusal::TooShort`].
 ///
 /// ```
 /// let plane = [7; 16 * 16];
@@ -255,20 +291,37 @@ pub fn collect_motion_samples(
     words: &mut [u32],
 ) -> Result<usize, Refusal> {
     let found = raw::collect_motion_samples(input_y, ref_y, width, height, classes, input_half, ref_half, words);
-    judged(found.refusal, found.samples)
+    judged_lists(
+        found.refusal,
+        found.samples,
+        || planes(input_y, ref_y, classes, width, height),
+        || rooms(input_half, ref_half, words, width, height),
+    )
 }
 
-/// The translation that fits up to 4,096 words; not-a-numbers for none. Row 1.
+/// The translation that fits up to 4,096 words ('Fits and score'); not-a-numbers for none.
+///
+/// # Errors
+///
+/// [`Refusal::TooLarge`].
 pub fn fit_translation(words: &[u32]) -> Result<Fitted, Refusal> {
     fitted(1, raw::fit_translation(words))
 }
 
-/// The rotation-zoom that fits up to 4,096 words. Rows 1, 6.
+/// The rotation-zoom that fits up to 4,096 words ('Fits and score').
+///
+/// # Errors
+///
+/// [`Refusal::TooLarge`], [`Refusal::Singular`].
 pub fn fit_rotzoom(words: &[u32]) -> Result<Fitted, Refusal> {
     fitted(2, raw::fit_rotzoom(words))
 }
 
-/// The affine model that fits up to 4,096 words. Rows 1, 6.
+/// The affine model that fits up to 4,096 words ('Fits and score').
+///
+/// # Errors
+///
+/// [`Refusal::TooLarge`], [`Refusal::Singular`].
 ///
 /// ```
 /// assert_eq!(belt::fit_affine(&[]), Err(belt::Refusal::Singular));
@@ -277,28 +330,40 @@ pub fn fit_affine(words: &[u32]) -> Result<Fitted, Refusal> {
     fitted(3, raw::fit_affine(words))
 }
 
-fn fitted(kind: u8, answer: raw::FitAnswer) -> Result<Fitted, Refusal> {
-    judged(answer.refusal, Fitted { kind, numbers: answer.numbers })
+fn fitted(gm_type: u8, answer: raw::FitAnswer) -> Result<Fitted, Refusal> {
+    judged(answer.refusal, Fitted { gm_type, numbers: answer.numbers })
 }
 
-/// The fitted model on the grid, x first; its translation is fitted again to the words. Rows 1, 4.
+/// The fitted model on the grid ('Fits and score'); its translation is fitted again to the words.
+///
+/// # Errors
+///
+/// [`Refusal::TooLarge`], [`Refusal::NoSuchCode`].
 ///
 /// ```
-/// let fitted = belt::Fitted { kind: 1, numbers: [0.0; 6] };
-/// assert_eq!(belt::quantize_model(&fitted, 1, &[]), Ok(belt::IDENTITY));
+/// let fitted = belt::Fitted { gm_type: 1, numbers: [0.0; 6] };
+/// assert_eq!(belt::quantize_model(&fitted, 1, &[]), Ok(belt::Model::IDENTITY));
 /// ```
-pub fn quantize_model(fitted: &Fitted, flag: u8, words: &[u32]) -> Result<[i32; 6], Refusal> {
-    let answer = raw::quantize_model(fitted.kind, &fitted.numbers, flag, words);
+pub fn quantize_model(fitted: &Fitted, flag: u8, words: &[u32]) -> Result<Model, Refusal> {
+    let answer = raw::quantize_model(fitted.gm_type, &fitted.numbers, flag, words);
     judged(answer.refusal, answer.params)
 }
 
-/// The mean squared residual of a model, x first, over up to 4,096 words; 0.0 for none. Row 1.
-pub fn mean_sq_residual(params: &[i32; 6], words: &[u32]) -> Result<f64, Refusal> {
-    let answer = raw::mean_sq_residual(params, words);
+/// The mean squared residual of a model over up to 4,096 words ('Fits and score'), in square pels; 0.0 for none.
+///
+/// # Errors
+///
+/// [`Refusal::TooLarge`].
+pub fn mean_sq_residual(model: &Model, words: &[u32]) -> Result<f64, Refusal> {
+    let answer = raw::mean_sq_residual(&model.0, words);
     judged(answer.refusal, answer.score)
 }
 
-/// The codable number nearest to a value, for type 0 to 3 and slot 0 to 5. Rows 4, 5.
+/// The codable number nearest to a value ('Grid'), for type 0 to 3 and slot 0 to 5.
+///
+/// # Errors
+///
+/// [`Refusal::NoSuchCode`], [`Refusal::NoSuchSlot`].
 ///
 /// ```
 /// assert_eq!(belt::quantize_global_param(3, 0, 2, 65537), Ok(65538));
@@ -309,7 +374,11 @@ pub fn quantize_global_param(gm_type: u8, flag: u8, slot: u8, value: i32) -> Res
     judged(answer.refusal, answer.value)
 }
 
-/// Stores a frame's words as blocks of [`BLOCK_BYTES`]; answers how many. Rows 1, 12, 3.
+/// Stores a frame's words as blocks of [`BLOCK_BYTES`] ('Sample block'); answers how many.
+///
+/// # Errors
+///
+/// [`Refusal::TooLarge`], [`Refusal::NotRising`], [`Refusal::TooShort`].
 ///
 /// ```
 /// let mut block = [0; belt::BLOCK_BYTES];
@@ -321,24 +390,35 @@ pub fn quantize_global_param(gm_type: u8, flag: u8, slot: u8, value: i32) -> Res
 /// ```
 pub fn write_frame(frame: u16, words: &[u32], blocks: &mut [u8]) -> Result<usize, Refusal> {
     let stored = raw::write_frame(frame, words, blocks);
-    judged(stored.refusal, stored.blocks)
+    judged_lists(stored.refusal, stored.blocks, || [], || [Length::of("blocks", blocks, block_bytes(words.len()))])
 }
 
-/// Reads the frame that the bytes begin with; those after its last block aren't read. No bytes are frame 0 with no
-/// samples. Rows 9, 10, 11, 3.
+/// Reads the frame that the bytes begin with ('Sample block'); those after its last block aren't read. No bytes are
+/// frame 0 with no samples.
+///
+/// # Errors
+///
+/// [`Refusal::EndsFirst`], [`Refusal::WrongCheck`], [`Refusal::WrongBlock`], [`Refusal::TooShort`].
 pub fn read_frame(bytes: &[u8], words: &mut [u32]) -> Result<Frame, Refusal> {
     let read = raw::read_frame(bytes, words);
-    judged(read.refusal, Frame { number: read.frame, samples: read.samples })
+    // row 3 is judged last, so the blocks are right and the first one has the total
+    let total = || usize::from(u16::from_be_bytes([bytes[4], bytes[5]]));
+    let frame = Frame { number: read.frame, samples: read.samples };
+    judged_lists(read.refusal, frame, || [], || [Length::of("words", words, total())])
 }
 
-/// Judges the block that the bytes begin with, without its neighbours. Rows 9, 10, 11.
+/// Judges the block that the bytes begin with, without its neighbours ('Sample block').
+///
+/// # Errors
+///
+/// [`Refusal::EndsFirst`], [`Refusal::WrongCheck`], [`Refusal::WrongBlock`].
 pub fn judge_block(bytes: &[u8]) -> Result<Block, Refusal> {
     let read = raw::judge_block(bytes);
     judged(read.refusal, Block { frame: read.frame, ordinal: read.ordinal, count: read.count })
 }
 
-/// The text of the block that the bytes begin with, in the buffer: a line with frame, ordinal and count, and one
-/// for each word with row, column, v, u in eighths and class; or `refused` and the row.
+/// The text of the block that the bytes begin with ('Job'), in the buffer: a line with frame, ordinal and count, and
+/// one for each word with row, column, v, u in eighths and class; or `refused` and the row.
 ///
 /// ```
 /// let mut block = [0; belt::BLOCK_BYTES];
@@ -352,46 +432,71 @@ pub fn list_block<'a>(bytes: &[u8], text: &'a mut [u8; TEXT_BYTES]) -> &'a str {
     std::str::from_utf8(&text[..length]).expect("the text is ASCII")
 }
 
-/// Writes seven types and models, as stored, from bit 0 of `header` on; answers how many bits. The buffer needs the
-/// exact bytes; [`HEADER_BYTES`] are always enough. Rows 2, 4, 7, 8, 3.
+/// Writes seven types and models from bit 0 of `header` on ('Header'); answers how many bits. The buffer needs the
+/// exact bytes; [`HEADER_BYTES`] are always enough.
+///
+/// # Errors
+///
+/// [`Refusal::WrongLength`], [`Refusal::NoSuchCode`], [`Refusal::OffGrid`], [`Refusal::PriorOut`],
+/// [`Refusal::TooShort`].
 ///
 /// ```
-/// use belt::IDENTITIES;
+/// use belt::{IDENTITIES, StoredModel};
 ///
-/// let mut params = IDENTITIES;
-/// params[..2].copy_from_slice(&[8192, -8192]);
+/// let mut models = IDENTITIES;
+/// models[0] = StoredModel([8192, -8192, 65536, 0, 0, 65536]);
 /// let mut header = [0xFF; 4];
 /// let types = [1, 0, 0, 0, 0, 0, 0];
-/// assert_eq!(belt::encode_inter_global_motion(&types, &params, 1, &IDENTITIES, &mut header), Ok(17));
+/// assert_eq!(belt::encode_inter_global_motion(&types, &models, 1, &IDENTITIES, &mut header), Ok(17));
 /// assert_eq!(header, [0xA4, 0x20, 0x00, 0xFF]);
 /// ```
 pub fn encode_inter_global_motion(
     types: &[u8],
-    params: &[i32],
+    models: &[StoredModel],
     flag: u8,
-    prior: &[i32],
+    prior: &[StoredModel],
     header: &mut [u8],
 ) -> Result<usize, Refusal> {
-    let written = raw::encode_inter_global_motion(types, params, flag, prior, header);
-    judged(written.refusal, written.bits)
+    let (numbers, prior_numbers) = (raw::numbers(models), raw::numbers(prior));
+    let written = raw::encode_inter_global_motion(types, numbers, flag, prior_numbers, header);
+    // a header that was refused for its room alone, into room that is always enough
+    let wanted = || {
+        let mut room = [0; HEADER_BYTES];
+        raw::encode_inter_global_motion(types, numbers, flag, prior_numbers, &mut room).bits.div_ceil(8)
+    };
+    judged_lists(
+        written.refusal,
+        written.bits,
+        || [Length::of("types", types, 7), Length::of("models", models, 7), Length::of("prior", prior, 7)],
+        || [Length::of("header", header, wanted())],
+    )
 }
 
-/// Reads seven types and models, as stored, from bit `at` of `header` on. Rows 2, 4, 8, 9.
+/// Reads seven types and models from bit `at` of `header` on ('Reading by the standard').
+///
+/// # Errors
+///
+/// [`Refusal::WrongLength`], [`Refusal::NoSuchCode`], [`Refusal::PriorOut`], [`Refusal::EndsFirst`].
 ///
 /// ```
 /// let read = belt::read_global_motion_params(&[0xA4, 0x20, 0x00], 0, 1, &belt::IDENTITIES)?;
-/// assert_eq!((read.types[0], &read.params[..2], read.bits), (1, &[8192, -8192][..], 17));
+/// assert_eq!((read.types[0], read.bits), (1, 17));
+/// assert_eq!(read.models[0].0[..2], [8192, -8192]);
 /// # Ok::<(), belt::Refusal>(())
 /// ```
-pub fn read_global_motion_params(header: &[u8], at: usize, flag: u8, prior: &[i32]) -> Result<Models, Refusal> {
-    let read = raw::read_global_motion_params(header, at, flag, prior);
-    judged(read.refusal, Models { types: read.types, params: read.params, bits: read.bits })
+pub fn read_global_motion_params(header: &[u8], at: usize, flag: u8, prior: &[StoredModel]) -> Result<Models, Refusal> {
+    let read = raw::read_global_motion_params(header, at, flag, raw::numbers(prior));
+    let models = Models { types: read.types, models: read.params, bits: read.bits };
+    judged_lists(read.refusal, models, || [Length::of("prior", prior, 7)], || [])
 }
 
-/// Runs a whole job: search, fit, grid, score, blocks and header. Rows 1, 2, 4, 5, 7, 8, 3, 6.
+/// Runs a whole job: search, fit, grid, score, blocks and header ('Job'). The crate's head has an example.
 ///
-/// After [`Refusal::Singular`] the half planes and the words are in their buffers; blocks and header are as they
-/// were. The crate's head has an example.
+/// # Errors
+///
+/// [`Refusal::TooLarge`], [`Refusal::WrongLength`], [`Refusal::NoSuchCode`], [`Refusal::NoSuchSlot`],
+/// [`Refusal::OffGrid`], [`Refusal::PriorOut`], [`Refusal::TooShort`], [`Refusal::Singular`]. After the last the half
+/// planes and the words are in their buffers; blocks and header are as they were.
 pub fn job(task: &Task<'_>, lent: &mut Lent<'_>) -> Result<Report, Refusal> {
     let Settings { frame, gm_type, reference, flag } = task.settings;
     let report = raw::job(
@@ -402,8 +507,8 @@ pub fn job(task: &Task<'_>, lent: &mut Lent<'_>) -> Result<Report, Refusal> {
         raw::Settings { frame, gm_type, reference, flag },
         task.classes,
         task.types,
-        task.models,
-        task.prior,
+        raw::numbers(task.models),
+        raw::numbers(task.prior),
         lent.input_half,
         lent.ref_half,
         lent.words,
@@ -411,5 +516,20 @@ pub fn job(task: &Task<'_>, lent: &mut Lent<'_>) -> Result<Report, Refusal> {
         lent.header,
     );
     let raw::Report { refusal, types, models, score, bits, samples } = report;
-    judged(refusal, Report { types, models, score, bits, samples })
+    judged_lists(
+        refusal,
+        Report { types, models, score, bits, samples },
+        || {
+            let [input, reference, classes] = planes(task.input, task.reference, task.classes, task.width, task.height);
+            let types = Length::of("types", task.types, 6);
+            let models = Length::of("models", task.models, 6);
+            [input, reference, classes, types, models, Length::of("prior", task.prior, 7)]
+        },
+        || {
+            let [input_half, ref_half, words] =
+                rooms(lent.input_half, lent.ref_half, lent.words, task.width, task.height);
+            let blocks = Length::of("blocks", lent.blocks, block_bytes(words.wanted));
+            [input_half, ref_half, words, blocks, Length::of("header", lent.header, HEADER_BYTES)]
+        },
+    )
 }

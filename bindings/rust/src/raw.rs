@@ -10,6 +10,8 @@
 //!
 //! The comment at each call says what is particular to it.
 
+use crate::model::{Model, StoredModel};
+
 /// The count of bytes that `list_block` may write.
 pub const TEXT_BYTES: usize = 4096;
 
@@ -28,7 +30,7 @@ pub struct FitAnswer {
 #[repr(C)]
 pub struct QuantizedModel {
     pub refusal: u32,
-    pub params: [i32; 6],
+    pub params: Model,
 }
 
 #[repr(C)]
@@ -74,7 +76,7 @@ pub struct Written {
 pub struct Models {
     pub refusal: u32,
     pub types: [u8; 7],
-    pub params: [i32; 42],
+    pub params: [StoredModel; 7],
     pub bits: usize,
 }
 
@@ -90,7 +92,7 @@ pub struct Settings {
 pub struct Report {
     pub refusal: u32,
     pub types: [u8; 7],
-    pub models: [i32; 42],
+    pub models: [StoredModel; 7],
     pub score: f64,
     pub bits: usize,
     pub samples: usize,
@@ -117,7 +119,7 @@ unsafe extern "C" {
     fn belt_fit_rotzoom(words: *const u32, count: usize) -> FitAnswer;
     fn belt_fit_affine(words: *const u32, count: usize) -> FitAnswer;
     fn belt_quantize_model(
-        kind: u8,
+        gm_type: u8,
         numbers: *const [f64; 6],
         flag: u8,
         words: *const u32,
@@ -177,6 +179,13 @@ unsafe extern "C" {
     ) -> Report;
 }
 
+/// The numbers of some models, one after the other.
+pub fn numbers(models: &[StoredModel]) -> &[i32] {
+    let count = size_of_val(models) / size_of::<i32>();
+    // SAFETY: a model is transparent over six i32, so the same memory is that many of them, for the same lifetime.
+    unsafe { std::slice::from_raw_parts(models.as_ptr().cast(), count) }
+}
+
 #[allow(clippy::too_many_arguments)]
 pub fn collect_motion_samples(
     input_y: &[u16],
@@ -225,9 +234,9 @@ pub fn fit_affine(words: &[u32]) -> FitAnswer {
     unsafe { belt_fit_affine(words.as_ptr(), words.len()) }
 }
 
-pub fn quantize_model(kind: u8, numbers: &[f64; 6], flag: u8, words: &[u32]) -> QuantizedModel {
+pub fn quantize_model(gm_type: u8, numbers: &[f64; 6], flag: u8, words: &[u32]) -> QuantizedModel {
     // SAFETY: the six numbers and one slice are read; the array's type holds its length.
-    unsafe { belt_quantize_model(kind, numbers, flag, words.as_ptr(), words.len()) }
+    unsafe { belt_quantize_model(gm_type, numbers, flag, words.as_ptr(), words.len()) }
 }
 
 pub fn mean_sq_residual(params: &[i32; 6], words: &[u32]) -> Score {

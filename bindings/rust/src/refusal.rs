@@ -1,90 +1,133 @@
-//! The table of refusals (document 01, 'When a call says no').
+//! The table of refusals (docs/RULES.md, 'When a call says no').
 
 use std::error::Error;
 use std::fmt;
 
-/// A row of the table, in the order in which rows are judged.
+/// A row of the table, in the order in which rows are judged. Where a list or a buffer has the wrong length, it says
+/// which and what is wanted.
 #[derive(Clone, Copy, Debug, PartialEq, Eq, Hash)]
-#[repr(u8)]
 pub enum Refusal {
     /// 1: side over 1,024, or over 4,096 samples.
-    TooLarge = 1,
+    TooLarge,
     /// 2: plane, class, type, model or prior list of wrong length.
-    WrongLength = 2,
+    WrongLength(Length),
     /// 4: type, class or flag code out of range; type 0 for a fit.
-    NoSuchCode = 4,
+    NoSuchCode,
     /// 5: slot over 5, reference outside 1 to 7.
-    NoSuchSlot = 5,
+    NoSuchSlot,
     /// 7: model off the grid, uncarried slot or pair wrong.
-    OffGrid = 7,
+    OffGrid,
     /// 8: prior out of range.
-    PriorOut = 8,
+    PriorOut,
     /// 12: words to store out of range or not rising.
-    NotRising = 12,
+    NotRising,
     /// 3: output or working buffer too short.
-    TooShort = 3,
+    TooShort(Length),
     /// 6: elimination refuses.
-    Singular = 6,
+    Singular,
     /// 9: bytes end before the last bit or block.
-    EndsFirst = 9,
+    EndsFirst,
     /// 10: block check wrong.
-    WrongCheck = 10,
+    WrongCheck,
     /// 11: block field, filler or sequence wrong.
-    WrongBlock = 11,
+    WrongBlock,
+}
+
+/// A list or a lent buffer, the elements that it has, and those that are wanted: of a buffer, at least so many.
+#[derive(Clone, Copy, Debug, PartialEq, Eq, Hash)]
+pub struct Length {
+    /// The name of the argument.
+    pub name: &'static str,
+    /// How many elements it has.
+    pub given: usize,
+    /// How many are wanted.
+    pub wanted: usize,
+}
+
+impl Length {
+    pub(crate) fn of<T>(name: &'static str, list: &[T], wanted: usize) -> Self {
+        Self { name, given: list.len(), wanted }
+    }
+
+    /// Where the caller's lists are all right by what this crate knows.
+    const UNNAMED: Self = Self { name: "a list", given: 0, wanted: 0 };
 }
 
 impl Refusal {
-    /// Every row, in the table's order.
-    pub const TABLE: [Refusal; 12] = [
-        Refusal::TooLarge,
-        Refusal::WrongLength,
-        Refusal::NoSuchCode,
-        Refusal::NoSuchSlot,
-        Refusal::OffGrid,
-        Refusal::PriorOut,
-        Refusal::NotRising,
-        Refusal::TooShort,
-        Refusal::Singular,
-        Refusal::EndsFirst,
-        Refusal::WrongCheck,
-        Refusal::WrongBlock,
+    /// Every row's number and condition, in the table's order.
+    pub const TABLE: [(u32, &str); 12] = [
+        (1, "side over 1,024, or over 4,096 samples"),
+        (2, "plane, class, type, model or prior list of wrong length"),
+        (4, "type, class or flag code out of range; type 0 for a fit"),
+        (5, "slot over 5, reference outside 1 to 7"),
+        (7, "model off the grid, uncarried slot or pair wrong"),
+        (8, "prior out of range"),
+        (12, "words to store out of range or not rising"),
+        (3, "output or working buffer too short"),
+        (6, "elimination refuses"),
+        (9, "bytes end before the last bit or block"),
+        (10, "block check wrong"),
+        (11, "block field, filler or sequence wrong"),
     ];
-
-    /// The row of a number.
-    pub fn of_number(number: u32) -> Option<Refusal> {
-        Self::TABLE.into_iter().find(|row| row.number() == number)
-    }
 
     /// The row's number.
     pub fn number(self) -> u32 {
-        self as u32
+        match self {
+            Refusal::TooLarge => 1,
+            Refusal::WrongLength(_) => 2,
+            Refusal::NoSuchCode => 4,
+            Refusal::NoSuchSlot => 5,
+            Refusal::OffGrid => 7,
+            Refusal::PriorOut => 8,
+            Refusal::NotRising => 12,
+            Refusal::TooShort(_) => 3,
+            Refusal::Singular => 6,
+            Refusal::EndsFirst => 9,
+            Refusal::WrongCheck => 10,
+            Refusal::WrongBlock => 11,
+        }
     }
 
     /// The row's condition.
     pub fn condition(self) -> &'static str {
-        match self {
-            Refusal::TooLarge => "side over 1,024, or over 4,096 samples",
-            Refusal::WrongLength => "plane, class, type, model or prior list of wrong length",
-            Refusal::NoSuchCode => "type, class or flag code out of range; type 0 for a fit",
-            Refusal::NoSuchSlot => "slot over 5, reference outside 1 to 7",
-            Refusal::OffGrid => "model off the grid, uncarried slot or pair wrong",
-            Refusal::PriorOut => "prior out of range",
-            Refusal::NotRising => "words to store out of range or not rising",
-            Refusal::TooShort => "output or working buffer too short",
-            Refusal::Singular => "elimination refuses",
-            Refusal::EndsFirst => "bytes end before the last bit or block",
-            Refusal::WrongCheck => "block check wrong",
-            Refusal::WrongBlock => "block field, filler or sequence wrong",
-        }
+        let row = Self::TABLE.into_iter().find(|&(number, _)| number == self.number());
+        row.expect("the table has every row").1
+    }
+
+    /// The row of a number; of two rows with lengths, the one that is wrong.
+    fn of_number(number: u32, length: Length) -> Option<Refusal> {
+        Some(match number {
+            1 => Refusal::TooLarge,
+            2 => Refusal::WrongLength(length),
+            4 => Refusal::NoSuchCode,
+            5 => Refusal::NoSuchSlot,
+            7 => Refusal::OffGrid,
+            8 => Refusal::PriorOut,
+            12 => Refusal::NotRising,
+            3 => Refusal::TooShort(length),
+            6 => Refusal::Singular,
+            9 => Refusal::EndsFirst,
+            10 => Refusal::WrongCheck,
+            11 => Refusal::WrongBlock,
+            _ => return None,
+        })
     }
 }
 
 /// ```
-/// assert_eq!(belt::Refusal::TooShort.to_string(), "3: output or working buffer too short");
+/// let error = belt::write_frame(5, &[0x0006_FB7C], &mut [0; 511]).unwrap_err();
+/// assert_eq!(error.to_string(), "3: output or working buffer too short: blocks has 511 elements, 512 are wanted");
 /// ```
 impl fmt::Display for Refusal {
     fn fmt(&self, f: &mut fmt::Formatter<'_>) -> fmt::Result {
-        write!(f, "{}: {}", self.number(), self.condition())
+        write!(f, "{}: {}", self.number(), self.condition())?;
+        match self {
+            Refusal::WrongLength(Length { name, given, wanted })
+            | Refusal::TooShort(Length { name, given, wanted }) => {
+                write!(f, ": {name} has {given} elements, {wanted} are wanted")
+            }
+            _ => Ok(()),
+        }
     }
 }
 
@@ -92,8 +135,23 @@ impl Error for Refusal {}
 
 /// The value of a call that refused nothing.
 pub(crate) fn judged<T>(number: u32, value: T) -> Result<T, Refusal> {
-    match number {
-        0 => Ok(value),
-        _ => Err(Refusal::of_number(number).expect("the library refuses with a row of the table")),
-    }
+    judged_lists(number, value, || [], || [])
+}
+
+/// The same for a call that judges lists (row 2) and lent buffers (row 3): their lengths, in the order of the call.
+/// They are looked at only where the row is theirs.
+pub(crate) fn judged_lists<T, const N: usize, const M: usize>(
+    number: u32,
+    value: T,
+    lists: impl FnOnce() -> [Length; N],
+    buffers: impl FnOnce() -> [Length; M],
+) -> Result<T, Refusal> {
+    let wrong = match number {
+        0 => return Ok(value),
+        2 => lists().into_iter().find(|list| list.given != list.wanted),
+        3 => buffers().into_iter().find(|buffer| buffer.given < buffer.wanted),
+        _ => None,
+    };
+    let refusal = Refusal::of_number(number, wrong.unwrap_or(Length::UNNAMED));
+    Err(refusal.expect("the library refuses with a row of the table"))
 }

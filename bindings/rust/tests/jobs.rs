@@ -2,21 +2,15 @@
 
 mod frames;
 
-use belt::{BLOCK_BYTES, BLOCK_WORDS, Buffers, Fitted, Frame, Refusal, Report, TEXT_BYTES, sample_count};
+use belt::{
+    BLOCK_BYTES, BLOCK_WORDS, Buffers, Fitted, Frame, Model, Refusal, Report, StoredModel, TEXT_BYTES, sample_count,
+};
 use frames::{Handed, guarded, moved, noisy_plane, smooth_plane};
 
 const STILL: [f64; 6] = [0.0, 0.0, 1.0, 0.0, 0.0, 1.0];
 
-/// Slots 0 and 1 of a translation exchanged, as a header stores them.
-fn stored(kind: u8, mut model: [i32; 6]) -> [i32; 6] {
-    if kind == 1 {
-        model.swap(0, 1);
-    }
-    model
-}
-
-fn fit(kind: u8, words: &[u32]) -> Result<Fitted, Refusal> {
-    [belt::fit_translation, belt::fit_rotzoom, belt::fit_affine][usize::from(kind) - 1](words)
+fn fit(gm_type: u8, words: &[u32]) -> Result<Fitted, Refusal> {
+    [belt::fit_translation, belt::fit_rotzoom, belt::fit_affine][usize::from(gm_type) - 1](words)
 }
 
 /// Runs an accepted job and holds it against the single calls, what reads back, and the guards.
@@ -52,19 +46,20 @@ fn run(handed: &Handed) -> (Report, Buffers) {
     let fitted = fit(settings.gm_type, words).expect("the words have a fit");
     let model = belt::quantize_model(&fitted, settings.flag, words).unwrap();
     let place = usize::from(settings.reference) - 1;
-    assert_eq!(report.models[6 * place..6 * place + 6], stored(settings.gm_type, model));
+    assert_eq!(report.models[place], model.row_first(settings.gm_type));
+    assert_eq!(report.models[place].x_first(settings.gm_type), model);
     assert_eq!(report.score, belt::mean_sq_residual(&model, words).unwrap());
 
     // the six others keep their order
     let mut types = handed.types.clone();
     types.insert(place, settings.gm_type);
     assert_eq!(report.types[..], types);
-    let others = [&report.models[..6 * place], &report.models[6 * place + 6..]].concat();
+    let others = [&report.models[..place], &report.models[place + 1..]].concat();
     assert_eq!(others, handed.models);
 
     // the header reads back as the report, and nothing behind its last byte is written
     let read = belt::read_global_motion_params(&after.header, 0, settings.flag, &handed.prior).unwrap();
-    assert_eq!((read.types, read.params, read.bits), (report.types, report.models, report.bits));
+    assert_eq!((read.types, read.models, read.bits), (report.types, report.models, report.bits));
     let bytes = report.bits.div_ceil(8);
     assert_eq!(after.header[bytes..], before.header[bytes..]);
     let padding = 8 * bytes - report.bits;
@@ -107,19 +102,23 @@ fn a_translation_by_whole_pels_is_found_exactly() {
             assert_eq!(*word, row << 26 | column << 20 | v << 11 | u << 2 | class, "sample {i} of {dy}, {dx}");
         }
         let whole = |pels: i64| pels as i32 * 65536;
-        assert_eq!(report.models[12..18], [whole(dy), whole(dx), 65536, 0, 0, 65536]);
+        assert_eq!(report.models[2], StoredModel([whole(dy), whole(dx), 65536, 0, 0, 65536]));
         assert_eq!(report.score, 0.0);
+        let model = report.models[2].x_first(1);
+        assert_eq!((model.shift().v, model.shift().u), (dy as f64, dx as f64));
+        assert_eq!((model.zoom(), model.degrees()), (1.0, 0.0));
+        assert_eq!(model.agreeing(&left.words[..30], 0.0), 30);
     }
 }
 
 #[test]
 fn rotation_zooms_and_affine_motions_read_back() {
-    for kind in 1..=3 {
+    for gm_type in 1..=3 {
         for motion in [[3.0, -2.0, 1.01, 0.02, -0.02, 1.01], [-1.5, 2.25, 0.98, 0.01, 0.03, 1.02], STILL] {
             for reference in [1, 4, 7] {
                 for flag in [0, 1] {
                     let planes = (smooth_plane(112, 80, motion), smooth_plane(112, 80, STILL));
-                    let mut handed = Handed::new(planes.0, planes.1, 112, 80, kind);
+                    let mut handed = Handed::new(planes.0, planes.1, 112, 80, gm_type);
                     handed.settings.reference = reference;
                     handed.settings.flag = flag;
                     run(&handed);
@@ -133,9 +132,46 @@ fn rotation_zooms_and_affine_motions_read_back() {
 fn a_zoom_is_near_what_was_drawn() {
     let planes = (smooth_plane(208, 208, [0.0, 0.0, 1.02, 0.0, 0.0, 1.02]), smooth_plane(208, 208, STILL));
     let (report, _) = run(&Handed::new(planes.0, planes.1, 208, 208, 2));
-    let zoom = f64::from(report.models[14]) / 65536.0;
-    assert!((zoom - 1.02).abs() < 0.005, "{zoom}");
-    assert_eq!((report.models[16], report.models[17]), (-report.models[15], report.models[14]));
+    let model = report.models[2].x_first(2);
+    assert!((model.zoom() - 1.02).abs() < 0.005, "{model:?}");
+    assert_eq!((model.0[4], model.0[5]), (-model.0[3], model.0[2]));
+}
+
+#[test]
+fn a_turn_is_near_what_was_drawn() {
+    let (sine, cosine) = 1.0f64.to_radians().sin_cos();
+    let turned = smooth_plane(208, 208, [0.0, 0.0, cosine, -sine, sine, cosine]);
+    for gm_type in [2, 3] {
+        let handed = Handed::new(turned.clone(), smooth_plane(208, 208, STILL), 208, 208, gm_type);
+        let (report, left) = run(&handed);
+        let model = report.models[2].x_first(gm_type);
+        assert!((model.degrees() - 1.0).abs() < 0.1, "{model:?}");
+        assert!((model.zoom() - 1.0).abs() < 0.005, "{model:?}");
+        assert!(model.agreeing(&left.words[..report.samples], 0.5) > report.samples / 2);
+    }
+}
+
+#[test]
+fn a_pan_beyond_the_range_is_seen_by_what_agrees() {
+    let reference = noisy_plane(320, 160);
+    let agreeing = |dx: i64| {
+        let input = moved(&reference, 320, 160, 0, dx);
+        let (report, left) = run(&Handed::new(input, reference.clone(), 320, 160, 1));
+        report.models[2].x_first(1).agreeing(&left.words[..report.samples], 0.25)
+    };
+    assert!(agreeing(20) >= 150, "of 200 blocks nearly all");
+    assert!(agreeing(40) <= 50, "of 200 blocks few");
+}
+
+#[test]
+fn the_two_orders_differ_for_a_translation_alone() {
+    let numbers = [1, 2, 3, 4, 5, 6];
+    for gm_type in 0..=3 {
+        let first = if gm_type == 1 { [2, 1] } else { [1, 2] };
+        assert_eq!(Model(numbers).row_first(gm_type).0[..2], first);
+        assert_eq!(Model(numbers).row_first(gm_type).0[2..], numbers[2..]);
+        assert_eq!(Model(numbers).row_first(gm_type).x_first(gm_type), Model(numbers));
+    }
 }
 
 #[test]
@@ -146,8 +182,8 @@ fn other_models_and_priors_are_carried() {
     let affine = [1024, -2048, 65538, 2, -4, 65534];
     let rotzoom = [-1024, 2048, 65546, -6, 6, 65546];
     let translation = [8192, -16384, 65536, 0, 0, 65536];
-    handed.models = [affine, rotzoom, translation, belt::IDENTITY, translation, affine].concat();
-    handed.prior = (0..42).map(|i| belt::IDENTITY[i % 6] + [4_000_000, -77, 8192, -8192, 5, -8192][i % 6]).collect();
+    handed.models = [affine, rotzoom, translation, Model::IDENTITY.0, translation, affine].map(StoredModel).to_vec();
+    handed.prior = vec![StoredModel([4_000_000, -77, 65536 + 8192, -8192, 5, 65536 - 8192]); 7];
     run(&handed);
 }
 
@@ -167,5 +203,5 @@ fn a_plane_without_a_whole_block_touches_no_working_memory() {
     assert_eq!((report.samples, report.score), (0, 0.0));
     assert_eq!(Buffers { header: before.header.clone(), ..after.clone() }, before);
     let read = belt::read_global_motion_params(&after.header, 0, 1, &handed.prior).unwrap();
-    assert_eq!((read.types, read.params, read.bits), (report.types, report.models, report.bits));
+    assert_eq!((read.types, read.models, read.bits), (report.types, report.models, report.bits));
 }

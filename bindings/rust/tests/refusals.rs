@@ -3,7 +3,7 @@
 mod frames;
 
 use belt::Refusal::{self, *};
-use belt::{Buffers, Fitted, IDENTITIES, IDENTITY};
+use belt::{Buffers, Fitted, IDENTITIES, Length, Model, StoredModel};
 use frames::{Handed, guarded, noisy_plane};
 
 /// Words that rise, at zero motion.
@@ -12,14 +12,27 @@ fn words(count: usize) -> Vec<u32> {
 }
 
 #[test]
-fn the_table_is_document_01_s() {
-    let numbers = Refusal::TABLE.map(Refusal::number);
+fn the_table_is_that_of_the_rules() {
+    let numbers = Refusal::TABLE.map(|(number, _)| number);
     assert_eq!(numbers, [1, 2, 4, 5, 7, 8, 12, 3, 6, 9, 10, 11]);
-    for row in Refusal::TABLE {
-        assert_eq!(Refusal::of_number(row.number()), Some(row));
+    for row in [TooLarge, NoSuchCode, NoSuchSlot, OffGrid, PriorOut, NotRising, Singular] {
         assert_eq!(row.to_string(), format!("{}: {}", row.number(), row.condition()));
     }
-    assert_eq!((Refusal::of_number(0), Refusal::of_number(13)), (None, None));
+    for row in [EndsFirst, WrongCheck, WrongBlock] {
+        assert!(Refusal::TABLE.contains(&(row.number(), row.condition())));
+    }
+    let rules = include_str!("../../../docs/RULES.md");
+    for (number, condition) in Refusal::TABLE {
+        assert!(rules.contains(&format!("| {number} | {condition} |")), "row {number}");
+    }
+}
+
+fn short(name: &'static str, given: usize, wanted: usize) -> Refusal {
+    TooShort(Length { name, given, wanted })
+}
+
+fn wrong(name: &'static str, given: usize, wanted: usize) -> Refusal {
+    WrongLength(Length { name, given, wanted })
 }
 
 /// A job, its room, and a change of either.
@@ -36,21 +49,21 @@ fn room(buffers: &mut Buffers) {
 
 #[test]
 fn job() {
-    let changes: &[(Refusal, Change)] = &[
+    let changes: Vec<(Refusal, Change)> = vec![
         (TooLarge, |h, _| h.width = 1025),
         (TooLarge, |h, _| h.height = 1025),
         (TooLarge, |h, _| (h.width, h.height) = (usize::MAX, usize::MAX)),
-        (WrongLength, |h, _| h.width = 47),
-        (WrongLength, |h, _| h.input.truncate(48 * 32 - 1)),
-        (WrongLength, |h, _| h.input.push(0)),
-        (WrongLength, |h, _| h.reference.truncate(48 * 32 - 1)),
-        (WrongLength, |h, _| h.reference.clear()),
-        (WrongLength, |h, _| h.classes.truncate(5)),
-        (WrongLength, |h, _| h.classes.push(0)),
-        (WrongLength, |h, _| h.types.truncate(5)),
-        (WrongLength, |h, _| h.types.push(0)),
-        (WrongLength, |h, _| h.models.truncate(35)),
-        (WrongLength, |h, _| h.prior.truncate(41)),
+        (wrong("input", 1536, 1504), |h, _| h.width = 47),
+        (wrong("input", 1535, 1536), |h, _| h.input.truncate(48 * 32 - 1)),
+        (wrong("input", 1537, 1536), |h, _| h.input.push(0)),
+        (wrong("reference", 1535, 1536), |h, _| h.reference.truncate(48 * 32 - 1)),
+        (wrong("reference", 0, 1536), |h, _| h.reference.clear()),
+        (wrong("classes", 5, 6), |h, _| h.classes.truncate(5)),
+        (wrong("classes", 7, 6), |h, _| h.classes.push(0)),
+        (wrong("types", 5, 6), |h, _| h.types.truncate(5)),
+        (wrong("types", 7, 6), |h, _| h.types.push(0)),
+        (wrong("models", 5, 6), |h, _| h.models.truncate(5)),
+        (wrong("prior", 6, 7), |h, _| h.prior.truncate(6)),
         (NoSuchCode, |h, _| h.classes[5] = 4),
         (NoSuchCode, |h, _| h.settings.gm_type = 0),
         (NoSuchCode, |h, _| h.settings.gm_type = 4),
@@ -59,22 +72,22 @@ fn job() {
         (NoSuchCode, |h, _| h.types[5] = 4),
         (NoSuchSlot, |h, _| h.settings.reference = 0),
         (NoSuchSlot, |h, _| h.settings.reference = 8),
-        (OffGrid, |h, _| h.models[0] = 1),
-        (OffGrid, |h, _| h.models[35] = 65538),
-        (OffGrid, |h, _| (h.types[1], h.models[8]) = (3, 65537)),
-        (OffGrid, |h, _| (h.types[1], h.models[9]) = (2, 2)),
-        (PriorOut, |h, _| h.prior[3] = 8193),
-        (PriorOut, |h, _| h.prior[4] = -8193),
-        (PriorOut, |h, _| h.prior[36] = 4_194_305),
-        (PriorOut, |h, _| h.prior[37] = i32::MIN),
-        (PriorOut, |h, _| h.prior[2] = 65536 + 8193),
-        (PriorOut, |h, _| h.prior[5] = 65536 - 8193),
-        (TooShort, |_, b| b.input_half.truncate(383)),
-        (TooShort, |_, b| b.ref_half.truncate(383)),
-        (TooShort, |_, b| b.words.truncate(5)),
-        (TooShort, |_, b| b.blocks.truncate(511)),
-        (TooShort, |_, b| b.header.truncate(123)),
-        (TooShort, |_, b| b.header.clear()),
+        (OffGrid, |h, _| h.models[0].0[0] = 1),
+        (OffGrid, |h, _| h.models[5].0[5] = 65538),
+        (OffGrid, |h, _| (h.types[1], h.models[1].0[2]) = (3, 65537)),
+        (OffGrid, |h, _| (h.types[1], h.models[1].0[3]) = (2, 2)),
+        (PriorOut, |h, _| h.prior[0].0[3] = 8193),
+        (PriorOut, |h, _| h.prior[0].0[4] = -8193),
+        (PriorOut, |h, _| h.prior[6].0[0] = 4_194_305),
+        (PriorOut, |h, _| h.prior[6].0[1] = i32::MIN),
+        (PriorOut, |h, _| h.prior[0].0[2] = 65536 + 8193),
+        (PriorOut, |h, _| h.prior[0].0[5] = 65536 - 8193),
+        (short("input_half", 383, 384), |_, b| b.input_half.truncate(383)),
+        (short("ref_half", 383, 384), |_, b| b.ref_half.truncate(383)),
+        (short("words", 5, 6), |_, b| b.words.truncate(5)),
+        (short("blocks", 511, 512), |_, b| b.blocks.truncate(511)),
+        (short("header", 123, 124), |_, b| b.header.truncate(123)),
+        (short("header", 0, 124), |_, b| b.header.clear()),
     ];
     let handed = Handed::new(noisy_plane(48, 32), noisy_plane(48, 32), 48, 32, 1);
     let mut exact = guarded(48, 32);
@@ -89,12 +102,13 @@ fn job() {
     }
     // of two rows that both hold, the earlier in the table
     for (i, (first, change)) in changes.iter().enumerate() {
-        for (second, other) in changes[i..].iter().filter(|(second, _)| second != first) {
+        for (second, other) in changes[i..].iter().filter(|(second, _)| second.number() != first.number()) {
             let (mut handed, mut before) = (handed.clone(), exact.clone());
             other(&mut handed, &mut before);
             change(&mut handed, &mut before);
             let mut after = before.clone();
-            assert_eq!(belt::job(&handed.task(), &mut after.lend()), Err(*first), "change {i} and then {second}");
+            let answer = belt::job(&handed.task(), &mut after.lend()).map_err(Refusal::number);
+            assert_eq!(answer, Err(first.number()), "change {i} and then {second}");
             assert_eq!(after, before);
         }
     }
@@ -102,8 +116,8 @@ fn job() {
 
 #[test]
 fn a_singular_job_leaves_the_search_alone_behind() {
-    for kind in [2, 3] {
-        let handed = Handed::new(noisy_plane(16, 16), noisy_plane(16, 16), 16, 16, kind);
+    for gm_type in [2, 3] {
+        let handed = Handed::new(noisy_plane(16, 16), noisy_plane(16, 16), 16, 16, gm_type);
         let before = guarded(16, 16);
         let mut after = before.clone();
         assert_eq!(belt::job(&handed.task(), &mut after.lend()), Err(Singular));
@@ -122,7 +136,7 @@ fn a_singular_job_leaves_the_search_alone_behind() {
         assert_ne!(search, before);
         assert_eq!(after, search);
         // with no samples row 6 touches nothing
-        let handed = Handed::new(noisy_plane(15, 16), noisy_plane(15, 16), 15, 16, kind);
+        let handed = Handed::new(noisy_plane(15, 16), noisy_plane(15, 16), 15, 16, gm_type);
         let mut after = before.clone();
         assert_eq!(belt::job(&handed.task(), &mut after.lend()), Err(Singular));
         assert_eq!(after, before);
@@ -146,13 +160,13 @@ fn search() {
     let enough = [384, 384, 6];
     call(48, 1536, 1536, &[3; 6], enough, Ok(6));
     call(1025, 1536, 1536, &[0; 6], enough, Err(TooLarge));
-    call(48, 1535, 1536, &[0; 6], enough, Err(WrongLength));
-    call(48, 1536, 1535, &[0; 6], enough, Err(WrongLength));
-    call(48, 1536, 1536, &[0; 5], enough, Err(WrongLength));
+    call(48, 1535, 1536, &[0; 6], enough, Err(wrong("input", 1535, 1536)));
+    call(48, 1536, 1535, &[0; 6], enough, Err(wrong("reference", 1535, 1536)));
+    call(48, 1536, 1536, &[0; 5], enough, Err(wrong("classes", 5, 6)));
     call(48, 1536, 1536, &[0, 0, 0, 0, 0, 4], enough, Err(NoSuchCode));
-    call(48, 1536, 1536, &[0; 6], [383, 384, 6], Err(TooShort));
-    call(48, 1536, 1536, &[0; 6], [384, 383, 6], Err(TooShort));
-    call(48, 1536, 1536, &[0; 6], [384, 384, 5], Err(TooShort));
+    call(48, 1536, 1536, &[0; 6], [383, 384, 6], Err(short("input_half", 383, 384)));
+    call(48, 1536, 1536, &[0; 6], [384, 383, 6], Err(short("ref_half", 383, 384)));
+    call(48, 1536, 1536, &[0; 6], [384, 384, 5], Err(short("words", 5, 6)));
 }
 
 #[test]
@@ -168,18 +182,18 @@ fn fits_and_scores() {
         assert_eq!(belt::fit_rotzoom(few), Err(Singular));
         assert_eq!(belt::fit_affine(few), Err(Singular));
     }
-    assert_eq!(belt::mean_sq_residual(&IDENTITY, &many), Err(TooLarge));
-    assert_eq!(belt::mean_sq_residual(&IDENTITY, &[]), Ok(0.0));
-    assert_eq!(belt::mean_sq_residual(&[65536, 0, 65536, 0, 0, 65536], &many[..3]), Ok(1.0));
+    assert_eq!(belt::mean_sq_residual(&Model::IDENTITY, &many), Err(TooLarge));
+    assert_eq!(belt::mean_sq_residual(&Model::IDENTITY, &[]), Ok(0.0));
+    assert_eq!(belt::mean_sq_residual(&Model([65536, 0, 65536, 0, 0, 65536]), &many[..3]), Ok(1.0));
 
-    let fitted = |kind| Fitted { kind, numbers: [0.0, 0.0, 1.0, 0.0, 0.0, 1.0] };
+    let fitted = |gm_type| Fitted { gm_type, numbers: [0.0, 0.0, 1.0, 0.0, 0.0, 1.0] };
     assert_eq!(belt::quantize_model(&fitted(3), 1, &many), Err(TooLarge));
     assert_eq!(belt::quantize_model(&fitted(0), 1, &many[..9]), Err(NoSuchCode));
     assert_eq!(belt::quantize_model(&fitted(4), 1, &many[..9]), Err(NoSuchCode));
     assert_eq!(belt::quantize_model(&fitted(3), 2, &many[..9]), Err(NoSuchCode));
     assert_eq!(belt::quantize_model(&fitted(4), 2, &many), Err(TooLarge));
-    for kind in 1..=3 {
-        assert_eq!(belt::quantize_model(&fitted(kind), 1, &many[..9]), Ok(IDENTITY));
+    for gm_type in 1..=3 {
+        assert_eq!(belt::quantize_model(&fitted(gm_type), 1, &many[..9]), Ok(Model::IDENTITY));
     }
 }
 
@@ -220,8 +234,8 @@ fn frames_stored_and_read() {
     store(&[good[1], good[0]], 512, Err(NotRising));
     store(&[good[1], good[1]], 512, Err(NotRising));
     store(&[good[1], good[1]], 0, Err(NotRising));
-    store(&good, 1023, Err(TooShort));
-    store(&good[..1], 511, Err(TooShort));
+    store(&good, 1023, Err(short("blocks", 1023, 1024)));
+    store(&good[..1], 511, Err(short("blocks", 511, 512)));
     store(&[], 0, Ok(0));
     let blocks = store(&good, 1024, Ok(2));
 
@@ -235,7 +249,7 @@ fn frames_stored_and_read() {
     };
     assert_eq!(read(&blocks, 127, Ok(126))[..126], good);
     assert_eq!(read(&blocks, 127, Ok(126))[126], 0xEEEE_EEEE);
-    read(&blocks, 125, Err(TooShort));
+    read(&blocks, 125, Err(short("words", 125, 126)));
     read(&blocks[..1023], 126, Err(EndsFirst));
     read(&blocks[..512], 126, Err(EndsFirst));
     read(&[0; 511], 126, Err(EndsFirst));
@@ -266,9 +280,10 @@ fn frames_stored_and_read() {
 #[test]
 fn headers_written_and_read() {
     let mut params = IDENTITIES;
-    params[..2].copy_from_slice(&[8192, -8192]);
+    params[0].0[..2].copy_from_slice(&[8192, -8192]);
     let types = [1, 0, 0, 0, 0, 0, 0];
-    let write = |types: &[u8], params: &[i32], flag, prior: &[i32], room: usize, row: Result<usize, Refusal>| {
+    type Stored<'a> = &'a [StoredModel];
+    let write = |types: &[u8], params: Stored, flag, prior: Stored, room: usize, row: Result<usize, Refusal>| {
         let mut header = vec![0xEE; room];
         assert_eq!(belt::encode_inter_global_motion(types, params, flag, prior, &mut header), row);
         if row.is_err() {
@@ -278,30 +293,30 @@ fn headers_written_and_read() {
     };
     let changed = |at: usize, value: i32| {
         let mut numbers = IDENTITIES;
-        numbers[at] = value;
+        numbers[at / 6].0[at % 6] = value;
         numbers
     };
     assert_eq!(write(&types, &params, 1, &IDENTITIES, 5, Ok(17)), [0xA4, 0x20, 0x00, 0xEE, 0xEE]);
-    write(&types[..6], &params, 1, &IDENTITIES, 3, Err(WrongLength));
-    write(&types, &params[..41], 1, &IDENTITIES, 3, Err(WrongLength));
-    write(&types, &params, 1, &IDENTITIES[..41], 3, Err(WrongLength));
+    write(&types[..6], &params, 1, &IDENTITIES, 3, Err(wrong("types", 6, 7)));
+    write(&types, &params[..6], 1, &IDENTITIES, 3, Err(wrong("models", 6, 7)));
+    write(&types, &params, 1, &IDENTITIES[..6], 3, Err(wrong("prior", 6, 7)));
     write(&[1, 0, 0, 0, 0, 0, 4], &params, 1, &IDENTITIES, 3, Err(NoSuchCode));
     write(&types, &params, 2, &IDENTITIES, 3, Err(NoSuchCode));
     write(&[3, 0, 0, 0, 0, 0, 0], &changed(2, 65537), 1, &IDENTITIES, 30, Err(OffGrid));
     write(&[0; 7], &params, 1, &IDENTITIES, 3, Err(OffGrid));
     write(&[2, 0, 0, 0, 0, 0, 0], &changed(3, 2), 1, &IDENTITIES, 30, Err(OffGrid));
     write(&types, &params, 1, &changed(3, 8193), 3, Err(PriorOut));
-    write(&types, &params, 1, &IDENTITIES, 2, Err(TooShort));
-    write(&types, &params, 1, &IDENTITIES, 0, Err(TooShort));
+    write(&types, &params, 1, &IDENTITIES, 2, Err(short("header", 2, 3)));
+    write(&types, &params, 1, &IDENTITIES, 0, Err(short("header", 0, 3)));
 
-    let read = |header: &[u8], at, flag, prior: &[i32]| belt::read_global_motion_params(header, at, flag, prior);
+    let read = |header: &[u8], at, flag, prior: Stored| belt::read_global_motion_params(header, at, flag, prior);
     let header = [0xA4, 0x20, 0x00];
     let back = read(&header, 0, 1, &IDENTITIES).unwrap();
-    assert_eq!((back.types, back.params, back.bits), (types, params, 17));
+    assert_eq!((back.types, back.models, back.bits), (types, params, 17));
     // the same bits from another position on
     let shifted = [0xFF, 0xF4, 0x84, 0x00];
     assert_eq!(read(&shifted, 11, 1, &IDENTITIES), Ok(back));
-    assert_eq!(read(&header, 0, 1, &IDENTITIES[..41]), Err(WrongLength));
+    assert_eq!(read(&header, 0, 1, &IDENTITIES[..6]), Err(wrong("prior", 6, 7)));
     assert_eq!(read(&header, 0, 2, &IDENTITIES), Err(NoSuchCode));
     assert_eq!(read(&header, 0, 1, &changed(4, 8193)), Err(PriorOut));
     assert_eq!(read(&header[..2], 0, 1, &IDENTITIES), Err(EndsFirst));

@@ -1,5 +1,5 @@
 // The bit reader that holds its bytes: a struct of the lent slice and a bit position, thin over the proved
-// core (document 01, 'Rust forms to recast' and 'Each place and its form': "Reading goes on from a bit
+// core (docs/RULES.md, 'Rust forms to recast' and 'Each place and its form': "Reading goes on from a bit
 // position in the lent header bytes"; standard 4.10.2, 5.9.24). A method takes the struct apart and calls
 // the function on the slice and the position; out come what was read and the position behind it.
 

@@ -1,6 +1,6 @@
 // The bit cursor: a position in lent bytes, by value, that each method hands on past what it wrote or
 // read. Bits go high bit first. In go a bit, a field of 0 to 32 bits or an ns code; out come the
-// cursor behind it and the buffer with those bits and no other bit changed. Document 01, 'Header' and
+// cursor behind it and the buffer with those bits and no other bit changed. docs/RULES.md, 'Header' and
 // 'Rust forms to recast'; standard 4.10.2, 4.10.7; encoder/bitwriter.rs.
 
 ghost use Prim.Native.Nat.{_+_, _*_, _/_, _%_, _^_, _≤_, _<_};

@@ -1,4 +1,4 @@
--- The costs of the search (document 01, 'Search'): sums of absolute differences between a block of the input and the reference
+-- The costs of the search (docs/RULES.md, 'Search'): sums of absolute differences between a block of the input and the reference
 -- displaced by a motion, each a sum of row costs.
 -- Assumes nothing.
 use Prim.Native.Nat.{ℕ, _+_, _*_, _-_, _/_, _%_}

@@ -1,4 +1,4 @@
-// The three sums of absolute differences of the search (document 01, 'Search'; the closures
+// The three sums of absolute differences of the search (docs/RULES.md, 'Search'; the closures
 // `sad_half`, `sad_int` and `sad_subpel` of the Rust's `collect_motion_samples`).
 // In go two planes row by row, their sides, the place of a block and an offset; out comes the cost.
 // An offset is a natural number, the signed one plus a bias, so that a coordinate clamps at 0 by

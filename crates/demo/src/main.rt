@@ -1,6 +1,7 @@
 // A job for each of the three types, on a textured belt that moved, grew and turned between two frames.
-// Prints what the job reports, its header in hexadecimal and its blocks as the list program does; then
-// reads both back and says whether they agree with the report.
+// Prints the true motion, the measured one and the one that its header reads as, in pels, zoom and
+// degrees, how many samples agree, the score and the bits; then what is stored: the header's bytes and
+// the blocks as the list program prints them; last, whether all of it is right.
 ghost use Prim.Native.Nat.{_≤_, _<_};
 use job::Report;
 use job::Settings;
@@ -24,10 +25,16 @@ const FRAME: u16 = 7;
 
 const REFERENCE: u8 = 3;
 
-// Where its model begins among the seven.
-const OWN: usize = 12;
-
 const HIGH_PRECISION: u8 = 1;
+
+const TRANSLATION: u8 = 1;
+
+const ROTZOOM: u8 = 2;
+
+const AFFINE: u8 = 3;
+
+// 1 at 16 fraction bits.
+const ONE: i32 = 65536;
 
 // ---- the belt
 
@@ -48,29 +55,30 @@ fn texture(row: u32, column: u32) -> u16
     (four / 4) as u16
 }
 
-// Where the pel of the input at this row and column lies on the belt: moved, grown, or turned.
+// Where the pel of the input at this row and column lies on the belt. It is moved by a pel down and two
+// to the right; or grown or turned by a sixteenth: each block of 16 then moves by whole pels.
 fn belt_row(gm_type: u8, row: u32, column: u32) -> u32
     ensures { λ r. ⌜ r < 1000000 ⌝ }
 {
-    if gm_type == 1 {
+    if gm_type == TRANSLATION {
         return row % 65536 + 1;
     }
-    if gm_type == 2 {
-        return row % 65536 + row % 65536 / 32;
+    if gm_type == ROTZOOM {
+        return row % 65536 + row % 65536 / 16;
     }
-    row % 65536 + column % 65536 / 32
+    row % 65536 + column % 65536 / 16
 }
 
 fn belt_column(gm_type: u8, row: u32, column: u32) -> u32
     ensures { λ r. ⌜ r < 1000000 ⌝ }
 {
-    if gm_type == 1 {
+    if gm_type == TRANSLATION {
         return column % 65536 + 2 + FIRST;
     }
-    if gm_type == 2 {
-        return column % 65536 + column % 65536 / 32 + FIRST;
+    if gm_type == ROTZOOM {
+        return column % 65536 + column % 65536 / 16 + FIRST;
     }
-    column % 65536 + FIRST - row % 1000 / 32
+    column % 65536 + FIRST - row % 1000 / 16
 }
 
 fn word_of(at: usize) -> u32
@@ -113,6 +121,17 @@ fn fill_reference(reference: &mut [u16]) {
     }
 }
 
+// The same motions as models, x first: blocks have their centres at 7.5 and every 16 pels from there.
+fn true_motion(gm_type: u8) -> [i32; 6] {
+    if gm_type == TRANSLATION {
+        return [131072, 65536, ONE, 0, 0, ONE];
+    }
+    if gm_type == ROTZOOM {
+        return [-30720, -30720, 69632, 0, 0, 69632];
+    }
+    [30720, -30720, ONE, -4096, 4096, ONE]
+}
+
 fn identity_at(slot: usize) -> i32 {
     if slot == 2 {
         return 65536;
@@ -141,24 +160,53 @@ fn magnitude_of(n: i32) -> u64 {
     grid::magnitude(grid::from_centre(n, 0))
 }
 
-fn print_number(n: i32) {
+fn print_digit(n: u64) {
+    io::print_decimal(STDOUT_FILENO, n % 10);
+}
+
+// A number at 16 fraction bits, with four decimals.
+fn print_decimals(n: i32) {
     if n < 0 {
         print(b" -");
     } else {
         print(b" ");
     }
-    io::print_decimal(STDOUT_FILENO, magnitude_of(n));
+    let parts = (magnitude_of(n) % 0x1_0000_0000 * 10000 + 32768) / 65536;
+    io::print_decimal(STDOUT_FILENO, parts / 10000);
+    print(b".");
+    print_digit(parts / 1000);
+    print_digit(parts / 100);
+    print_digit(parts / 10);
+    print_digit(parts);
 }
 
-// The model at the job's reference.
-fn print_model(models: [i32; 42]) {
-    print(b"model");
-    let mut i = OWN;
-    while i < OWN + 6 {
-        print_number(models[i]);
-        i += 1;
-    }
-    print(b"\n");
+// The zoom and the turn in degrees of a model, by the first terms of their series in the tangent of the
+// turn, which is small here.
+fn zoom_of(model: [i32; 6]) -> i32 {
+    let along = model[2] as f64;
+    let tangent = model[4] as f64 / along;
+    let square = tangent * tangent;
+    grid_number::grid_number(along / 65536.0 * (1.0 + square * (0.5 - square * 0.125)))
+}
+
+fn degrees_of(model: [i32; 6]) -> i32 {
+    let tangent = model[4] as f64 / model[2] as f64;
+    let square = tangent * tangent;
+    grid_number::grid_number(
+        57.29577951308232 * tangent * (1.0 - square * (0.3333333333333333 - square * 0.2)),
+    )
+}
+
+fn print_motion(name: &[u8], model: [i32; 6]) {
+    print(name);
+    print_decimals(model[0]);
+    print(b" right,");
+    print_decimals(model[1]);
+    print(b" down, zoom");
+    print_decimals(zoom_of(model));
+    print(b", turn");
+    print_decimals(degrees_of(model));
+    print(b" degrees\n");
 }
 
 fn print_byte(byte: u8) {
@@ -166,7 +214,7 @@ fn print_byte(byte: u8) {
 }
 
 fn print_bytes(bytes: &[u8]) {
-    print(b"header ");
+    print(b"header: ");
     let mut i = 0;
     while i < bytes.len() {
         print_byte(bytes[i]);
@@ -181,15 +229,13 @@ fn print_count(name: &[u8], n: usize) {
     print(b"\n");
 }
 
-// The score in square pels, of 65536 parts each.
-fn print_report(r: Report) {
-    let models = r.models;
-    print_model(models);
-    print(b"score");
-    print_number(grid_number::grid_number(r.score));
-    print(b" / 65536\n");
-    print_count(b"samples ", r.samples);
-    print_count(b"bits ", r.bits);
+fn print_report(r: Report, agree: usize) {
+    print_count(b"samples that agree within an eighth: ", agree);
+    print_count(b"of samples: ", r.samples);
+    print(b"score:");
+    print_decimals(grid_number::grid_number(r.score));
+    print(b" square pels\n");
+    print_count(b"header bits: ", r.bits);
 }
 
 fn print_block(block: &[u8]) {
@@ -213,9 +259,9 @@ fn same_words(a: &[u32], b: &[u32]) -> bool {
     true
 }
 
-fn same_types(a: [u8; 7], b: [u8; 7]) -> bool {
+fn same_model(a: [i32; 6], b: [i32; 6]) -> bool {
     let mut i = 0;
-    while i < 7 {
+    while i < 6 {
         if a[i] != b[i] {
             return false;
         }
@@ -224,15 +270,27 @@ fn same_types(a: [u8; 7], b: [u8; 7]) -> bool {
     true
 }
 
-fn same_numbers(a: [i32; 42], b: [i32; 42]) -> bool {
-    let mut i = 0;
-    while i < 42 {
-        if a[i] != b[i] {
-            return false;
-        }
-        i += 1;
+// The model of the job's reference, of seven as stored, x first.
+fn own_model(gm_type: u8, m: [i32; 42]) -> [i32; 6] {
+    if gm_type == TRANSLATION {
+        return [m[13], m[12], m[14], m[15], m[16], m[17]];
     }
-    true
+    [m[12], m[13], m[14], m[15], m[16], m[17]]
+}
+
+// How many samples are within an eighth of a pel of the model.
+fn agreeing(model: [i32; 6], words: &[u32]) -> usize {
+    let mut n = 0;
+    let mut i = 0;
+    while i < words.len() {
+        let end = i + 1;
+        let one = score::mean_sq_residual(model, &words[i..end]);
+        if one.score <= 0.015625 {
+            n += 1;
+        }
+        i = end;
+    }
+    n
 }
 
 fn blocks_agree(blocks: &[u8], words: &[u32]) -> bool {
@@ -250,31 +308,12 @@ fn blocks_agree(blocks: &[u8], words: &[u32]) -> bool {
     same_words(words, &again)
 }
 
-fn header_agrees(r: Report, header: &[u8], prior: &[i32]) -> bool {
-    let read = header_read::read_global_motion_params(header, 0, HIGH_PRECISION, prior);
-    let types = read.types;
-    let params = read.params;
-    let wanted_types = r.types;
-    let wanted_models = r.models;
-    if read.refusal != 0 {
-        return false;
-    }
-    if read.bits != r.bits {
-        return false;
-    }
-    if !same_types(types, wanted_types) {
-        return false;
-    }
-    same_numbers(params, wanted_models)
-}
-
-fn say(what: &[u8], agrees: bool) {
-    print(what);
-    if agrees {
-        print(b" agree\n");
+fn verdict(is_right: bool) {
+    if is_right {
+        print(b"verdict: the true motion was measured, and what is stored reads back as it\n\n");
         return;
     }
-    print(b" differ\n");
+    print(b"verdict: WRONG\n\n");
 }
 
 fn least(a: usize, b: usize) -> usize
@@ -283,16 +322,23 @@ fn least(a: usize, b: usize) -> usize
     if a < b { a } else { b }
 }
 
-fn finish(r: Report, words: &[u32], blocks: &[u8], header: &[u8], prior: &[i32]) {
-    print_report(r);
+fn finish(gm_type: u8, r: Report, words: &[u32], blocks: &[u8], header: &[u8], prior: &[i32]) {
+    let truth = true_motion(gm_type);
+    let models = r.models;
+    let measured = own_model(gm_type, models);
+    let read = header_read::read_global_motion_params(header, 0, HIGH_PRECISION, prior);
+    let params = read.params;
+    let stored = own_model(gm_type, params);
+    print_motion(b"true:", truth);
+    print_motion(b"measured:", measured);
+    print_motion(b"header read:", stored);
+    print_report(r, agreeing(measured, words));
     let used = least((least(r.bits, MOST_BITS) + 7) / 8, header.len());
     print_bytes(&header[0..used]);
     print_block(blocks);
-    say(
-        b"blocks and the search's words",
-        blocks_agree(blocks, words),
+    verdict(
+        same_model(truth, measured) && same_model(measured, stored) && blocks_agree(blocks, words),
     );
-    say(b"header and the report", header_agrees(r, header, prior));
 }
 
 fn run(gm_type: u8, input: &[u16], reference: &[u16], prior: &[i32], models: &[i32]) {
@@ -329,7 +375,7 @@ fn run(gm_type: u8, input: &[u16], reference: &[u16], prior: &[i32], models: &[i
         print_count(b"refused ", r.refusal as usize);
         return;
     }
-    finish(r, &words, &blocks, &header, prior);
+    finish(gm_type, r, &words, &blocks, &header, prior);
 }
 
 fn show(gm_type: u8) {
@@ -345,7 +391,7 @@ fn show(gm_type: u8) {
 }
 
 fn main() {
-    show(1);
-    show(2);
-    show(3);
+    show(TRANSLATION);
+    show(ROTZOOM);
+    show(AFFINE);
 }

@@ -22,7 +22,7 @@ use Rattle.fit.specs.declared.RotZoomSums.{RotZoomSums}
 use Rattle.fit.specs.declared.AffineSums.{AffineSums}
 use Rattle.fit.specs.Sums.{Summing, sumsOf, countAs, translationTotals, rotZoomTotals, affineTotals}
 
--- the number of document 01 of each case: its refusal, 0 for a fitted model
+-- the number of docs/RULES.md of each case: its refusal, 0 for a fitted model
 abbrev pub refusalOf : Fitted → ℕ
 refusalOf (Refused n) = n
 refusalOf (Translation m0 m1) = 0

@@ -1,6 +1,6 @@
 // The three fits of motion models: a slice of sample words goes in, a fitted model or a refusal comes
 // out. Sums, elimination and back-substitution in binary64, one rounding an operation, samples first
-// to last: `fit_translation`, `fit_rotzoom`, `fit_affine` (encoder/global_motion.rs); document 01,
+// to last: `fit_translation`, `fit_rotzoom`, `fit_affine` (encoder/global_motion.rs); docs/RULES.md,
 // 'Records' (Model), 'Fits and score', rows 1, 4 and 6.
 
 use sample::MOST_SAMPLES;
@@ -26,7 +26,7 @@ pub const ROTZOOM: u8 = 2;
 
 pub const AFFINE: u8 = 3;
 
-// Rows of document 01's table.
+// Rows of the rules' table.
 pub const TOO_MANY: u32 = 1;
 
 pub const NO_SUCH_CODE: u32 = 4;

@@ -115,7 +115,7 @@ module _ (gmType flag slot : ℕ) (z : ℤ) (h : priorOut slot z ≡ false) wher
   pub row-place-below : placeOf (absBits gmType flag slot) (precBits gmType flag slot) slot z < symbols (absBits gmType flag slot)
   row-place-below = place-below (absBits gmType flag slot) (precBits gmType flag slot) slot z (row-less gmType flag slot) in-reach
 
-  -- the place is the whole number of document 01, none of it lost
+  -- the place is the whole number of docs/RULES.md, none of it lost
   pub row-place : placeNumber (absBits gmType flag slot) (precBits gmType flag slot) slot z ≡ pos (placeOf (absBits gmType flag slot) (precBits gmType flag slot) slot z)
   row-place = place-natural (absBits gmType flag slot) (precBits gmType flag slot) slot z (row-less gmType flag slot) in-reach
 

@@ -1,4 +1,4 @@
--- The codable numbers of a slot and the quantization onto them: document 01, 'Grid'; clause 5.9.25.
+-- The codable numbers of a slot and the quantization onto them: docs/RULES.md, 'Grid'; clause 5.9.25.
 -- Assumes nothing.
 use Prim.Native.Nat.{ℕ, _+_, _*_, _-_, _/_, _^_, _≤_, min}
 use mathlib.Core.Bool.{Bool, true, false}

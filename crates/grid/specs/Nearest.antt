@@ -1,4 +1,4 @@
--- What it is to be the nearest codable number: document 01, 'Grid', the last sentence.
+-- What it is to be the nearest codable number: docs/RULES.md, 'Grid', the last sentence.
 -- Assumes nothing.
 use Prim.Native.Nat.{ℕ, _<_}
 use mathlib.Core.Path.{_≡_}

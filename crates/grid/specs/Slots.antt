@@ -1,4 +1,4 @@
--- The slots that a type carries, in the order of reading: document 01, 'Header'; clause 5.9.24.
+-- The slots that a type carries, in the order of reading: docs/RULES.md, 'Header'; clause 5.9.24.
 -- Assumes nothing.
 use Prim.Native.Nat.{ℕ}
 use mathlib.Core.List.{List, [], _∷_}

@@ -1,5 +1,5 @@
 -- A codable number as a header carries it: its symbol, which is the ordinal plus 2 ^ absBits; and the place of a prior among the symbols.
--- Document 01, 'Reading by the standard'; clauses 5.9.25 and 5.9.26.
+-- docs/RULES.md, 'Reading by the standard'; clauses 5.9.25 and 5.9.26.
 -- Assumes nothing.
 use Prim.Native.Nat.{ℕ, _+_, _*_, _^_}
 use mathlib.Core.Bool.{Bool}
@@ -9,7 +9,7 @@ use lib.Signed.{shrZ}
 use Rattle.laws.specs.Refusal.{choose, either}
 use Rattle.grid.specs.Grid.{step, number, ordinalOf, absBits, precBits, centre}
 
--- how many symbols a slot has: the S of document 01
+-- how many symbols a slot has: the S of docs/RULES.md
 abbrev pub symbols : ℕ → ℕ
 symbols abs = 2 * 2 ^ abs + 1
 
@@ -25,7 +25,7 @@ symbolOf abs prec c z = natAbs (ordinalOf abs prec c z +ℤ pos (2 ^ abs))
 abbrev pub lessOf : ℕ → ℕ → ℕ
 lessOf prec slot = choose (either (eqb slot 2) (eqb slot 5)) (2 ^ prec) 0
 
--- the prior's number divided by the step, rounded down, less 2 ^ precBits in slots 2 and 5, plus 2 ^ absBits: the p of document 01
+-- the prior's number divided by the step, rounded down, less 2 ^ precBits in slots 2 and 5, plus 2 ^ absBits: the p of docs/RULES.md
 abbrev pub placeNumber : ℕ → ℕ → ℕ → ℤ → ℤ
 placeNumber abs prec slot z = shrZ z (step prec) -ℤ pos (lessOf prec slot) +ℤ pos (2 ^ abs)
 

@@ -1,5 +1,5 @@
 // The grid of codable model numbers: a type, flag, slot and any i32 go in, the nearest number that
-// a header can carry comes out. Answers to document 01, 'Grid', clause 5.9.25 of the standard, and
+// a header can carry comes out. Answers to docs/RULES.md, 'Grid', clause 5.9.25 of the standard, and
 // `global_param_bits` and `quantize_global_param` of frame_obu.rs.
 ghost use mathlib.Core.Path.{_≡_};
 ghost use Prim.Native.Nat.{_*_, _^_, _<_, _≤_};
@@ -20,7 +20,7 @@ pub const ROTZOOM: u8 = 2;
 
 pub const AFFINE: u8 = 3;
 
-// Rows of document 01's table.
+// Rows of the rules' table.
 const NO_SUCH_CODE: u32 = 4;
 
 const NO_SUCH_SLOT: u32 = 5;

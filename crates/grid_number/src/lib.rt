@@ -1,5 +1,5 @@
 // The grid number of a binary64: any number goes in, the i32 nearest to its product with 65536 comes
-// out, half away from zero. Answers to document 01, 'Fits and score' (Grid number), and to the two
+// out, half away from zero. Answers to docs/RULES.md, 'Fits and score' (Grid number), and to the two
 // lines of `quantize_model` that round and clamp (encoder/global_motion.rs).
 ghost use mathlib.Core.Path.{_≡_};
 ghost use mathlib.Core.Bool.{true, false};
@@ -9,7 +9,7 @@ ghost use lib.Ieee.{binary64, fits, lt};
 ghost use Rattle.laws.specs.Binary64.{nought};
 ghost use Rattle.grid_number.specs.GridNumber.{limit, magnitude, held, gridNumber};
 
-// Document 01, 'Grid number': one at 16 fraction bits, and 2^31, from which on a magnitude is held.
+// docs/RULES.md, 'Grid number': one at 16 fraction bits, and 2^31, from which on a magnitude is held.
 pub const SCALE: f64 = 65536.0;
 
 const LIMIT: f64 = 2147483648.0;

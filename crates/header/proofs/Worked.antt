@@ -1,4 +1,4 @@
--- The worked values of document 01 that are marked *: the quantizations, the coefficients' codes and the header of 17 bits; and four of our own.
+-- The worked values of docs/RULES.md that are marked *: the quantizations, the coefficients' codes and the header of 17 bits; and four of our own.
 -- Assumes nothing.
 use Prim.Native.Nat.{ℕ}
 use mathlib.Core.List.{List, [], _∷_}
@@ -56,7 +56,7 @@ pub record Worked : Type 0 where
   pub far-prior : coefficientBits 1 1 0 (pos 4186112) (pos 4194304) ≡ 0 ∷ 0 ∷ 0 ∷ 1 ∷ []
   -- slot 3, prior 0, ordinal 4096
   pub last-of-slot-3 : coefficientBits 3 1 3 (pos 8192) (pos 0) ≡ replicate 23 1
-  -- two that document 01 doesn't list, chosen so that the prior isn't on the grid and so that the slot's centre is 65536:
+  -- two that docs/RULES.md doesn't list, chosen so that the prior isn't on the grid and so that the slot's centre is 65536:
   -- high TRANSLATION, prior 4096, which is halfway to ordinal 1 and rounds down to 0; slots 2 and 5, whose prior 65536 stands at ordinal 0
   pub between-two : coefficientBits 1 1 0 (pos 8192) (pos 4096) ≡ 0 ∷ 0 ∷ 1 ∷ 0 ∷ []
   pub below-nought : coefficientBits 1 1 0 (pos 0) (negsuc 0) ≡ 0 ∷ 0 ∷ 1 ∷ 0 ∷ []

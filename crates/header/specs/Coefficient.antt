@@ -1,4 +1,4 @@
--- One coefficient of a model in the header: its bits, and what is read. Document 01, 'Header' and 'Reading by the standard'; clause 5.9.25.
+-- One coefficient of a model in the header: its bits, and what is read. docs/RULES.md, 'Header' and 'Reading by the standard'; clause 5.9.25.
 -- Assumes nothing.
 use Prim.Native.Nat.{ℕ}
 use mathlib.Core.List.{List}

@@ -1,5 +1,5 @@
 -- How many bits a header takes: for each reference its type bits, and for each slot that its type carries the coefficient's bits.
--- Document 01, 'Header' and 'Reading by the standard, written out'.
+-- docs/RULES.md, 'Header' and 'Reading by the standard'.
 -- Assumes nothing.
 use Prim.Native.Nat.{ℕ, _+_, _*_}
 use mathlib.Core.List.{List, [], _∷_}

@@ -1,4 +1,4 @@
--- Reading seven models by the standard from a bit position: document 01, 'Reading by the standard, written out'; clauses 5.9.24 and 5.9.25.
+-- Reading seven models by the standard from a bit position: docs/RULES.md, 'Reading by the standard'; clauses 5.9.24 and 5.9.25.
 -- Assumes nothing.
 use Prim.Native.Nat.{ℕ, zero, suc, _+_, _*_}
 use mathlib.Core.List.{List, [], _∷_, _++_}

@@ -1,5 +1,5 @@
 -- A header as bits: references 1 to 7, each its type bits and its coefficients in the standard's order, then zeros to the byte's end; and what a call writes.
--- Document 01, 'Header'; clauses 5.9.24 and 5.9.25.
+-- docs/RULES.md, 'Header'; clauses 5.9.24 and 5.9.25.
 -- Assumes nothing.
 use Prim.Native.Nat.{ℕ, zero, suc, _+_, _*_, _/_}
 use mathlib.Core.Bool.{Bool, not}

@@ -1,5 +1,5 @@
 // The header's global motion parameters, written: types and numbers of seven models, the flag and a
-// prior go in, bits come out. Answers to document 01, 'Header' and rows 2, 4, 7, 8, 3; clauses 5.9.24
+// prior go in, bits come out. Answers to docs/RULES.md, 'Header' and rows 2, 4, 7, 8, 3; clauses 5.9.24
 // and 5.9.25 of the standard; `encode_inter_global_motion` and `write_global_param` of
 // encoder/frame_obu.rs. `specs/Reading` also states what the standard reads.
 ghost use mathlib.Core.Path.{_≡_};
@@ -29,7 +29,7 @@ pub const NUMBERS: usize = 42;
 // 987 bits at most, from any bit of the first byte on.
 const MOST_BYTES: usize = 125;
 
-// Rows of document 01's table.
+// Rows of the rules' table.
 const WRONG_LENGTH: u32 = 2;
 
 const TOO_SHORT: u32 = 3;

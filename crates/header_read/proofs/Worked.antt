@@ -1,4 +1,4 @@
--- Worked values of document 01, read: the header of 17 bits, and the examples of rows 2, 4, 8 and 9.
+-- Worked values of docs/RULES.md, read: the header of 17 bits, and the examples of rows 2, 4, 8 and 9.
 -- Assumes nothing.
 use mathlib.Core.List.{List, [], _∷_}
 use mathlib.Core.Path.{_≡_, refl}

@@ -1,4 +1,4 @@
--- What a call that reads seven models gives: document 01, 'Reading by the standard, written out', rows 2, 4, 8, 9.
+-- What a call that reads seven models gives: docs/RULES.md, 'Reading by the standard', rows 2, 4, 8, 9.
 -- Assumes nothing.
 use Prim.Native.Nat.{ℕ, _+_, _*_}
 use mathlib.Core.Bool.{not}

@@ -1,6 +1,6 @@
 // The header's global motion parameters, read: bytes, a bit to begin at, the flag and a prior go in,
-// the types and numbers of seven models and the bits consumed come out. Answers to document 01,
-// 'Reading by the standard, written out' and rows 2, 4, 8, 9; clauses 5.9.24 and 5.9.25 of the
+// the types and numbers of seven models and the bits consumed come out. Answers to docs/RULES.md,
+// 'Reading by the standard' and rows 2, 4, 8, 9; clauses 5.9.24 and 5.9.25 of the
 // standard; `read_global_motion_params` and `read_global_param` of uncompressed_header_tail.rs.
 ghost use mathlib.Core.Path.{_≡_};
 ghost use Prim.Native.Nat.{_+_, _*_, _^_, _≤_, _<_};
@@ -29,7 +29,7 @@ const WHOLE: i32 = 65536;
 // Six numbers for each of seven references.
 const NUMBERS: usize = 42;
 
-// Rows of document 01's table.
+// Rows of the rules' table.
 const WRONG_LENGTH: u32 = 2;
 
 const NO_SUCH_CODE: u32 = 4;

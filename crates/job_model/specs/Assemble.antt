@@ -1,4 +1,4 @@
--- Seven models in rising order of reference, from six others and the one at its reference: document 01, 'Job'.
+-- Seven models in rising order of reference, from six others and the one at its reference: docs/RULES.md, 'Job'.
 -- Assumes nothing.
 use Prim.Native.Nat.{ℕ, _*_, _-_}
 use mathlib.Core.List.{List, [], _∷_, _++_}

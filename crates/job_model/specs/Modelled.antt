@@ -1,4 +1,4 @@
--- The model of a job: fitted, on the grid, scored, and among the six others at its reference. Document 01, 'Job'.
+-- The model of a job: fitted, on the grid, scored, and among the six others at its reference. docs/RULES.md, 'Job'.
 -- Assumes nothing.
 use Prim.Native.Nat.{ℕ}
 use mathlib.Core.List.{List}

@@ -1,5 +1,5 @@
 // Seven models in rising order of reference: six others, and the one at its reference, go in; the
-// seven types and 42 numbers come out. Answers to document 01, 'Job' (the models that it reports and
+// seven types and 42 numbers come out. Answers to docs/RULES.md, 'Job' (the models that it reports and
 // writes).
 ghost use mathlib.Core.Path.{_≡_};
 ghost use mathlib.Core.List.{[], _∷_};

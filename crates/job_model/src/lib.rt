@@ -1,4 +1,4 @@
-// The model of a job (document 01, 'Job', 'Fits and score', row 6): the settings, the six other types
+// The model of a job (docs/RULES.md, 'Job', 'Fits and score', row 6): the settings, the six other types
 // and models and the sample words go in; the seven types and models, as stored, and the score of the
 // fitted one come out.
 use fit::Fitted;

@@ -1,5 +1,5 @@
 -- Demand 3: what an accepted job left, read back. Over the definitions of the search, of reading a frame and of reading by the standard; of a writer only the lengths of codes that the count adds up.
--- Document 01, 'Job', 'Fits and score', 'Reading by the standard'.
+-- docs/RULES.md, 'Job', 'Fits and score', 'Reading by the standard'.
 -- Assumes nothing.
 use Prim.Native.Nat.{ℕ, _+_, _*_, _-_, _/_, _%_, _≤_, _<_}
 use mathlib.Core.Logic.{_⊎_}

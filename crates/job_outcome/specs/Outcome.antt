@@ -1,4 +1,4 @@
--- How a job ends: what it reports, and what it leaves in the five lent buffers, refused or accepted. Document 01, 'Job', 'When a call says no'.
+-- How a job ends: what it reports, and what it leaves in the five lent buffers, refused or accepted. docs/RULES.md, 'Job', 'When a call says no'.
 -- Assumes nothing.
 use Prim.Native.Nat.{ℕ}
 use mathlib.Core.List.{List}

@@ -1,4 +1,4 @@
-// What a job reports and leaves, and demand 3 as a theorem over that definition (document 01, 'Job').
+// What a job reports and leaves, and demand 3 as a theorem over that definition (docs/RULES.md, 'Job').
 // The report is declared here; the call that makes it is `job::job`.
 // A row of the table of refusals (0: none), the seven types and models in rising order of reference
 // as stored, the score of the fitted one, the bits of the header, and how many samples there are.

@@ -1,4 +1,4 @@
--- The rows of the table of refusals that a job meets before its search, in the table's order: 1, 2, 4, 5, 7, 8, 3. Document 01, 'When a call says no'.
+-- The rows of the table of refusals that a job meets before its search, in the table's order: 1, 2, 4, 5, 7, 8, 3. docs/RULES.md, 'When a call says no'.
 -- Assumes nothing.
 use Prim.Native.Nat.{ℕ, _*_}
 use mathlib.Core.Bool.{Bool, not}

@@ -1,4 +1,4 @@
--- What a job is handed and what it is lent: document 01, 'Job'.
+-- What a job is handed and what it is lent: docs/RULES.md, 'Job'.
 -- Assumes nothing.
 use Prim.Native.Nat.{ℕ}
 use mathlib.Core.List.{List}

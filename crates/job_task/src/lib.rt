@@ -1,5 +1,5 @@
 // What a job is handed, and the rows of the table of refusals that it meets before its search: 1, 2,
-// 4, 5, 7, 8, 3, in the table's order (document 01, 'Job', 'When a call says no'). In go the settings,
+// 4, 5, 7, 8, 3, in the table's order (docs/RULES.md, 'Job', 'When a call says no'). In go the settings,
 // how long planes and lent buffers are, and the lists that are looked into; out comes the first row
 // that holds, 0 for none. The rows are judged in groups; a group is a function.
 use layout::BLOCK_BYTES;

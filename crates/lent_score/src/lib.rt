@@ -1,4 +1,4 @@
-// The score over a lent slice of samples (document 01, 'Each place and its form': "The score of a lent list
+// The score over a lent slice of samples (docs/RULES.md, 'Each place and its form': "The score of a lent list
 // of samples is 0.0 for none"; encoder/global_motion.rs). `mean_sq_residual` walks the slice and gives the
 // score that `score` gives for sample words.
 

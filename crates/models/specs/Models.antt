@@ -1,5 +1,5 @@
 -- What a header can carry: the slots of a type and what the others hold, and rows 4, 7 and 8 for types, models and priors.
--- Document 01, 'Header', 'When a call says no'; clause 5.9.24.
+-- docs/RULES.md, 'Header', 'When a call says no'; clause 5.9.24.
 -- Assumes nothing.
 use Prim.Native.Nat.{ℕ, _+_, _*_, _%_}
 use mathlib.Core.Bool.{Bool, true, false, not}

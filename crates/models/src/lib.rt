@@ -1,5 +1,5 @@
 // What a header can carry: types, models and priors go in, whether a row of the table of refusals
-// holds comes out. Answers to document 01, 'Header' (the slots of a type, the pair) and rows 4, 7
+// holds comes out. Answers to docs/RULES.md, 'Header' (the slots of a type, the pair) and rows 4, 7
 // and 8; clause 5.9.24; the assertions of `write_global_param` and `encode_inter_global_motion`.
 ghost use mathlib.Core.Path.{_≡_};
 ghost use Prim.Native.Nat.{_+_, _*_, _≤_, _<_};
@@ -17,7 +17,7 @@ const ROTZOOM: u8 = 2;
 
 const AFFINE: u8 = 3;
 
-// Document 01, 'Header': how far a prior's number may lie from its slot's centre, in slots 0 and 1 and in
+// docs/RULES.md, 'Header': how far a prior's number may lie from its slot's centre, in slots 0 and 1 and in
 // the others.
 const TRANSLATION_PRIOR: u64 = 4194304;
 

@@ -1,4 +1,4 @@
--- Coordinates clamped to the plane, and the reference pel that a motion leads to (document 01, 'Search').
+-- Coordinates clamped to the plane, and the reference pel that a motion leads to (docs/RULES.md, 'Search').
 -- Assumes nothing.
 use Prim.Native.Nat.{ℕ, _-_, min}
 use mathlib.Core.List.{List}

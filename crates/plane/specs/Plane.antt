@@ -1,4 +1,4 @@
--- A plane as a list row by row, its pel at a row and a column, and its half plane (document 01, 'Records' and 'Search').
+-- A plane as a list row by row, its pel at a row and a column, and its half plane (docs/RULES.md, 'Records' and 'Search').
 -- Assumes nothing.
 use Prim.Native.Nat.{ℕ, zero, suc, _+_, _*_, _/_}
 use mathlib.Core.List.{List, [], _∷_, _++_}

@@ -1,4 +1,4 @@
-// Planes of the search (document 01, 'Records' and 'Search'; `downsample` and the clamped reads in the
+// Planes of the search (docs/RULES.md, 'Records' and 'Search'; `downsample` and the clamped reads in the
 // Rust's `collect_motion_samples`). In go a plane of u16 values row by row and its sides; out comes its
 // half plane, written from the front of a lent buffer, or a pel displaced by a motion, its coordinates
 // clamped to the plane, or where a row of pels begins. An offset is a natural number, the signed one

@@ -1,5 +1,5 @@
 // A fitted model on the grid of codable numbers: a fitted model, a flag and sample words go in, six
-// numbers at 16 fraction bits come out, x first. Answers to document 01, 'Fits and score' and
+// numbers at 16 fraction bits come out, x first. Answers to docs/RULES.md, 'Fits and score' and
 // 'Header' (the row-first exchange), rows 1 and 4, and to `quantize_model` (encoder/global_motion.rs).
 use fit::AFFINE;
 use fit::Fitted;

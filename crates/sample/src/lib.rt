@@ -1,4 +1,4 @@
-// The sample word and the sample it stands for (document 01, 'Records': Sample, Sample word).
+// The sample word and the sample it stands for (docs/RULES.md, 'Records': Sample, Sample word).
 // A word's five fields are taken apart and put together; a list of words is tested for what a frame
 // may store; a word becomes a `MotionSample`, the four binary64 numbers that the fits take
 // (`MotionSample` of the Rust's global_motion.rs).

@@ -1,5 +1,5 @@
 // The score of a model: six numbers at 16 fraction bits and sample words go in, the mean squared
-// residual in square pels comes out. Answers to document 01, 'Fits and score', row 1, and to
+// residual in square pels comes out. Answers to docs/RULES.md, 'Fits and score', row 1, and to
 // `continuous_of_params` and `mean_sq_residual` (encoder/global_motion.rs).
 use grid_number::SCALE;
 use sample::MotionSample;

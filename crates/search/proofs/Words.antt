@@ -66,7 +66,7 @@ sampleWords-length input ref w h classes = length-listing (sampleWord input ref 
 pub sampleCount-le-4096 : (w h : ℕ) → w ≤ largestSide → h ≤ largestSide → sampleCount w h ≤ 4096
 sampleCount-le-4096 w h p q = count-small w h p q
 
--- a side under 16: no samples (worked values of document 01)
+-- a side under 16: no samples (worked values of docs/RULES.md)
 pub sampleCount-narrow : (w h : ℕ) → w < 16 → sampleCount w h ≡ 0
 sampleCount-narrow w h l = rw (let e : w / 16 ≡ 0 = omega arith in e) (omega arith)
 

@@ -1,4 +1,4 @@
--- When the search says no (document 01, rows 1, 2, 4, 3), what it answers, and what it leaves in the lent buffers.
+-- When the search says no (docs/RULES.md, rows 1, 2, 4, 3), what it answers, and what it leaves in the lent buffers.
 -- Assumes nothing.
 use Prim.Native.Nat.{ℕ, _*_, _/_}
 use mathlib.Core.Bool.{Bool, not}

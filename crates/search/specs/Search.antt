@@ -1,4 +1,4 @@
--- The search of document 01: the motion of a block, the sample words of a frame pair, and how many there are.
+-- The search of docs/RULES.md: the motion of a block, the sample words of a frame pair, and how many there are.
 -- Assumes nothing.
 use Prim.Native.Nat.{ℕ, _*_, _/_, _%_}
 use mathlib.Core.List.{List}

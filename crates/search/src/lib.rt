@@ -1,4 +1,4 @@
-// The search: how the load moved between two frames (document 01, 'Search', rows 1, 2, 4 and 3;
+// The search: how the load moved between two frames (docs/RULES.md, 'Search', rows 1, 2, 4 and 3;
 // `collect_motion_samples` of the Rust's global_motion.rs). In go two planes, their sides and one
 // class for each sample; out come half planes and sample words in lent buffers, and the count.
 ghost use mathlib.Core.Path.{_≡_};

@@ -1,4 +1,4 @@
-// The rows of the table of refusals that the search meets: 1, 2, 4, 3 (document 01).
+// The rows of the table of refusals that the search meets: 1, 2, 4, 3 (docs/RULES.md).
 ghost use mathlib.Core.Path.{_≡_};
 ghost use Rattle.laws.specs.Refusal.{judge};
 ghost use Rattle.plane.specs.Inner.{Small};

@@ -42,7 +42,7 @@ answerOf size e =
 abbrev pub solved : ℕ → System → Solution
 solved size s = answerOf size (eliminated size s)
 
--- the number of document 01 that an outcome stands for
+-- the number of docs/RULES.md that an outcome stands for
 abbrev pub numberOf : Outcome → ℕ
 numberOf Solved = 0
 numberOf Singular = 6

@@ -1,13 +1,13 @@
 // Gaussian elimination with partial pivoting, in binary64: a system of three or four equations goes
 // in, its solution or a refusal comes out. Each operation rounds once, in the written order of
-// `solve_linear` (encoder/global_motion.rs); document 01, 'Fits and score' and 'Rust forms to recast'.
+// `solve_linear` (encoder/global_motion.rs); docs/RULES.md, 'Fits and score' and 'Rust forms to recast'.
 
 ghost use mathlib.Core.Path.{_≡_};
 ghost use Prim.Native.Nat.{_<_, _≤_};
 ghost use Rattle.solve.specs.Elimination.{absOf, entry, pivotStep, pivotOf, exchanged, reduceRow, reduced, column, columnStep, eliminated};
 ghost use Rattle.solve.specs.Solution.{residueStep, residueOf, unknownStep, unknowns, solved};
 
-// Document 01, 'Fits and score': the binary64 nearest 1e-9, below which a pivot is refused.
+// docs/RULES.md, 'Fits and score': the binary64 nearest 1e-9, below which a pivot is refused.
 const LEAST_PIVOT: f64 = 1e-9;
 
 // A matrix, row by row, four entries to a row, and its right side. A system of three unknowns uses

@@ -1,4 +1,4 @@
--- The three stages of the search for one block (document 01, 'Search'), by signed motions.
+-- The three stages of the search for one block (docs/RULES.md, 'Search'), by signed motions.
 -- Assumes nothing.
 use Prim.Native.Nat.{ℕ, _+_, _*_, _/_, _%_}
 use mathlib.Core.List.{List}

@@ -1,4 +1,4 @@
-// The three stages of the search for one block (document 01, 'Search'; the loops over offsets in
+// The three stages of the search for one block (docs/RULES.md, 'Search'; the loops over offsets in
 // the Rust's `collect_motion_samples`). In go two planes, or two half planes, and the place of a
 // block; out comes the best motion with its cost. The code holds a motion as a natural number,
 // the signed one plus a bias: 12 in the coarse stage, 27 by full pels, 223 in eighths.

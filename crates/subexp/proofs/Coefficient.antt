@@ -48,7 +48,7 @@ pub symbolBits-are-bits : (S p t : ℕ) → AreBits (symbolBits S p t)
 unfolding subexpBits
 symbolBits-are-bits S p t = climbBits-are-bits S S (codeOf S p t) 0
 
--- the lengths of a coefficient's bits, for document 01's S
+-- the lengths of a coefficient's bits, for the rules' S
 module _ (abs p t : ℕ) (three : 3 ≤ abs) where
   abbrev count : ℕ
   count = 2 * 2 ^ abs + 1

@@ -32,7 +32,7 @@ record Lengths (abs e : ℕ) (bits : List ℕ) : Type 0 where
   most : length bits + e ≤ 2 * abs + 1
 
 module _ (abs : ℕ) (three : 3 ≤ abs) where
-  -- document 01's S
+  -- the rules' S
   abbrev S : ℕ
   S = 2 * 2 ^ abs + 1
 

@@ -1,4 +1,4 @@
--- A rung's start and step are those of document 01's climb.
+-- A rung's start and step are those of the rules' climb.
 -- Assumes nothing.
 use Prim.Native.Nat.{ℕ, zero, suc, _+_, _-_, _^_, _≤_, _<_}
 use mathlib.Core.Path.{_≡_, refl, ap}

@@ -1,5 +1,5 @@
 // One coefficient of a model in the header: a symbol of S and its prior's place go in, its bits come
-// out, and back. Answers to document 01, 'Header' and 'Reading by the standard, written out'; clauses
+// out, and back. Answers to docs/RULES.md, 'Header' and 'Reading by the standard'; clauses
 // 5.9.26 to 5.9.29 of the standard; `recenter` to `encode_unsigned_subexp_with_ref` of
 // encoder/frame_obu.rs, `inverse_recenter` to `decode_unsigned_subexp_with_ref` of
 // uncompressed_header_tail.rs. Symbols are counted from 0: low is 0, and mx is S.

@@ -1,6 +1,6 @@
 // Replays the list of stored frames: words made from a seed are stored, the blocks are changed and
 // read, and answers and lent buffers are compared with those of the list's maker, which knows
-// document 01 alone.
+// docs/RULES.md alone.
 ghost use Prim.Native.Nat.{_≤_, _<_};
 ghost use mathlib.Core.Path.{_≡_};
 ghost use lib.ListN.{length};

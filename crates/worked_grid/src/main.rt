@@ -1,4 +1,4 @@
-// Replays the oracle's list of quantizations, then tries the worked values of document 01 that
+// Replays the oracle's list of quantizations, then tries the worked values of docs/RULES.md that
 // aren't proved and the refusals.
 ghost use Prim.Native.Nat.{_≤_};
 use libc::STDOUT_FILENO;

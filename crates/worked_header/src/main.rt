@@ -1,5 +1,5 @@
 // Replays the list of headers, those of the list's maker and those of other encoders: each is read
-// at its place, cut short, and written again. Then tries the worked header of document 01, and each
+// at its place, cut short, and written again. Then tries the worked header of docs/RULES.md, and each
 // row of the table by which the two calls say no, alone and with a later row beside it.
 ghost use Prim.Native.Nat.{_≤_};
 ghost use mathlib.Core.Path.{_≡_};

@@ -2,7 +2,7 @@
 
 use crate::inputs::{self, Scene, float, number, prior, sides, stored_model};
 use crate::random::Random;
-use belt::{Buffers, Fitted, Frame, Lent, Refusal, Report, Settings, Task};
+use belt::{Buffers, Fitted, Frame, Lent, Model, Refusal, Report, Settings, StoredModel, Task};
 use oracle::{Models, blocks};
 use std::fmt::{Debug, Write};
 
@@ -38,7 +38,7 @@ pub const KINDS: [Kind; 12] = [
     Kind { name: "header read", share: 6, compare: header_read },
     Kind { name: "header read, damaged", share: 8, compare: header_damaged },
     Kind { name: "job", share: 6, compare: job },
-    Kind { name: "blocks, by document 01", share: 4, compare: stored_frame },
+    Kind { name: "blocks, by docs/RULES.md", share: 4, compare: stored_frame },
 ];
 
 fn same<T: PartialEq + Debug>(what: &str, library: T, rust: T) -> Result<(), String> {
@@ -66,9 +66,15 @@ fn samples(words: &[u32]) -> Vec<[f64; 4]> {
     words.iter().map(|&word| oracle::sample_of(word)).collect()
 }
 
-fn flat(models: &Models) -> [i32; 42] {
-    std::array::from_fn(|i| models[i / 6][i % 6])
+/// The number of the row, where a call refused.
+fn row<T>(answer: Result<T, Refusal>) -> Result<T, u32> {
+    answer.map_err(Refusal::number)
 }
+
+/// The rows that the Rust's own refusals stand for.
+const TOO_SHORT: u32 = 3;
+const SINGULAR: u32 = 6;
+const ENDS_FIRST: u32 = 9;
 
 /// A job's buffers full of a pattern: just long enough, or longer.
 fn buffers(random: &mut Random, width: usize, height: usize) -> Buffers {
@@ -137,14 +143,14 @@ fn search(case: &mut Case) -> Result<(), String> {
         words,
     );
     let words = searched(&pair, &mut theirs);
-    same("samples", found, Ok(words.len()))?;
+    same("samples", row(found), Ok(words.len()))?;
     same_list("half plane of the input", &ours.input_half, &theirs.input_half)?;
     same_list("half plane of the reference", &ours.ref_half, &theirs.ref_half)?;
     same_list("words", &ours.words, &theirs.words)
 }
 
-fn library_fit(kind: u8, words: &[u32]) -> Result<Fitted, Refusal> {
-    match kind {
+fn library_fit(gm_type: u8, words: &[u32]) -> Result<Fitted, Refusal> {
+    match gm_type {
         1 => belt::fit_translation(words),
         2 => belt::fit_rotzoom(words),
         _ => belt::fit_affine(words),
@@ -160,10 +166,10 @@ fn carried(kind: u8, numbers: [f64; 6]) -> [u64; 6] {
 fn fit(case: &mut Case, kind: u8) -> Result<(), String> {
     let words = inputs::words(&mut case.random);
     case.note("words", &words);
-    let ours = library_fit(kind, &words).map(|fitted| (fitted.kind, fitted.numbers.map(bits)));
+    let ours = row(library_fit(kind, &words)).map(|fitted| (fitted.gm_type, fitted.numbers.map(bits)));
     case.accepted = ours.is_ok();
     let theirs = oracle::fit(kind, &samples(&words)).map(|numbers| (kind, carried(kind, numbers)));
-    same("bits of the numbers", ours, theirs.ok_or(Refusal::Singular))
+    same("bits of the numbers", ours, theirs.ok_or(SINGULAR))
 }
 
 fn quantized_model(case: &mut Case) -> Result<(), String> {
@@ -178,11 +184,11 @@ fn quantized_model(case: &mut Case) -> Result<(), String> {
     case.note("type, flag", (kind, flag));
     case.note("numbers", numbers);
     case.note("words", &words);
-    let ours = belt::quantize_model(&Fitted { kind, numbers }, flag, &words);
+    let ours = belt::quantize_model(&Fitted { gm_type: kind, numbers }, flag, &words);
     if kind == 2 {
         (numbers[4], numbers[5]) = (-numbers[3], numbers[2]);
     }
-    same("model", ours, Ok(oracle::quantize_model(&numbers, kind, flag == 1, &samples(&words))))
+    same("model", ours, Ok(Model(oracle::quantize_model(&numbers, kind, flag == 1, &samples(&words)))))
 }
 
 fn score(case: &mut Case) -> Result<(), String> {
@@ -195,7 +201,7 @@ fn score(case: &mut Case) -> Result<(), String> {
     });
     case.note("model", params);
     case.note("words", &words);
-    let ours = belt::mean_sq_residual(&params, &words).map(bits);
+    let ours = belt::mean_sq_residual(&Model(params), &words).map(bits);
     same("bits of the score", ours, Ok(bits(oracle::score(&params, &samples(&words)))))
 }
 
@@ -233,7 +239,8 @@ fn header(case: &mut Case) -> Header {
 
 impl Header {
     fn write(&self, room: &mut [u8]) -> Result<usize, Refusal> {
-        belt::encode_inter_global_motion(&self.types, &flat(&self.params), self.flag, &flat(&self.prior), room)
+        let (models, prior) = (self.params.map(StoredModel), self.prior.map(StoredModel));
+        belt::encode_inter_global_motion(&self.types, &models, self.flag, &prior, room)
     }
 
     /// The Rust's bytes and bits.
@@ -254,10 +261,10 @@ fn header_written(case: &mut Case) -> Result<(), String> {
     case.note("room", room);
     let before = case.random.bytes(room);
     let mut after = before.clone();
-    let ours = header.write(&mut after);
+    let ours = row(header.write(&mut after));
     case.accepted = ours.is_ok();
     if room < bytes.len() {
-        same("bits", ours, Err(Refusal::TooShort))?;
+        same("bits", ours, Err(TOO_SHORT))?;
         return same_list("bytes", &after, &before);
     }
     same("bits", ours, Ok(count))?;
@@ -268,12 +275,11 @@ fn header_written(case: &mut Case) -> Result<(), String> {
 fn read(case: &mut Case, bytes: &[u8], at: usize, flag: u8, prior: &Models) -> Result<(), String> {
     case.note("bytes", bytes);
     case.note("from bit", at);
-    let ours = belt::read_global_motion_params(bytes, at, flag, &flat(prior));
+    let ours = row(belt::read_global_motion_params(bytes, at, flag, &prior.map(StoredModel)));
     case.accepted = ours.is_ok();
-    let ours = ours.map(|read| (read.types, read.params, read.bits));
+    let ours = ours.map(|read| (read.types, read.models.map(|model| model.0), read.bits));
     let theirs = oracle::read_header(bytes, at, flag == 1, prior);
-    let theirs = theirs.map(|(types, params, bits)| (types, flat(&params), bits)).ok_or(Refusal::EndsFirst);
-    same("types, models and bits", ours, theirs)
+    same("types, models and bits", ours, theirs.ok_or(ENDS_FIRST))
 }
 
 /// The Rust's header from a bit on, with other bits before and behind it.
@@ -289,9 +295,9 @@ fn header_read(case: &mut Case) -> Result<(), String> {
         all[byte] = all[byte] & !(1 << shift) | bit << shift;
     }
     read(case, &all, at, header.flag, &header.prior)?;
-    let back = belt::read_global_motion_params(&all, at, header.flag, &flat(&header.prior));
-    let back = back.map(|read| (read.types, read.params, read.bits));
-    same("what was written", back, Ok((header.types, flat(&header.params), count)))
+    let back = belt::read_global_motion_params(&all, at, header.flag, &header.prior.map(StoredModel));
+    let back = back.map(|read| (read.types, read.models, read.bits));
+    same("what was written", back, Ok((header.types, header.params.map(StoredModel), count)))
 }
 
 /// A header that is cut, has bits flipped, is read with another flag or prior, or is no header at all.
@@ -337,31 +343,23 @@ fn header_damaged(case: &mut Case) -> Result<(), String> {
     read(case, &bytes, at, flag, &prior)
 }
 
-/// Slots 0 and 1 of a translation exchanged: the row first.
-fn row_first(kind: u8, mut model: [i32; 6]) -> [i32; 6] {
-    if kind == 1 {
-        model.swap(0, 1);
-    }
-    model
-}
-
 /// The composition of the Rust's answers: what a job reports and leaves.
-fn job_of_the_rust(pair: &Pair, settings: Settings, header: &Header, left: &mut Buffers) -> Result<Report, Refusal> {
+fn job_of_the_rust(pair: &Pair, settings: Settings, header: &Header, left: &mut Buffers) -> Result<Report, u32> {
     let Settings { frame, gm_type, reference, flag } = settings;
     let words = searched(pair, left);
     let samples = samples(&words);
-    let fitted = oracle::fit(gm_type, &samples).ok_or(Refusal::Singular)?;
+    let fitted = oracle::fit(gm_type, &samples).ok_or(SINGULAR)?;
     let model = oracle::quantize_model(&fitted, gm_type, flag == 1, &samples);
     let score = oracle::score(&model, &samples);
     let place = usize::from(reference) - 1;
     let mut full = Header { flag, ..*header };
     full.types[place] = gm_type;
-    full.params[place] = row_first(gm_type, model);
+    full.params[place] = Model(model).row_first(gm_type).0;
     let (bytes, bits) = full.written();
     left.header[..bytes.len()].copy_from_slice(&bytes);
     let stored = blocks::write(frame, &words);
     left.blocks[..stored.len()].copy_from_slice(&stored);
-    Ok(Report { types: full.types, models: flat(&full.params), score, bits, samples: words.len() })
+    Ok(Report { types: full.types, models: full.params.map(StoredModel), score, bits, samples: words.len() })
 }
 
 fn job(case: &mut Case) -> Result<(), String> {
@@ -380,7 +378,7 @@ fn job(case: &mut Case) -> Result<(), String> {
     let place = usize::from(settings.reference) - 1;
     let others = |i: &usize| *i != place;
     let types: Vec<u8> = (0..7).filter(others).map(|i| header.types[i]).collect();
-    let models: Vec<i32> = (0..7).filter(others).flat_map(|i| header.params[i]).collect();
+    let models: Vec<StoredModel> = (0..7).filter(others).map(|i| StoredModel(header.params[i])).collect();
     let task = Task {
         input: &pair.input,
         reference: &pair.reference,
@@ -390,9 +388,9 @@ fn job(case: &mut Case) -> Result<(), String> {
         classes: &pair.classes,
         types: &types,
         models: &models,
-        prior: &flat(&header.prior),
+        prior: &header.prior.map(StoredModel),
     };
-    let report = belt::job(&task, &mut ours.lend());
+    let report = row(belt::job(&task, &mut ours.lend()));
     case.accepted = report.is_ok();
     let parts = |report: Report| (report.types, report.models, bits(report.score), report.bits, report.samples);
     let rust = job_of_the_rust(&pair, settings, &header, &mut theirs);
@@ -427,11 +425,11 @@ fn stored_frame(case: &mut Case) -> Result<(), String> {
     case.note("words", &words);
     case.note("room", room);
     let mut after = before.clone();
-    let ours = belt::write_frame(frame, &words, &mut after);
+    let ours = row(belt::write_frame(frame, &words, &mut after));
     case.accepted = ours.is_ok();
-    let row = blocks::store_refusal(&words, room);
-    if row != 0 {
-        same("blocks", ours, Err(Refusal::of_number(row).expect("a row")))?;
+    let refusal = blocks::store_refusal(&words, room);
+    if refusal != 0 {
+        same("blocks", ours, Err(refusal))?;
         return same_list("bytes", &after, &before);
     }
     same("blocks", ours, Ok(needed / 512))?;
@@ -463,11 +461,11 @@ fn frame_read(case: &mut Case, mut bytes: Vec<u8>) -> Result<(), String> {
     case.note("bytes to read", &bytes);
     let before = vec![0xA5A5_5A5Au32; room];
     let mut words = before.clone();
-    let ours = belt::read_frame(&bytes, &mut words);
+    let ours = row(belt::read_frame(&bytes, &mut words));
     case.accepted = ours.is_ok();
     let mut left = before;
     let theirs = match blocks::read(&bytes, room) {
-        Err(row) => Err(Refusal::of_number(row).expect("a row")),
+        Err(refusal) => Err(refusal),
         Ok((number, read)) => {
             left[..read.len()].copy_from_slice(&read);
             Ok(Frame { number, samples: read.len() })
@@ -476,9 +474,9 @@ fn frame_read(case: &mut Case, mut bytes: Vec<u8>) -> Result<(), String> {
     same("frame", ours, theirs)?;
     same_list("words", &words, &left)?;
     for block in bytes.chunks(512) {
-        let ours = belt::judge_block(block).map(|block| block.count);
+        let ours = row(belt::judge_block(block)).map(|block| block.count);
         let theirs = blocks::judge_alone(block).map(|words| words.len());
-        same("count of a block", ours, theirs.map_err(|row| Refusal::of_number(row).expect("a row")))?;
+        same("count of a block", ours, theirs)?;
         let mut text = [0xA5; belt::TEXT_BYTES];
         same("text of a block", belt::list_block(block, &mut text).to_owned(), blocks::text(block))?;
     }

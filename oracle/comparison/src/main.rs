@@ -11,9 +11,12 @@ use random::Random;
 use std::env;
 use std::panic::{AssertUnwindSafe, catch_unwind};
 use std::process::ExitCode;
+use std::time::{Duration, Instant};
 
 const DEFAULT_COUNT: u64 = 20_000;
 const DEFAULT_SEED: u64 = 1;
+/// A line on standard error says how far it is, as often as this.
+const PROGRESS: Duration = Duration::from_secs(5);
 
 /// How an input was compared: its kind, what befell it, or what differs.
 struct Compared {
@@ -53,7 +56,13 @@ fn main() -> ExitCode {
         }
     };
     let mut counts = [[0u64; 2]; KINDS.len()];
+    let begun = Instant::now();
+    let mut next = PROGRESS;
     for input in 0..count {
+        if begun.elapsed() >= next {
+            eprintln!("compare: {input} of {count} inputs, no difference so far");
+            next += PROGRESS;
+        }
         let seed = seed.wrapping_add(input);
         let Compared { kind, case, difference } = compare(seed);
         if let Some(difference) = difference {

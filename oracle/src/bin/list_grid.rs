@@ -7,7 +7,7 @@ use std::{env, io};
 const SEED: u32 = 1;
 const RANDOM_ORDINALS: usize = 6;
 
-/// Type, flag, slot and value of document 01's worked quantizations.
+/// Type, flag, slot and value of the rules' worked quantizations.
 const WORKED: [(u8, bool, usize, i32); 11] = [
     (3, true, 2, 65536),
     (3, true, 2, 65537),

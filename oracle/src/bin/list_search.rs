@@ -1,6 +1,6 @@
 //! The list for `worked_search`: a count, then for each case 29 words of what is asked, five of what must
 //! come back, and the sample words. The planes of a case are windows on a texture made from a seed. The
-//! answers are the Rust's; refusals go by the rows 1, 2, 4, 3 of document 01. The argument is the file to write.
+//! answers are the Rust's; refusals go by the rows 1, 2, 4, 3 of docs/RULES.md. The argument is the file to write.
 
 use oracle::list::{Lcg, List};
 use std::{env, io};
@@ -164,7 +164,7 @@ fn shifts() -> Vec<Case> {
     cases
 }
 
-/// The worked pairs of document 01, and sides that hold no block or reach the limits.
+/// The worked pairs of docs/RULES.md, and sides that hold no block or reach the limits.
 fn edges() -> Vec<Case> {
     let mut cases = Vec::new();
     for (width, height) in [(16, 16), (15, 16), (33, 16)] {
@@ -280,7 +280,7 @@ fn classes(case: &Case) -> Vec<u8> {
     classes
 }
 
-/// Document 01's rows in their order, 0 where none holds.
+/// The rules' rows in their order, 0 where none holds.
 fn refusal(case: &Case) -> u32 {
     let (width, height) = (case.width, case.height);
     let samples = oracle::sample_count(width, height);

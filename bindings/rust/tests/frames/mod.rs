@@ -1,7 +1,7 @@
 //! Made-up frame pairs, and the memory around a job's buffers.
 #![allow(dead_code)] // each test file uses a part
 
-use belt::{BLOCK_BYTES, Buffers, IDENTITIES, Settings, Task, sample_count};
+use belt::{BLOCK_BYTES, Buffers, IDENTITIES, Settings, StoredModel, Task, sample_count};
 
 /// Values by position alone, without a pattern.
 fn noise(y: i64, x: i64) -> u16 {
@@ -44,8 +44,8 @@ pub struct Handed {
     pub settings: Settings,
     pub classes: Vec<u8>,
     pub types: Vec<u8>,
-    pub models: Vec<i32>,
-    pub prior: Vec<i32>,
+    pub models: Vec<StoredModel>,
+    pub prior: Vec<StoredModel>,
 }
 
 impl Handed {
@@ -59,7 +59,7 @@ impl Handed {
             settings: Settings { frame: 4660, gm_type, reference: 3, flag: 1 },
             classes: (0..sample_count(width, height)).map(|i| (i % 4) as u8).collect(),
             types: vec![0; 6],
-            models: IDENTITIES[..36].to_vec(),
+            models: IDENTITIES[..6].to_vec(),
             prior: IDENTITIES.to_vec(),
         }
     }

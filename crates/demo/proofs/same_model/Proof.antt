@@ -1,17 +1,17 @@
--- `demo::same_numbers`: each turn compares one number of the 42, and the counter rises to 42. Assumes nothing.
+-- `demo::same_model`: six slots are left, then fewer. Assumes nothing.
 use Prim.Native.Nat.{_≤_, _-_}
 use borrow.Author.Needs.{needs}
-use Rattle.demo.proofs.same_numbers.Statement.{statement}
-use Rattle.demo.proofs.same_numbers.Tie as tie
+use Rattle.demo.proofs.same_model.Statement.{statement}
+use Rattle.demo.proofs.same_model.Tie as tie
 
 abbrev Inv-loop : tie.InvT-loop
-Inv-loop a b i₀ i = i ≤ 42
+Inv-loop a b i₀ i = i ≤ 6
 
 abbrev μ-loop : tie.MeasureT-loop
-μ-loop a b i₀ i = 42 - i
+μ-loop a b i₀ i = 6 - i
 
-pub same-numbers-spec : {M : Type 1} → statement M
-same-numbers-spec =
+pub same-model-spec : {M : Type 1} → statement M
+same-model-spec =
     tie.close
     (tie.spec
     Inv-loop

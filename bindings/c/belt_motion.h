@@ -1,0 +1,68 @@
+/* Sample words and models in pels, for people: functions of this header alone, in plain C, not proved.
+   x runs to the right and y down from the centre of a plane's first pel. Motion goes from the input to the
+   reference: what the input shows at (x, y) stands at (x + u, y + v) in the reference. docs/RULES.md, 'Sample'
+   and 'Model'. belt_zoom and belt_degrees need the C library's mathematics (-lm). */
+#ifndef BELT_MOTION_H
+#define BELT_MOTION_H
+
+#include <math.h>
+
+#include "belt.h"
+
+/* A sample: block row and column, the block's centre and its motion in pels, its class. */
+struct belt_sample { uint32_t row; uint32_t column; double x; double y; double u; double v; uint8_t class_code; };
+
+/* A motion in pels. */
+struct belt_motion { double u; double v; };
+
+static inline struct belt_sample belt_sample_of(uint32_t word) {
+    struct belt_sample sample;
+    sample.row = word >> 26;
+    sample.column = word >> 20 & 63;
+    sample.x = 16.0 * sample.column + 7.5;
+    sample.y = 16.0 * sample.row + 7.5;
+    sample.u = ((double)(word >> 2 & 511) - BELT_MOST_EIGHTHS) / 8.0;
+    sample.v = ((double)(word >> 11 & 511) - BELT_MOST_EIGHTHS) / 8.0;
+    sample.class_code = (uint8_t)(word & 3);
+    return sample;
+}
+
+/* The motion that a model has at a place; its shift is the one at the origin, or at any place for a translation. */
+static inline struct belt_motion belt_motion_at(struct belt_model model, double x, double y) {
+    double m[6];
+    for (int slot = 0; slot < 6; slot++)
+        m[slot] = model.params[slot] / (double)BELT_ONE;
+    struct belt_motion motion;
+    motion.u = (m[2] - 1.0) * x + m[3] * y + m[0];
+    motion.v = m[4] * x + (m[5] - 1.0) * y + m[1];
+    return motion;
+}
+
+/* The zoom and the turn in degrees, from x towards y (clockwise on a screen), of a rotation-zoom; of an affine
+   model those of the rotation-zoom nearest to it. 1 and 0 for a translation. A load that grew since the reference
+   was taken has a zoom below 1, since motion goes back to the reference. */
+static inline double belt_zoom(struct belt_model model) {
+    double along = ((double)model.params[2] + model.params[5]) / 2.0;
+    double across = ((double)model.params[4] - model.params[3]) / 2.0;
+    return sqrt(along * along + across * across) / BELT_ONE;
+}
+static inline double belt_degrees(struct belt_model model) {
+    double along = ((double)model.params[2] + model.params[5]) / 2.0;
+    double across = ((double)model.params[4] - model.params[3]) / 2.0;
+    return atan2(across, along) * 57.295779513082320877;
+}
+
+/* How many samples a model explains: those whose motion is at most so many pels from the model's at their centre.
+   Where few agree, the motion was beyond the search's range or isn't one of this type. */
+static inline size_t belt_agreeing(struct belt_model model, const uint32_t *words, size_t word_count, double pels) {
+    size_t agreeing = 0;
+    for (size_t i = 0; i < word_count; i++) {
+        struct belt_sample sample = belt_sample_of(words[i]);
+        struct belt_motion motion = belt_motion_at(model, sample.x, sample.y);
+        double du = sample.u - motion.u, dv = sample.v - motion.v;
+        agreeing += du * du + dv * dv <= pels * pels;
+    }
+    return agreeing;
+}
+
+#endif

@@ -1,0 +1,433 @@
+"""The proved motion core, for Python: search, fits, grid, blocks, header and the whole job.
+
+docs/RULES.md of the repository has the rules; names in quotes here are its sections. Lists are anything with a
+buffer of the right elements: array.array, bytearray, memoryview, ctypes arrays, numpy arrays; they are taken as they
+are, without a copy, and lent ones are written in place. Read-only ones (bytes), lists and tuples are copied, and
+can't be lent.
+
+    planes                  16-bit unsigned ('H', uint16)
+    words                   32-bit unsigned ('I', uint32)
+    classes, types, bytes   8-bit unsigned ('B', uint8)
+
+A call that refuses raises Refusal, with the row's number and text; what was lent is then as it was (job has one
+exception). A model is a Model (x first) or a StoredModel (as headers, priors and reports have it): two types, since
+their numbers don't tell them apart. The library keeps nothing between calls and may be called from many threads;
+ctypes lets go of Python's lock during a call.
+"""
+
+import ctypes
+import math
+from array import array
+from ctypes import c_double, c_int32, c_uint8, c_uint16, c_uint32
+from typing import NamedTuple, Tuple
+
+from . import _raw
+
+__version__ = "0.1.0"
+
+MOST_SIDE = 1024
+BLOCK_SIDE = 16
+MOST_SAMPLES = 4096
+MOST_EIGHTHS = 223
+BLOCK_BYTES = 512
+BLOCK_WORDS = 125
+HEADER_BYTES = 124
+TEXT_BYTES = 4096
+
+IDENTITY, TRANSLATION, ROTZOOM, AFFINE = range(4)
+UNSORTED, FIBRE, RIGID_PLASTIC, METAL = range(4)
+
+_ONE = 65536
+
+# The rows in the order in which they are judged.
+REFUSALS = {
+    1: "side over 1,024, or over 4,096 samples",
+    2: "plane, class, type, model or prior list of wrong length",
+    4: "type, class or flag code out of range; type 0 for a fit",
+    5: "slot over 5, reference outside 1 to 7",
+    7: "model off the grid, uncarried slot or pair wrong",
+    8: "prior out of range",
+    12: "words to store out of range or not rising",
+    3: "output or working buffer too short",
+    6: "elimination refuses",
+    9: "bytes end before the last bit or block",
+    10: "block check wrong",
+    11: "block field, filler or sequence wrong",
+}
+
+
+class Refusal(Exception):
+    """A call said no: the row's number and text ('When a call says no')."""
+
+    def __init__(self, number):
+        super().__init__(f"{number}: {REFUSALS[number]}")
+        self.number = number
+        self.text = REFUSALS[number]
+
+
+class Motion(NamedTuple):
+    """In pels, from the input to the reference: u to the right, v down."""
+
+    u: float
+    v: float
+
+
+class Sample(NamedTuple):
+    """What a sample word says ('Sample word'): block row and column, centre and motion in pels, class."""
+
+    row: int
+    column: int
+    x: float
+    y: float
+    u: float
+    v: float
+    class_code: int
+
+
+def sample_of(word):
+    """The sample of a word."""
+    row, column = word >> 26, word >> 20 & 63
+    v, u = (word >> 11 & 511) - MOST_EIGHTHS, (word >> 2 & 511) - MOST_EIGHTHS
+    return Sample(row, column, 16 * column + 7.5, 16 * row + 7.5, u / 8, v / 8, word & 3)
+
+
+class _Six(tuple):
+    def __new__(cls, numbers):
+        six = super().__new__(cls, numbers)
+        if len(six) != 6:
+            raise ValueError(f"a model has 6 numbers, not {len(six)}")
+        return six
+
+    def __repr__(self):
+        return f"{type(self).__name__}{tuple(self)}"
+
+    def __eq__(self, other):
+        return type(self) is type(other) and tuple(self) == tuple(other)
+
+    def __ne__(self, other):
+        return not self == other
+
+    def __hash__(self):
+        return hash((type(self).__name__, tuple(self)))
+
+    def _exchanged(self, gm_type):
+        return (self[1], self[0]) + tuple(self[2:]) if gm_type == TRANSLATION else tuple(self)
+
+
+class Model(_Six):
+    """Six numbers at 16 fraction bits, x first ('Model'): the order of fits, grid and score."""
+
+    def row_first(self, gm_type):
+        """The same model as headers have it, for its type."""
+        return StoredModel(self._exchanged(gm_type))
+
+    def motion_at(self, x, y):
+        """Its motion at a place, in pels; the origin is the centre of a plane's first pel."""
+        m0, m1, m2, m3, m4, m5 = (number / _ONE for number in self)
+        return Motion((m2 - 1) * x + m3 * y + m0, m4 * x + (m5 - 1) * y + m1)
+
+    @property
+    def shift(self):
+        """Its motion at the origin; of a translation, anywhere."""
+        return self.motion_at(0.0, 0.0)
+
+    @property
+    def zoom(self):
+        """Its zoom; of an affine model, that of the rotation-zoom nearest to it."""
+        return math.hypot(self[2] + self[5], self[4] - self[3]) / (2 * _ONE)
+
+    @property
+    def degrees(self):
+        """Its turn, from x towards y (clockwise on a screen); of an affine model, as for zoom."""
+        return math.degrees(math.atan2(self[4] - self[3], self[2] + self[5]))
+
+    def agreeing(self, words, pels):
+        """How many words it explains: their motion is at most so many pels from its own at their centre.
+
+        Motion beyond 27.875 pels isn't found and isn't refused; then few words agree.
+        """
+        count = 0
+        for word in words:
+            sample = sample_of(word)
+            own = self.motion_at(sample.x, sample.y)
+            count += math.hypot(sample.u - own.u, sample.v - own.v) <= pels
+        return count
+
+
+class StoredModel(_Six):
+    """Six numbers as headers, priors and reports have them: of a translation the row's motion is first."""
+
+    def x_first(self, gm_type):
+        """The same model in the order of the fits, for its type."""
+        return Model(self._exchanged(gm_type))
+
+
+STILL = (0, 0, _ONE, 0, 0, _ONE)
+IDENTITIES = (StoredModel(STILL),) * 7
+
+
+class Fitted(NamedTuple):
+    """A fitted model: its type, 1 to 3, and two, four or six numbers, x first, zeros after them."""
+
+    gm_type: int
+    numbers: Tuple[float, ...]
+
+
+class Frame(NamedTuple):
+    number: int
+    samples: int
+
+
+class Block(NamedTuple):
+    frame: int
+    ordinal: int
+    count: int
+
+
+class Models(NamedTuple):
+    """What a header holds: seven types and models, and the bits consumed."""
+
+    types: Tuple[int, ...]
+    models: Tuple[StoredModel, ...]
+    bits: int
+
+
+class Settings(NamedTuple):
+    """The frame's number, the type to fit (1 to 3), the reference of the model (1 to 7), the flag."""
+
+    frame: int
+    gm_type: int
+    reference: int
+    flag: int
+
+
+class Report(NamedTuple):
+    """Seven types and models, the score in square pels, the header's bits, how many samples there are."""
+
+    types: Tuple[int, ...]
+    models: Tuple[StoredModel, ...]
+    score: float
+    bits: int
+    samples: int
+
+
+def sample_count(width, height):
+    """How many whole 16×16 blocks a plane has: the samples of a search."""
+    return (width // BLOCK_SIDE) * (height // BLOCK_SIDE)
+
+
+def half_plane_values(width, height):
+    """How many values a half plane has: none where there are no samples."""
+    return (width // 2) * (height // 2) if sample_count(width, height) else 0
+
+
+def block_bytes(samples):
+    """How many bytes the blocks of so many samples take."""
+    return BLOCK_BYTES * -(-samples // BLOCK_WORDS)
+
+
+class Buffers:
+    """A job's memory, of the lengths that planes of given sides need."""
+
+    def __init__(self, width, height):
+        samples = sample_count(min(width, MOST_SIDE), min(height, MOST_SIDE))
+        half = half_plane_values(min(width, MOST_SIDE), min(height, MOST_SIDE))
+        self.input_half = array("H", bytes(2 * half))
+        self.ref_half = array("H", bytes(2 * half))
+        self.words = array("I", bytes(4 * samples))
+        self.blocks = bytearray(block_bytes(samples))
+        self.header = bytearray(HEADER_BYTES)
+
+
+_FORMATS = {c_uint8: "Bc", c_uint16: "H", c_uint32: "IL"}
+_SIZES = {c_uint8: 1, c_uint16: 2, c_uint32: 4}
+
+
+def _list(values, element, name, lent=False):
+    """A pointer and a count: of the buffer itself, or of a copy where there is none and it isn't lent."""
+    if isinstance(values, (list, tuple)) and not lent:
+        copied = (element * len(values))(*_whole(values, element, name))
+        return [copied, len(values)]
+    view = memoryview(values)
+    if view.format.lstrip("@=<") not in tuple(_FORMATS[element]) or view.itemsize != _SIZES[element]:
+        raise TypeError(f"{name}: elements of {8 * _SIZES[element]} bits without sign are wanted, not {view.format!r}")
+    if not view.c_contiguous:
+        raise TypeError(f"{name}: the elements must follow each other in memory")
+    if lent and view.readonly:
+        raise TypeError(f"{name}: it can't be written to")
+    count = view.nbytes // view.itemsize
+    if view.readonly:
+        # ctypes takes the address of writable buffers alone, so this one is copied
+        return [(element * count).from_buffer_copy(view.cast("B")) if count else (element * 0)(), count]
+    return [(element * count).from_buffer(values) if count else (element * 0)(), count]
+
+
+def _whole(values, element, name):
+    most = 256 ** _SIZES[element]
+    for value in values:
+        if not 0 <= value < most:
+            raise ValueError(f"{name}: {value} isn't from 0 to {most - 1}")
+    return values
+
+
+def _code(value, name, most=255):
+    if not 0 <= value <= most:
+        raise ValueError(f"{name}: {value} isn't from 0 to {most}")
+    return value
+
+
+def _numbers(models, name):
+    """Models as stored, their numbers one after the other."""
+    for model in models:
+        if not isinstance(model, StoredModel):
+            raise TypeError(f"{name}: StoredModel is wanted, not {type(model).__name__}")
+    flat = [number for model in models for number in model]
+    return [(c_int32 * len(flat))(*map(_signed, flat)), len(flat)]
+
+
+def _signed(number):
+    if not -(2**31) <= number < 2**31:
+        raise ValueError(f"a model's number: {number} isn't one of 32 bits with sign")
+    return number
+
+
+def _models(numbers):
+    return tuple(StoredModel(numbers[i : i + 6]) for i in range(0, 42, 6))
+
+
+def _call(name, *arguments):
+    flat = [part for argument in arguments for part in (argument if isinstance(argument, list) else [argument])]
+    answer = getattr(_raw.library, name)(*flat)
+    if answer.refusal:
+        raise Refusal(answer.refusal)
+    return answer
+
+
+def collect_motion_samples(input_y, ref_y, width, height, classes, input_half, ref_half, words):
+    """Searches each whole 16×16 block ('Search'); answers how many words are written. Refuses 1, 2, 4, 3."""
+    return _call(
+        "belt_collect_motion_samples",
+        _list(input_y, c_uint16, "input_y"),
+        _list(ref_y, c_uint16, "ref_y"),
+        width,
+        height,
+        _list(classes, c_uint8, "classes"),
+        _list(input_half, c_uint16, "input_half", True),
+        _list(ref_half, c_uint16, "ref_half", True),
+        _list(words, c_uint32, "words", True),
+    ).samples
+
+
+def _fit(gm_type, name, words):
+    return Fitted(gm_type, tuple(_call(name, _list(words, c_uint32, "words")).numbers))
+
+
+def fit_translation(words):
+    """The translation that fits up to 4,096 words ('Fits and score'). Refuses 1."""
+    return _fit(TRANSLATION, "belt_fit_translation", words)
+
+
+def fit_rotzoom(words):
+    """The rotation-zoom that fits up to 4,096 words ('Fits and score'). Refuses 1, 6."""
+    return _fit(ROTZOOM, "belt_fit_rotzoom", words)
+
+
+def fit_affine(words):
+    """The affine model that fits up to 4,096 words ('Fits and score'). Refuses 1, 6."""
+    return _fit(AFFINE, "belt_fit_affine", words)
+
+
+def quantize_model(fitted, flag, words):
+    """The fitted model on the grid ('Fits and score'), a Model. Refuses 1, 4."""
+    numbers = (c_double * 6)(*fitted.numbers)
+    words = _list(words, c_uint32, "words")
+    gm_type = _code(fitted.gm_type, "gm_type")
+    return Model(_call("belt_quantize_model", gm_type, numbers, _code(flag, "flag"), words).params)
+
+
+def mean_sq_residual(model, words):
+    """The score of a Model over up to 4,096 words ('Fits and score'), in square pels. Refuses 1."""
+    if not isinstance(model, Model):
+        raise TypeError(f"model: Model is wanted, not {type(model).__name__}")
+    params = (c_int32 * 6)(*map(_signed, model))
+    return _call("belt_mean_sq_residual", params, _list(words, c_uint32, "words")).score
+
+
+def quantize_global_param(gm_type, flag, slot, value):
+    """The codable number nearest to a value ('Grid'). Refuses 4, 5."""
+    codes = _code(gm_type, "gm_type"), _code(flag, "flag"), _code(slot, "slot")
+    return _call("belt_quantize_global_param", *codes, _signed(value)).value
+
+
+def write_frame(frame, words, blocks):
+    """Stores a frame's words ('Sample block'); answers how many blocks. Refuses 1, 12, 3."""
+    frame = _code(frame, "frame", 65535)
+    words = _list(words, c_uint32, "words")
+    return _call("belt_write_frame", frame, words, _list(blocks, c_uint8, "blocks", True)).blocks
+
+
+def read_frame(data, words):
+    """Reads the frame that the bytes begin with ('Sample block'), a Frame. Refuses 9, 10, 11, 3."""
+    read = _call("belt_read_frame", _list(data, c_uint8, "data"), _list(words, c_uint32, "words", True))
+    return Frame(read.frame, read.samples)
+
+
+def judge_block(data):
+    """Judges one block without its neighbours ('Sample block'), a Block. Refuses 9, 10, 11."""
+    read = _call("belt_judge_block", _list(data, c_uint8, "data"))
+    return Block(read.frame, read.ordinal, read.count)
+
+
+def list_block(data):
+    """The text of a block ('Job'), or 'refused' and the number. It refuses nothing."""
+    text = (c_uint8 * TEXT_BYTES)()
+    length = _raw.library.belt_list_block(*_list(data, c_uint8, "data"), ctypes.byref(text))
+    return bytes(text[:length]).decode("ascii")
+
+
+def encode_inter_global_motion(types, models, flag, prior, header):
+    """Writes seven types and StoredModels ('Header'); answers how many bits. Refuses 2, 4, 7, 8, 3."""
+    return _call(
+        "belt_encode_inter_global_motion",
+        _list(types, c_uint8, "types"),
+        _numbers(models, "models"),
+        _code(flag, "flag"),
+        _numbers(prior, "prior"),
+        _list(header, c_uint8, "header", True),
+    ).bits
+
+
+def read_global_motion_params(header, at, flag, prior):
+    """Reads seven types and models from a bit on ('Reading by the standard'), Models. Refuses 2, 4, 8, 9."""
+    header, prior = _list(header, c_uint8, "header"), _numbers(prior, "prior")
+    read = _call("belt_read_global_motion_params", header, _code(at, "at", 2**64 - 1), _code(flag, "flag"), prior)
+    return Models(tuple(read.types), _models(read.params), read.bits)
+
+
+def job(input_y, reference, width, height, settings, classes, buffers, types=(0,) * 6, models=None, prior=IDENTITIES):
+    """Runs a whole job ('Job'): search, fit, grid, score, blocks and header, into a Buffers or anything with its five
+    fields; answers a Report. The six other references are identities unless types and StoredModels are given.
+
+    Refuses 1, 2, 4, 5, 7, 8, 3, 6. After 6 the half planes and the words are in their buffers; blocks and header are
+    as they were.
+    """
+    frame = _code(settings.frame, "frame", 65535)
+    codes = [_code(code, name) for code, name in zip(settings[1:], ("gm_type", "reference", "flag"))]
+    report = _call(
+        "belt_job",
+        _list(input_y, c_uint16, "input_y"),
+        _list(reference, c_uint16, "reference"),
+        width,
+        height,
+        _raw.Settings(frame, *codes),
+        _list(classes, c_uint8, "classes"),
+        _list(types, c_uint8, "types"),
+        _numbers(IDENTITIES[:6] if models is None else models, "models"),
+        _numbers(prior, "prior"),
+        _list(buffers.input_half, c_uint16, "input_half", True),
+        _list(buffers.ref_half, c_uint16, "ref_half", True),
+        _list(buffers.words, c_uint32, "words", True),
+        _list(buffers.blocks, c_uint8, "blocks", True),
+        _list(buffers.header, c_uint8, "header", True),
+    )
+    return Report(tuple(report.types), _models(report.models), report.score, report.bits, report.samples)

@@ -1,0 +1,133 @@
+"""The shared library's declarations, by ctypes: every call and struct of crates/belt, and nothing else.
+
+`bindings/declarations` holds them to the library's own.
+"""
+
+import ctypes
+import os
+from ctypes import POINTER, c_double, c_int32, c_size_t, c_uint8, c_uint16, c_uint32
+from pathlib import Path
+
+
+class Searched(ctypes.Structure):
+    _fields_ = [("refusal", c_uint32), ("samples", c_size_t)]
+
+
+class FitAnswer(ctypes.Structure):
+    _fields_ = [("refusal", c_uint32), ("numbers", c_double * 6)]
+
+
+class QuantizedModel(ctypes.Structure):
+    _fields_ = [("refusal", c_uint32), ("params", c_int32 * 6)]
+
+
+class QuantizedParam(ctypes.Structure):
+    _fields_ = [("refusal", c_uint32), ("value", c_int32)]
+
+
+class Score(ctypes.Structure):
+    _fields_ = [("refusal", c_uint32), ("score", c_double)]
+
+
+class Stored(ctypes.Structure):
+    _fields_ = [("refusal", c_uint32), ("blocks", c_size_t)]
+
+
+class FrameRead(ctypes.Structure):
+    _fields_ = [("refusal", c_uint32), ("frame", c_uint16), ("samples", c_size_t)]
+
+
+class BlockRead(ctypes.Structure):
+    _fields_ = [("refusal", c_uint32), ("frame", c_uint16), ("ordinal", c_size_t), ("count", c_size_t)]
+
+
+class Written(ctypes.Structure):
+    _fields_ = [("refusal", c_uint32), ("bits", c_size_t)]
+
+
+class Models(ctypes.Structure):
+    _fields_ = [("refusal", c_uint32), ("types", c_uint8 * 7), ("params", c_int32 * 42), ("bits", c_size_t)]
+
+
+class Settings(ctypes.Structure):
+    _fields_ = [("frame", c_uint16), ("gm_type", c_uint8), ("reference", c_uint8), ("flag", c_uint8)]
+
+
+class Report(ctypes.Structure):
+    _fields_ = [
+        ("refusal", c_uint32),
+        ("types", c_uint8 * 7),
+        ("models", c_int32 * 42),
+        ("score", c_double),
+        ("bits", c_size_t),
+        ("samples", c_size_t),
+    ]
+
+
+def _list(element):
+    """A list passes as a pointer and a count."""
+    return [POINTER(element), c_size_t]
+
+
+_PELS, _BYTES, _WORDS, _NUMBERS = _list(c_uint16), _list(c_uint8), _list(c_uint32), _list(c_int32)
+
+# Each call: its parameters, and what it returns.
+CALLS = {
+    "belt_collect_motion_samples": (
+        _PELS + _PELS + [c_size_t, c_size_t] + _BYTES + _PELS + _PELS + _WORDS,
+        Searched,
+    ),
+    "belt_fit_translation": (_WORDS, FitAnswer),
+    "belt_fit_rotzoom": (_WORDS, FitAnswer),
+    "belt_fit_affine": (_WORDS, FitAnswer),
+    "belt_quantize_model": ([c_uint8, POINTER(c_double * 6), c_uint8] + _WORDS, QuantizedModel),
+    "belt_mean_sq_residual": ([POINTER(c_int32 * 6)] + _WORDS, Score),
+    "belt_quantize_global_param": ([c_uint8, c_uint8, c_uint8, c_int32], QuantizedParam),
+    "belt_write_frame": ([c_uint16] + _WORDS + _BYTES, Stored),
+    "belt_read_frame": (_BYTES + _WORDS, FrameRead),
+    "belt_judge_block": (_BYTES, BlockRead),
+    "belt_list_block": (_BYTES + [POINTER(c_uint8 * 4096)], c_size_t),
+    "belt_encode_inter_global_motion": (_BYTES + _NUMBERS + [c_uint8] + _NUMBERS + _BYTES, Written),
+    "belt_read_global_motion_params": (_BYTES + [c_size_t, c_uint8] + _NUMBERS, Models),
+    "belt_job": (
+        _PELS
+        + _PELS
+        + [c_size_t, c_size_t, Settings]
+        + _BYTES
+        + _BYTES
+        + _NUMBERS
+        + _NUMBERS
+        + _PELS
+        + _PELS
+        + _WORDS
+        + _BYTES
+        + _BYTES,
+        Report,
+    ),
+}
+
+
+def _path():
+    """BELT_LIB names a folder that has libbelt.so; else the repository's own, else the system's."""
+    folder = os.environ.get("BELT_LIB")
+    if folder:
+        return str(Path(folder) / "libbelt.so")
+    own = Path(__file__).resolve().parents[3] / "target" / "staticlib" / "libbelt.so"
+    return str(own) if own.exists() else "libbelt.so.0"
+
+
+def _open():
+    path = _path()
+    try:
+        library = ctypes.CDLL(path)
+    except OSError as error:
+        message = f"{error}; run bindings/library --shared, or set BELT_LIB to the folder that has libbelt.so"
+        raise ImportError(message) from None
+    for name, (parameters, result) in CALLS.items():
+        call = getattr(library, name)
+        call.argtypes = parameters
+        call.restype = result
+    return library
+
+
+library = _open()

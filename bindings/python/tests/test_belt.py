@@ -1,0 +1,410 @@
+"""The Python package: the same jobs and refusals as the Rust crate's tests, with guard values around every buffer."""
+
+import ctypes
+import sys
+import unittest
+from array import array
+from pathlib import Path
+
+sys.path.insert(0, str(Path(__file__).resolve().parents[1]))
+
+import belt  # noqa: E402
+from belt import IDENTITIES, Model, Refusal, Settings, StoredModel  # noqa: E402
+
+GUARD = 37
+
+
+def noise(y, x):
+    h = (y * 2654435761 ^ x * 2246822519) & 0xFFFFFFFF
+    h = (h ^ h >> 15) * 3266489917 & 0xFFFFFFFF
+    return h >> 20
+
+
+def noisy(width, height):
+    return array("H", (noise(y, x) for y in range(height) for x in range(width)))
+
+
+def moved(plane, width, height, dy, dx):
+    """Each pel is the plane's at (y + dy, x + dx); edges repeat."""
+
+    def held(at, side):
+        return min(max(at, 0), side - 1)
+
+    return array(
+        "H", (plane[held(y + dy, height) * width + held(x + dx, width)] for y in range(height) for x in range(width))
+    )
+
+
+class Guarded:
+    """A job's buffers as views into longer ones that are full of a pattern."""
+
+    def __init__(self, width, height, shorter=None):
+        needed = belt.Buffers(width, height)
+        self.whole = {}
+        for name, pattern in [
+            ("input_half", 0xA55A),
+            ("ref_half", 0x5AA5),
+            ("words", 0xA5A55A5A),
+            ("blocks", 0xA5),
+            ("header", 0x5A),
+        ]:
+            own = getattr(needed, name)
+            code = {"blocks": "B", "header": "B"}.get(name) or own.typecode
+            length = len(own) - (1 if name == shorter else 0)
+            self.whole[name] = array(code, [pattern] * (length + 2 * GUARD))
+            setattr(self, name, memoryview(self.whole[name])[GUARD : GUARD + length])
+
+    def state(self):
+        return {name: whole.tobytes() for name, whole in self.whole.items()}
+
+    def guards(self):
+        return {name: (whole[:GUARD], whole[-GUARD:]) for name, whole in self.whole.items()}
+
+
+def task(width=48, height=32, gm_type=1, **changes):
+    plane = noisy(width, height)
+    samples = belt.sample_count(width, height)
+    arguments = dict(
+        input_y=plane,
+        reference=plane,
+        width=width,
+        height=height,
+        settings=Settings(4660, gm_type, 3, 1),
+        classes=bytes(i % 4 for i in range(samples)),
+        types=bytes(6),
+        models=IDENTITIES[:6],
+        prior=IDENTITIES,
+    )
+    arguments.update(changes)
+    return arguments
+
+
+def words(count):
+    return array("I", ((i % 4096) << 20 | 223 << 11 | 223 << 2 for i in range(count)))
+
+
+class Jobs(unittest.TestCase):
+    def run_job(self, arguments):
+        width, height = arguments["width"], arguments["height"]
+        buffers = Guarded(width, height)
+        guards = buffers.guards()
+        report = belt.job(buffers=buffers, **arguments)
+        self.assertEqual(buffers.guards(), guards)
+        settings = arguments["settings"]
+        samples = belt.sample_count(width, height)
+        self.assertEqual(report.samples, samples)
+
+        alone = Guarded(width, height)
+        found = belt.collect_motion_samples(
+            arguments["input_y"],
+            arguments["reference"],
+            width,
+            height,
+            arguments["classes"],
+            alone.input_half,
+            alone.ref_half,
+            alone.words,
+        )
+        self.assertEqual(found, samples)
+        for name in ("input_half", "ref_half", "words"):
+            self.assertEqual(alone.whole[name], buffers.whole[name])
+
+        fit = (belt.fit_translation, belt.fit_rotzoom, belt.fit_affine)[settings.gm_type - 1]
+        fitted = fit(buffers.words)
+        model = belt.quantize_model(fitted, settings.flag, buffers.words)
+        self.assertEqual(report.models[settings.reference - 1], model.row_first(settings.gm_type))
+        self.assertEqual(report.score, belt.mean_sq_residual(model, buffers.words))
+        for slot, number in enumerate(model):
+            self.assertEqual(belt.quantize_global_param(settings.gm_type, settings.flag, slot, number), number)
+
+        read = belt.read_global_motion_params(buffers.header, 0, settings.flag, arguments["prior"])
+        self.assertEqual((read.types, read.models, read.bits), (report.types, report.models, report.bits))
+        again = bytearray(belt.HEADER_BYTES)
+        wrote = belt.encode_inter_global_motion(report.types, report.models, settings.flag, arguments["prior"], again)
+        self.assertEqual(wrote, report.bits)
+        used = -(-report.bits // 8)
+        self.assertEqual(again[:used], bytes(buffers.header[:used]))
+        self.assertEqual(bytes(buffers.header[used:]), b"\x5a" * (belt.HEADER_BYTES - used))
+
+        back = array("I", [0] * samples)
+        self.assertEqual(belt.read_frame(buffers.blocks, back), (settings.frame, samples))
+        self.assertEqual(back.tolist(), buffers.words.tolist())
+        for ordinal in range(len(buffers.blocks) // belt.BLOCK_BYTES):
+            block = buffers.blocks[belt.BLOCK_BYTES * ordinal :]
+            count = min(belt.BLOCK_WORDS, samples - belt.BLOCK_WORDS * ordinal)
+            self.assertEqual(belt.judge_block(block), (settings.frame, ordinal, count))
+            lines = belt.list_block(block).splitlines()
+            self.assertEqual(lines[0], f"frame {settings.frame} block {ordinal} count {count}")
+            self.assertEqual(len(lines), 1 + count)
+        return report, buffers
+
+    def test_a_pan_by_whole_pels(self):
+        for dy, dx in [(0, 0), (4, -6), (-8, 2)]:
+            reference = noisy(96, 80)
+            input_y = moved(reference, 96, 80, dy, dx)
+            report, buffers = self.run_job(task(96, 80, input_y=input_y, reference=reference))
+            model = report.models[2].x_first(belt.TRANSLATION)
+            self.assertEqual(model.shift, (dx, dy))
+            self.assertEqual((model.zoom, model.degrees, report.score), (1.0, 0.0, 0.0))
+            self.assertEqual(model.agreeing(buffers.words, 0.0), 30)
+            sample = belt.sample_of(buffers.words[7])
+            self.assertEqual(sample, (1, 1, 23.5, 23.5, dx, dy, 3))
+
+    def test_all_types_and_two_blocks(self):
+        reference = noisy(192, 176)
+        input_y = moved(reference, 192, 176, 3, 5)
+        for gm_type in (1, 2, 3):
+            report, _ = self.run_job(task(192, 176, gm_type, input_y=input_y, reference=reference))
+            self.assertEqual(report.samples, 132)
+
+    def test_a_pan_beyond_the_range(self):
+        reference = noisy(192, 96)
+        input_y = moved(reference, 192, 96, 0, 40)
+        report, buffers = self.run_job(task(192, 96, input_y=input_y, reference=reference))
+        self.assertLess(report.models[2].x_first(1).agreeing(buffers.words, 0.25), report.samples // 3)
+
+    def test_other_models_and_priors(self):
+        affine = StoredModel((1024, -2048, 65538, 2, -4, 65534))
+        rotzoom = StoredModel((-1024, 2048, 65546, -6, 6, 65546))
+        translation = StoredModel((8192, -16384, 65536, 0, 0, 65536))
+        models = (affine, rotzoom, translation, IDENTITIES[0], translation, affine)
+        prior = (StoredModel((4_000_000, -77, 65536 + 8192, -8192, 5, 65536 - 8192)),) * 7
+        report, _ = self.run_job(task(64, 64, 3, types=[3, 2, 1, 0, 1, 3], models=models, prior=prior))
+        self.assertEqual(report.models[:2] + report.models[3:], models)
+
+    def test_no_samples_touch_nothing(self):
+        buffers = Guarded(15, 40)
+        before = buffers.state()
+        report = belt.job(buffers=buffers, **task(15, 40))
+        self.assertEqual((report.samples, report.score), (0, 0.0))
+        after = buffers.state()
+        self.assertNotEqual(after.pop("header"), before.pop("header"))
+        self.assertEqual(after, before)
+
+
+class Refusals(unittest.TestCase):
+    def refused(self, number, call, *arguments, **named):
+        with self.assertRaises(Refusal) as caught:
+            call(*arguments, **named)
+        self.assertEqual((caught.exception.number, caught.exception.text), (number, belt.REFUSALS[number]))
+        self.assertEqual(str(caught.exception), f"{number}: {belt.REFUSALS[number]}")
+
+    def test_the_table(self):
+        self.assertEqual(list(belt.REFUSALS), [1, 2, 4, 5, 7, 8, 12, 3, 6, 9, 10, 11])
+        rules = (Path(__file__).resolve().parents[3] / "docs" / "RULES.md").read_text(encoding="utf-8")
+        for number, text in belt.REFUSALS.items():
+            self.assertIn(f"| {number} | {text} |", rules)
+
+    def test_job(self):
+        def stored(place, value):
+            numbers = list(belt.STILL)
+            numbers[place] = value
+            return StoredModel(numbers)
+
+        changes = [
+            (1, dict(width=1025)),
+            (1, dict(height=2**40)),
+            (2, dict(width=47)),
+            (2, dict(input_y=noisy(48, 32)[:-1])),
+            (2, dict(reference=array("H"))),
+            (2, dict(classes=bytes(5))),
+            (2, dict(types=bytes(7))),
+            (2, dict(models=IDENTITIES[:5])),
+            (2, dict(prior=IDENTITIES[:6])),
+            (4, dict(classes=bytes([0, 0, 0, 0, 0, 4]))),
+            (4, dict(settings=Settings(1, 0, 1, 1))),
+            (4, dict(settings=Settings(1, 4, 1, 1))),
+            (4, dict(settings=Settings(1, 1, 1, 2))),
+            (4, dict(types=bytes([0, 0, 0, 0, 0, 4]))),
+            (5, dict(settings=Settings(1, 1, 0, 1))),
+            (5, dict(settings=Settings(1, 1, 8, 1))),
+            (7, dict(models=(stored(0, 1),) + IDENTITIES[:5])),
+            (7, dict(models=IDENTITIES[:5] + (stored(2, 65537),), types=[0, 0, 0, 0, 0, 3])),
+            (8, dict(prior=(stored(3, 8193),) + IDENTITIES[:6])),
+            (8, dict(prior=IDENTITIES[:6] + (stored(1, -(2**31)),))),
+        ]
+        for number, change in changes:
+            buffers = Guarded(48, 32)
+            before = buffers.state()
+            with self.subTest(number=number, change=list(change)):
+                arguments = task()
+                arguments.update(change)
+                self.refused(number, belt.job, buffers=buffers, **arguments)
+                self.assertEqual(buffers.state(), before)
+        for name in ("input_half", "ref_half", "words", "blocks", "header"):
+            buffers = Guarded(48, 32, shorter=name)
+            before = buffers.state()
+            self.refused(3, belt.job, buffers=buffers, **task())
+            self.assertEqual(buffers.state(), before)
+
+    def test_a_singular_job_leaves_the_search_behind(self):
+        for gm_type in (2, 3):
+            buffers, alone = Guarded(16, 16), Guarded(16, 16)
+            arguments = task(16, 16, gm_type)
+            self.refused(6, belt.job, buffers=buffers, **arguments)
+            lists = arguments["input_y"], arguments["reference"], 16, 16, arguments["classes"]
+            belt.collect_motion_samples(*lists, alone.input_half, alone.ref_half, alone.words)
+            self.assertEqual(buffers.state(), alone.state())
+
+    def test_search(self):
+        def call(width=48, pels=1536, ref_pels=1536, classes=bytes(6), rooms=(384, 384, 6)):
+            plane = noisy(48, 32)
+            lent = array("H", [9] * rooms[0]), array("H", [8] * rooms[1]), array("I", [7] * rooms[2])
+            before = [one.tobytes() for one in lent]
+            try:
+                return belt.collect_motion_samples(plane[:pels], plane[:ref_pels], width, 32, classes, *lent)
+            except Refusal:
+                self.assertEqual([one.tobytes() for one in lent], before)
+                raise
+
+        self.assertEqual(call(), 6)
+        self.refused(1, call, width=1025)
+        self.refused(2, call, pels=1535)
+        self.refused(2, call, ref_pels=1535)
+        self.refused(2, call, classes=bytes(5))
+        self.refused(4, call, classes=bytes([4] * 6))
+        self.refused(3, call, rooms=(383, 384, 6))
+        self.refused(3, call, rooms=(384, 383, 6))
+        self.refused(3, call, rooms=(384, 384, 5))
+
+    def test_fits_scores_and_grid(self):
+        many = words(4097)
+        for fit in (belt.fit_translation, belt.fit_rotzoom, belt.fit_affine):
+            self.refused(1, fit, many)
+            fit(many[:4096])
+        for fit in (belt.fit_rotzoom, belt.fit_affine):
+            self.refused(6, fit, [])
+            self.refused(6, fit, many[:1])
+        self.assertTrue(all(number != number for number in belt.fit_translation([]).numbers[:2]))
+        still = Model(belt.STILL)
+        self.refused(1, belt.mean_sq_residual, still, many)
+        self.assertEqual(belt.mean_sq_residual(still, []), 0.0)
+        self.assertEqual(belt.mean_sq_residual(Model((65536, 0, 65536, 0, 0, 65536)), many[:3]), 1.0)
+        numbers = (0.0, 0.0, 1.0, 0.0, 0.0, 1.0)
+        self.refused(1, belt.quantize_model, belt.Fitted(3, numbers), 1, many)
+        self.refused(4, belt.quantize_model, belt.Fitted(0, numbers), 1, many[:9])
+        self.refused(4, belt.quantize_model, belt.Fitted(3, numbers), 2, many[:9])
+        self.assertEqual(belt.quantize_model(belt.Fitted(3, numbers), 1, many[:9]), still)
+        self.refused(4, belt.quantize_global_param, 4, 0, 0, 0)
+        self.refused(5, belt.quantize_global_param, 3, 1, 6, 0)
+        self.assertEqual(belt.quantize_global_param(3, 0, 2, 65537), 65538)
+        self.assertEqual(belt.quantize_global_param(1, 1, 1, -4096), -8192)
+
+    def test_frames(self):
+        good = words(126)
+        blocks = bytearray(1024)
+        self.assertEqual(belt.write_frame(7, good, blocks), 2)
+        for number, stored, room in [
+            (1, words(4097), 40_000),
+            (12, [447 << 11], 512),
+            (12, [good[1], good[0]], 512),
+            (3, good, 1023),
+        ]:
+            lent = bytearray(b"\xee" * room)
+            self.refused(number, belt.write_frame, 7, stored, lent)
+            self.assertEqual(lent, b"\xee" * room)
+        form = bytearray(blocks[512:])
+        form[2] = 0
+        form[508:] = (int.from_bytes(form[508:], "big") - 0x100).to_bytes(4, "big")
+        for number, data, room in [
+            (9, blocks[:1023], 126),
+            (10, bytes(512), 126),
+            (11, blocks[:512] + blocks[:512], 126),
+            (3, blocks, 125),
+        ]:
+            lent = array("I", [0xEEEEEEEE] * room)
+            self.refused(number, belt.read_frame, data, lent)
+            self.assertEqual(lent, array("I", [0xEEEEEEEE] * room))
+        self.assertEqual(belt.read_frame(b"", array("I")), (0, 0))
+        self.refused(9, belt.judge_block, blocks[513:])
+        self.refused(10, belt.judge_block, bytes(512))
+        self.refused(11, belt.judge_block, form)
+        self.assertEqual(belt.list_block(form), "refused 11\n")
+        self.assertEqual(belt.list_block(b""), "refused 9\n")
+        block = bytearray(512)
+        belt.write_frame(5, [0x0006FB7C], block)
+        self.assertEqual(belt.list_block(block), "frame 5 block 0 count 1\n0 0 0 0 0\n")
+        self.assertEqual(block[508:], bytes([0x00, 0x0C, 0xFC, 0x7E]))
+
+    def test_headers(self):
+        model = StoredModel((8192, -8192, 65536, 0, 0, 65536))
+        models, types = (model,) + IDENTITIES[:6], bytes([1, 0, 0, 0, 0, 0, 0])
+        header = bytearray(b"\xee" * 5)
+        self.assertEqual(belt.encode_inter_global_motion(types, models, 1, IDENTITIES, header), 17)
+        self.assertEqual(header, b"\xa4\x20\x00\xee\xee")
+        off = StoredModel((0, 0, 65537, 0, 0, 65536))
+        out = (StoredModel((0, 0, 65536, 8193, 0, 65536)),) + IDENTITIES[:6]
+        for number, arguments in [
+            (2, (types[:6], models, 1, IDENTITIES)),
+            (2, (types, models[:6], 1, IDENTITIES)),
+            (4, (b"\x04" + types[1:], models, 1, IDENTITIES)),
+            (4, (types, models, 2, IDENTITIES)),
+            (7, (b"\x03" + types[1:], (off,) + IDENTITIES[:6], 1, IDENTITIES)),
+            (8, (types, models, 1, out)),
+        ]:
+            self.refused(number, belt.encode_inter_global_motion, *arguments, bytearray(30))
+        self.refused(3, belt.encode_inter_global_motion, types, models, 1, IDENTITIES, bytearray(2))
+        read = belt.read_global_motion_params(b"\xa4\x20\x00", 0, 1, IDENTITIES)
+        self.assertEqual(read, (tuple(types), models, 17))
+        self.assertEqual(belt.read_global_motion_params(b"\xff\xf4\x84\x00", 11, 1, IDENTITIES), read)
+        self.refused(2, belt.read_global_motion_params, header, 0, 1, IDENTITIES[:6])
+        self.refused(4, belt.read_global_motion_params, header, 0, 2, IDENTITIES)
+        self.refused(8, belt.read_global_motion_params, header, 0, 1, out)
+        self.refused(9, belt.read_global_motion_params, b"", 0, 1, IDENTITIES)
+        self.refused(9, belt.read_global_motion_params, header, 2**64 - 1, 1, IDENTITIES)
+
+
+class Taken(unittest.TestCase):
+    """What is taken as a list, and what isn't."""
+
+    def test_kinds_of_list(self):
+        kinds = [
+            words(3),
+            list(words(3)),
+            tuple(words(3)),
+            memoryview(words(4))[:3],
+            memoryview(bytes(words(3))).cast("I"),
+            (ctypes.c_uint32 * 3)(*words(3)),
+        ]
+        answers = {belt.mean_sq_residual(Model((65536, 0, 65536, 0, 0, 65536)), kind) for kind in kinds}
+        self.assertEqual(answers, {1.0})
+
+    def test_numpy(self):
+        try:
+            import numpy
+        except ImportError:
+            self.skipTest("numpy isn't here")
+        plane = numpy.frombuffer(noisy(48, 32), dtype=numpy.uint16).reshape(32, 48)
+        buffers = belt.Buffers(48, 32)
+        report = belt.job(buffers=buffers, **task(input_y=plane, reference=plane))
+        self.assertEqual(report.score, 0.0)
+
+    def test_what_is_turned_away(self):
+        with self.assertRaises(TypeError):
+            belt.fit_translation(array("i", [1]))
+        with self.assertRaises(TypeError):
+            belt.fit_translation(memoryview(words(4))[::2])
+        with self.assertRaises(TypeError):
+            belt.write_frame(1, words(1), bytes(512))
+        with self.assertRaises(ValueError):
+            belt.fit_translation([2**32])
+        with self.assertRaises(TypeError):
+            belt.mean_sq_residual(StoredModel(belt.STILL), words(1))
+        with self.assertRaises(TypeError):
+            belt.encode_inter_global_motion(bytes(7), (Model(belt.STILL),) * 7, 1, IDENTITIES, bytearray(9))
+        with self.assertRaises(ValueError):
+            Model((1, 2, 3))
+
+    def test_the_two_orders(self):
+        model = Model((1, 2, 3, 4, 5, 6))
+        self.assertEqual(model.row_first(1), StoredModel((2, 1, 3, 4, 5, 6)))
+        for gm_type in range(4):
+            self.assertEqual(model.row_first(gm_type).x_first(gm_type), model)
+        self.assertNotEqual(model, StoredModel(model))
+        turned = Model((0, 0, 65526, -1144, 1144, 65526))
+        self.assertAlmostEqual(turned.degrees, 1.0, 3)
+        self.assertAlmostEqual(turned.zoom, 1.0, 5)
+
+
+if __name__ == "__main__":
+    unittest.main()

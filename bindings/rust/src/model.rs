@@ -1,0 +1,155 @@
+//! Models in their two orders, and words and models in pels (docs/RULES.md, 'Sample' and 'Model').
+
+/// A model, x first: the order of fits, grid and score. Six numbers at 16 fraction bits; slots 0 and 1 are the shift
+/// across and down.
+///
+/// A header's order is another type, [`StoredModel`], so that one isn't taken for the other:
+///
+/// ```
+/// use belt::{Model, StoredModel};
+///
+/// let right_two_down_one = Model([131_072, 65_536, 65_536, 0, 0, 65_536]);
+/// let stored = right_two_down_one.row_first(1);
+/// assert_eq!(stored, StoredModel([65_536, 131_072, 65_536, 0, 0, 65_536]));
+/// assert_eq!(stored.x_first(1), right_two_down_one);
+/// ```
+#[derive(Clone, Copy, Debug, PartialEq, Eq, Hash)]
+#[repr(transparent)]
+pub struct Model(pub [i32; 6]);
+
+/// A model as headers, priors and reports have it: of a translation slot 0 is the row's motion and slot 1 the
+/// column's. The other types are as in [`Model`].
+#[derive(Clone, Copy, Debug, PartialEq, Eq, Hash)]
+#[repr(transparent)]
+pub struct StoredModel(pub [i32; 6]);
+
+/// The numbers of no motion, in either order.
+const IDENTITY: [i32; 6] = [0, 0, 65536, 0, 0, 65536];
+
+/// The type whose slots 0 and 1 are exchanged.
+const TRANSLATION: u8 = 1;
+
+/// One at 16 fraction bits.
+const ONE: f64 = 65536.0;
+
+/// Seven models of no motion: the prior of a frame that has none before it.
+pub const IDENTITIES: [StoredModel; 7] = [StoredModel::IDENTITY; 7];
+
+fn exchanged(gm_type: u8, mut numbers: [i32; 6]) -> [i32; 6] {
+    if gm_type == TRANSLATION {
+        numbers.swap(0, 1);
+    }
+    numbers
+}
+
+impl StoredModel {
+    /// The model of no motion.
+    pub const IDENTITY: Self = Self(IDENTITY);
+
+    /// The same model in the other order, for its type.
+    pub fn x_first(self, gm_type: u8) -> Model {
+        Model(exchanged(gm_type, self.0))
+    }
+}
+
+impl Model {
+    /// The model of no motion.
+    pub const IDENTITY: Self = Self(IDENTITY);
+
+    /// The same model in the other order, for its type.
+    pub fn row_first(self, gm_type: u8) -> StoredModel {
+        StoredModel(exchanged(gm_type, self.0))
+    }
+
+    /// Its motion at a place, in pels: what the input shows at (x, y) stands at (x + u, y + v) in the reference.
+    /// The origin is the centre of a plane's first pel.
+    pub fn motion_at(self, x: f64, y: f64) -> Motion {
+        let [m0, m1, m2, m3, m4, m5] = self.0.map(|number| f64::from(number) / ONE);
+        Motion { u: (m2 - 1.0) * x + m3 * y + m0, v: m4 * x + (m5 - 1.0) * y + m1 }
+    }
+
+    /// Its motion at the origin; of a translation, anywhere.
+    pub fn shift(self) -> Motion {
+        self.motion_at(0.0, 0.0)
+    }
+
+    /// Its zoom, 1 for a translation; of an affine model, that of the rotation-zoom nearest to it. A load that grew
+    /// since the reference was taken has a zoom below 1, since motion goes back to the reference.
+    pub fn zoom(self) -> f64 {
+        let (along, across) = self.rotzoom();
+        along.hypot(across)
+    }
+
+    /// Its turn in degrees, from x towards y (clockwise on a screen); of an affine model, as for [`Model::zoom`].
+    ///
+    /// ```
+    /// let turned = belt::Model([0, 0, 65526, -1144, 1144, 65526]);
+    /// assert!((turned.degrees() - 1.0).abs() < 0.001 && (turned.zoom() - 1.0).abs() < 0.00001);
+    /// ```
+    pub fn degrees(self) -> f64 {
+        let (along, across) = self.rotzoom();
+        across.atan2(along).to_degrees()
+    }
+
+    fn rotzoom(self) -> (f64, f64) {
+        let [_, _, m2, m3, m4, m5] = self.0.map(|number| f64::from(number) / ONE);
+        ((m2 + m5) / 2.0, (m4 - m3) / 2.0)
+    }
+
+    /// How many of the words it explains: those whose motion is at most so many pels from its own at their centre.
+    ///
+    /// The search finds motion of up to 27.875 pels ([`crate::MOST_EIGHTHS`]). What moved further gets some other
+    /// motion, and no row refuses it; then few words agree.
+    pub fn agreeing(self, words: &[u32], pels: f64) -> usize {
+        let agrees = |word: &&u32| {
+            let Sample { x, y, motion, .. } = Sample::of_word(**word);
+            let own = self.motion_at(x, y);
+            (motion.u - own.u).hypot(motion.v - own.v) <= pels
+        };
+        words.iter().filter(agrees).count()
+    }
+}
+
+/// A motion in pels, from the input to the reference: u to the right, v down.
+#[derive(Clone, Copy, Debug, PartialEq)]
+pub struct Motion {
+    /// To the right.
+    pub u: f64,
+    /// Down.
+    pub v: f64,
+}
+
+/// What a sample word says.
+#[derive(Clone, Copy, Debug, PartialEq)]
+pub struct Sample {
+    /// The row of its block.
+    pub row: u32,
+    /// The column of its block.
+    pub column: u32,
+    /// The block's centre, in pels.
+    pub x: f64,
+    /// The block's centre, in pels.
+    pub y: f64,
+    /// The block's motion.
+    pub motion: Motion,
+    /// Its class: 0 unsorted, 1 fibre, 2 rigid plastic, 3 metal.
+    pub class: u8,
+}
+
+impl Sample {
+    /// The fields of a word.
+    ///
+    /// ```
+    /// let sample = belt::Sample::of_word(0x0856_BBCF);
+    /// assert_eq!((sample.row, sample.column, sample.class), (2, 5, 3));
+    /// assert_eq!((sample.motion.v, sample.motion.u), (-1.0, 2.5));
+    /// assert_eq!((sample.x, sample.y), (87.5, 39.5));
+    /// ```
+    pub fn of_word(word: u32) -> Self {
+        let (row, column) = (word >> 26, word >> 20 & 63);
+        let centre = |place: u32| 16.0 * f64::from(place) + 7.5;
+        let pels = |stored: u32| (f64::from(stored & 511) - f64::from(crate::MOST_EIGHTHS)) / 8.0;
+        let motion = Motion { u: pels(word >> 2), v: pels(word >> 11) };
+        Self { row, column, x: centre(column), y: centre(row), motion, class: (word & 3) as u8 }
+    }
+}
