@@ -1,0 +1,7 @@
+pub mod Accepted
+pub mod Clamped
+pub mod DivLut
+pub mod Products
+pub mod Reach
+pub mod Rounding
+pub mod Table
