@@ -1,6 +1,8 @@
 pub mod Accepted
 pub mod Clamped
+pub mod Codable
 pub mod DivLut
+pub mod Nearest
 pub mod Products
 pub mod Reach
 pub mod Rounding
