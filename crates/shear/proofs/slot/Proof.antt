@@ -13,7 +13,7 @@ use Rattle.shear.proofs.slot.Tie as tie
 cast-result : tie.Need-cast-result
 cast-result c =
     let number = getD (c .before .args .params .now) (c .before .args .i) (pos 0) in
-    rw (result-reads w32 number (c .number .given)) (sfits-widen tt (record { sfits = c .number .given }))
+    rw (result-reads w32 number (c .number .given)) (sfits-widen {w = w32} tt (record { sfits = c .number .given }))
 
 returns : tie.Need-returns
 returns c = i32-reads-as-i64 (record { sfits = c .number .given })
