@@ -8,7 +8,9 @@ use native.Mathlib.Decide.{ℕ-discrete}
 use native.Mathlib.Omega.{arith}
 use lib.ListN.{length, getD, drop, length-set, length-append}
 use lib.Seq.{getD-set-same, getD-set-other, drop-set-lt, getD-drop}
-use Rattle.bits.specs.Bits.{withBit, bitAt, putBit, putBits, Holds, AreBits, Room, Wrote}
+use Rattle.bits.specs.Bits.{withBit, bitAt, putBit, putBits}
+use Rattle.bits.proofs.Held.{Holds, AreBits}
+use Rattle.bits.specs.Inner.{Room, Wrote}
 use Rattle.bits.proofs.Byte.{bitOf-lt, bitOf-same, bitOf-other}
 
 pub bitAt-lt : (l : List ℕ) (j : ℕ) → bitAt l j < 2

@@ -9,8 +9,9 @@ use lib.ListN.{length}
 use lib.Arith.{digits-lt}
 use lib.Dec.{lit<}
 use lib.Pow.{high, mod-pow-add, pow-mono, pow-pos}
-use Rattle.bits.specs.Bits.{bitOf, putBit, putBits, Holds, AreBits}
-use Rattle.bits.specs.Fields.{field, fieldBits, padding}
+use Rattle.bits.specs.Bits.{bitOf, putBit, putBits}
+use Rattle.bits.proofs.Held.{Holds, AreBits}
+use Rattle.bits.specs.Fields.{field, fieldBits}
 use Rattle.bits.proofs.Byte.{bitOf-lt, bit-from-low}
 
 pub length-fieldBits : (n v : ℕ) → length (fieldBits n v) ≡ n
@@ -62,13 +63,6 @@ module _ (g : ℕ → ℕ) (bits : (j : ℕ) → g j < 2) where
   field-again j (suc n) =
       rw (high (g j) n (field-lt (j + 1) n), mod-eq-of-lt (bits j), fieldBits-low (g j) (field g (j + 1) n) n n (le-refl n))
       (refl, field-again (j + 1) n)
-
-pub padding-lt : (j : ℕ) → padding j < 8
-padding-lt j = omega arith
-
--- the padding ends a byte
-pub padded : (j : ℕ) → j + padding j ≡ 8 * ((j + 7) / 8)
-padded j = omega arith
 
 -- a turn of the writing loop: the bit of weight left - 1 is put, and what is left gives what was to be put
 pub written-step : (l : List ℕ) (j left v : ℕ) {l' t : List ℕ} {j' b : ℕ} → 0 < left → b ≡ bitOf v (left - 1) → j' ≡ j + 1 → l' ≡ putBit l j b

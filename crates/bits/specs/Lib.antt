@@ -1,4 +1,4 @@
 pub mod Bits
 pub mod Fields
 pub mod Ns
-pub mod Cursor
+pub mod Inner

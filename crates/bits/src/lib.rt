@@ -7,10 +7,10 @@ ghost use Prim.Native.Nat.{_+_, _*_, _/_, _%_, _^_, _≤_, _<_};
 ghost use lib.ListN.{length};
 ghost use mathlib.Core.List.{[], _∷_};
 ghost use mathlib.Core.Path.{_≡_};
-ghost use Rattle.bits.specs.Bits.{bitAt, bitOf, withBit, Room, Wrote};
+ghost use Rattle.bits.specs.Bits.{bitAt, bitOf, withBit};
 ghost use Rattle.bits.specs.Fields.{field, fieldBits, padBits};
 ghost use Rattle.bits.specs.Ns.{ns, nsBits, bitLength};
-ghost use Rattle.bits.specs.Cursor.{ReadIs, NsWidthIs};
+ghost use Rattle.bits.specs.Inner.{Room, Wrote, ReadIs, NsWidthIs};
 
 pub const BITS_OF_A_BYTE: usize = 8;
 

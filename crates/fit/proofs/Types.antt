@@ -1,20 +1,10 @@
--- The type codes of a fit are 1, 2 and 3.
+-- The type codes of a fit are at most 3.
 -- Assumes nothing.
-use Prim.Native.Nat.{ℕ, zero, suc, _≤_, _<_}
-use mathlib.Core.Bool.{true}
-use mathlib.Core.Path.{_≡_, refl}
-use native.Mathlib.Omega.{arith}
-use borrow.Author.Tests.{lt-ltb, ne-eqb}
+use Prim.Native.Nat.{_≤_}
 use lib.Dec.{lit≤}
 use Rattle.fit.specs.declared.Fitted.{Fitted}
 use Rattle.fit.specs.declared.Fitted.the-variants.{Refused, Translation, RotZoom, Affine}
-use Rattle.fit.specs.Fitted.{noType, typeOf}
-
-pub other-codes-have-no-type : (kind : ℕ) → (kind ≡ 1 → ⊥) → (kind ≡ 2 → ⊥) → (kind ≡ 3 → ⊥) → noType kind ≡ true
-other-codes-have-no-type zero a b c = refl
-other-codes-have-no-type (suc k) a b c =
-    let h : 3 < suc k = omega arith in
-    rw (ne-eqb (suc k) 0 (omega arith), lt-ltb 3 (suc k) h)
+use Rattle.fit.specs.Fitted.{typeOf}
 
 pub typeOf-le : (f : Fitted) → typeOf f ≤ 3
 typeOf-le (Refused n) = lit≤ tt

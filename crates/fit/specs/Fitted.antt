@@ -6,8 +6,11 @@ use mathlib.Core.List.{List, [], _∷_}
 use lib.Dec.{ltb, eqb}
 use lib.ListN.{length, getD}
 use lib.Ieee.{Float, nan, neg}
-use Rattle.laws.specs.Refusal.{row, judge, choose, either}
+use Rattle.laws.specs.Refusal.{row, judge, orElse, choose, either}
+use Rattle.laws.specs.Call.{answered}
 use Rattle.laws.specs.Binary64.{_⊕_, _⊘_, nought, one}
+use Rattle.sample.specs.Word.{mostSamples}
+use Rattle.sample.specs.Sample.{sampleOf}
 use Rattle.solve.specs.declared.System.{System}
 use Rattle.solve.specs.declared.Solution.{Solution}
 use Rattle.solve.specs.Elimination.{unlessSingular}
@@ -17,11 +20,7 @@ use Rattle.fit.specs.declared.Fitted.the-variants.{Refused, Translation,
 use Rattle.fit.specs.declared.TranslationSums.{TranslationSums}
 use Rattle.fit.specs.declared.RotZoomSums.{RotZoomSums}
 use Rattle.fit.specs.declared.AffineSums.{AffineSums}
-use Rattle.fit.specs.Sums.{countOf, translationSums, rotZoomSums, affineSums}
-
--- document 01's limit of a list
-abbrev pub mostSamples : ℕ
-mostSamples = 4096
+use Rattle.fit.specs.Sums.{Summing, sumsOf, countAs, translationTotals, rotZoomTotals, affineTotals}
 
 -- the number of document 01 of each case: its refusal, 0 for a fitted model
 abbrev pub refusalOf : Fitted → ℕ
@@ -98,40 +97,51 @@ affineOf xu xv =
     (unlessSingular (xv .outcome) (Refused (numberOf (xv .outcome)))
     (Affine (at xu 2) (at xv 2) (one ⊕ at xu 0) (at xu 1) (at xv 0) (one ⊕ at xv 1)))
 
--- each fit of a list of any length
+-- each fit of the sums over so many samples
+abbrev pub translationBy : Summing → ℕ → Fitted
+translationBy sum samples = translationOf (translationTotals sum) (countAs samples)
+
+abbrev pub rotZoomBy : Summing → ℕ → Fitted
+rotZoomBy sum samples = rotZoomOf (solved 4 (rotZoomSystem (rotZoomTotals sum) (countAs samples)))
+
+abbrev pub affineBy : Summing → ℕ → Fitted
+affineBy sum samples =
+    affineOf (solved 3 (affineU (affineTotals sum) (countAs samples))) (solved 3 (affineV (affineTotals sum) (countAs samples)))
+
+-- each fit of a list of words of any length
 unfoldable pub translationFit : List ℕ → Fitted
-translationFit ws = translationOf (translationSums ws) (countOf ws)
+translationFit ws = translationBy (sumsOf sampleOf ws) (length ws)
 
 unfoldable pub rotZoomFit : List ℕ → Fitted
-rotZoomFit ws = rotZoomOf (solved 4 (rotZoomSystem (rotZoomSums ws) (countOf ws)))
+rotZoomFit ws = rotZoomBy (sumsOf sampleOf ws) (length ws)
 
 unfoldable pub affineFit : List ℕ → Fitted
-affineFit ws =
-    affineOf (solved 3 (affineU (affineSums ws) (countOf ws))) (solved 3 (affineV (affineSums ws) (countOf ws)))
+affineFit ws = affineBy (sumsOf sampleOf ws) (length ws)
 
--- the answer of a call: the list's refusal, or the fit
-abbrev pub tooMany : List ℕ → Bool
-tooMany ws = ltb mostSamples (length ws)
+-- row 1: a list of so many samples is too long
+abbrev pub tooMany : ℕ → Bool
+tooMany samples = ltb mostSamples samples
 
-abbrev pub unlessRefused : ℕ → Fitted → Fitted
-unlessRefused n f = choose (eqb n 0) f (Refused n)
+abbrev pub listRefusal : ℕ → ℕ
+listRefusal samples = judge (row 1 (tooMany samples) ∷ [])
 
-abbrev pub listRefusal : List ℕ → ℕ
-listRefusal ws = judge (row 1 (tooMany ws) ∷ [])
+-- the answer of a call over so many samples: the list's refusal, or the fit
+abbrev pub fitAnswer : ℕ → Fitted → Fitted
+fitAnswer samples f = answered Refused (listRefusal samples) f
 
-abbrev pub answered : List ℕ → Fitted → Fitted
-answered ws f = unlessRefused (listRefusal ws) f
-
--- no type of a fit
+-- row 4: no type of a fit
 abbrev pub noType : ℕ → Bool
-noType kind = either (eqb kind 0) (ltb 3 kind)
+noType gmType = either (eqb gmType 0) (ltb 3 gmType)
 
-abbrev pub fitRefusal : ℕ → List ℕ → ℕ
-fitRefusal kind ws = judge (row 1 (tooMany ws) ∷ row 4 (noType kind) ∷ [])
+abbrev pub typeRefusal : ℕ → ℕ
+typeRefusal gmType = judge (row 4 (noType gmType) ∷ [])
+
+abbrev pub fitRefusal : ℕ → ℕ → ℕ
+fitRefusal gmType samples = orElse (listRefusal samples) (typeRefusal gmType)
 
 -- the fit of a type: 1 TRANSLATION, 2 ROTZOOM, and 3 AFFINE
 abbrev pub fitOf : ℕ → List ℕ → Fitted
-fitOf kind ws = choose (eqb kind 1) (translationFit ws) (choose (eqb kind 2) (rotZoomFit ws) (affineFit ws))
+fitOf gmType ws = choose (eqb gmType 1) (translationFit ws) (choose (eqb gmType 2) (rotZoomFit ws) (affineFit ws))
 
 abbrev pub fitted : ℕ → List ℕ → Fitted
-fitted kind ws = unlessRefused (fitRefusal kind ws) (fitOf kind ws)
+fitted gmType ws = answered Refused (fitRefusal gmType (length ws)) (fitOf gmType ws)

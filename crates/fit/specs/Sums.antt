@@ -25,9 +25,13 @@ plus term a x = a ⊕ term x
 abbrev pub total : {A : Type 0} → (A → Float) → List A → Float
 total term xs = fold (plus term) xs nought
 
--- the sum of a sample's term over a list of words
-abbrev pub sumOf : (MotionSample → Float) → List ℕ → Float
-sumOf term ws = total (λ w. term (sampleOf w)) ws
+-- a sum of a sample's term over all samples
+abbrev pub Summing : Type 0
+Summing = (MotionSample → Float) → Float
+
+-- the sums over a list whose elements are read as samples
+abbrev pub sumsOf : {A : Type 0} → (A → MotionSample) → List A → Summing
+sumsOf read xs term = total (λ x. term (read x)) xs
 
 -- the terms, by the names of their sums
 abbrev pub su : MotionSample → Float
@@ -72,69 +76,51 @@ p1 s = s .x ⊗ s .u ⊕ s .y ⊗ s .v
 abbrev pub p2 : MotionSample → Float
 p2 s = s .y ⊗ s .u ⊖ s .x ⊗ s .v
 
--- how many samples, as a binary64
+-- so many samples, as a binary64
+abbrev pub countAs : ℕ → Float
+countAs samples = ofInt binary64 (pos samples)
+
 abbrev pub countOf : List ℕ → Float
-countOf ws = ofInt binary64 (pos (length ws))
+countOf ws = countAs (length ws)
 
--- a sample added to every sum of a fit
-abbrev pub translationStep : TranslationSums → MotionSample → TranslationSums
-translationStep t s = record { su = plus su (t .su) s; sv = plus sv (t .sv) s }
+-- every sum of a fit
+unfoldable pub translationTotals : Summing → TranslationSums
+translationTotals sum = record { su = sum su; sv = sum sv }
 
-abbrev pub rotZoomStep : RotZoomSums → MotionSample → RotZoomSums
-rotZoomStep t s =
+unfoldable pub rotZoomTotals : Summing → RotZoomSums
+rotZoomTotals sum =
     record {
-      sx = plus sx (t .sx) s;
-      sy = plus sy (t .sy) s;
-      q = plus q (t .q) s;
-      p1 = plus p1 (t .p1) s;
-      p2 = plus p2 (t .p2) s;
-      su = plus su (t .su) s;
-      sv = plus sv (t .sv) s;
+      sx = sum sx;
+      sy = sum sy;
+      q = sum q;
+      p1 = sum p1;
+      p2 = sum p2;
+      su = sum su;
+      sv = sum sv;
     }
 
-abbrev pub affineStep : AffineSums → MotionSample → AffineSums
-affineStep t s =
+unfoldable pub affineTotals : Summing → AffineSums
+affineTotals sum =
     record {
-      sx = plus sx (t .sx) s;
-      sy = plus sy (t .sy) s;
-      sxx = plus sxx (t .sxx) s;
-      sxy = plus sxy (t .sxy) s;
-      syy = plus syy (t .syy) s;
-      sxu = plus sxu (t .sxu) s;
-      syu = plus syu (t .syu) s;
-      su = plus su (t .su) s;
-      sxv = plus sxv (t .sxv) s;
-      syv = plus syv (t .syv) s;
-      sv = plus sv (t .sv) s;
+      sx = sum sx;
+      sy = sum sy;
+      sxx = sum sxx;
+      sxy = sum sxy;
+      syy = sum syy;
+      sxu = sum sxu;
+      syu = sum syu;
+      su = sum su;
+      sxv = sum sxv;
+      syv = sum syv;
+      sv = sum sv;
     }
 
-unfoldable pub translationSums : List ℕ → TranslationSums
-translationSums ws = record { su = sumOf su ws; sv = sumOf sv ws }
+-- of a list of words
+abbrev pub translationSums : List ℕ → TranslationSums
+translationSums ws = translationTotals (sumsOf sampleOf ws)
 
-unfoldable pub rotZoomSums : List ℕ → RotZoomSums
-rotZoomSums ws =
-    record {
-      sx = sumOf sx ws;
-      sy = sumOf sy ws;
-      q = sumOf q ws;
-      p1 = sumOf p1 ws;
-      p2 = sumOf p2 ws;
-      su = sumOf su ws;
-      sv = sumOf sv ws;
-    }
+abbrev pub rotZoomSums : List ℕ → RotZoomSums
+rotZoomSums ws = rotZoomTotals (sumsOf sampleOf ws)
 
-unfoldable pub affineSums : List ℕ → AffineSums
-affineSums ws =
-    record {
-      sx = sumOf sx ws;
-      sy = sumOf sy ws;
-      sxx = sumOf sxx ws;
-      sxy = sumOf sxy ws;
-      syy = sumOf syy ws;
-      sxu = sumOf sxu ws;
-      syu = sumOf syu ws;
-      su = sumOf su ws;
-      sxv = sumOf sxv ws;
-      syv = sumOf syv ws;
-      sv = sumOf sv ws;
-    }
+abbrev pub affineSums : List ℕ → AffineSums
+affineSums ws = affineTotals (sumsOf sampleOf ws)

@@ -3,6 +3,7 @@
 // to last: `fit_translation`, `fit_rotzoom`, `fit_affine` (encoder/global_motion.rs); document 01,
 // 'Records' (Model), 'Fits and score', rows 1, 4 and 6.
 
+use sample::MOST_SAMPLES;
 use sample::MotionSample;
 use solve::Outcome;
 use solve::Solution;
@@ -12,25 +13,25 @@ ghost use Prim.Native.Nat.{_≤_};
 ghost use lib.IntN.{pos};
 ghost use lib.ListN.{length};
 ghost use lib.Ieee.{binary64, ofInt};
-ghost use Rattle.fit.specs.Sums.{countOf, translationStep, rotZoomStep, affineStep, translationSums, rotZoomSums, affineSums};
-ghost use Rattle.fit.specs.Fitted.{translationFit, rotZoomFit, affineFit, fitOf, answered, fitted, rotZoomOf, affineOf, typeOf, rotZoomSystem, affineSystem, mostSamples};
+ghost use Rattle.sample.specs.Word.{mostSamples};
+ghost use Rattle.fit.specs.Sums.{translationSums, rotZoomSums, affineSums};
+ghost use Rattle.fit.specs.Inner.{translationStep, rotZoomStep, affineStep};
+ghost use Rattle.fit.specs.Fitted.{refusalOf, typeOf, rotZoomSystem, affineSystem, rotZoomOf, affineOf};
+ghost use Rattle.fit.specs.Fitted.{translationFit, rotZoomFit, affineFit, fitOf, listRefusal, typeRefusal, fitRefusal, fitAnswer, fitted};
 
-// Document 01: a list holds at most so many samples.
-const MOST_SAMPLES: usize = 4096;
+// The type codes of the three fits.
+pub const TRANSLATION: u8 = 1;
 
-// The type codes of the three kinds.
-const TRANSLATION: u8 = 1;
+pub const ROTZOOM: u8 = 2;
 
-const ROTZOOM: u8 = 2;
-
-const AFFINE: u8 = 3;
+pub const AFFINE: u8 = 3;
 
 // Rows of document 01's table.
-const TOO_MANY: u32 = 1;
+pub const TOO_MANY: u32 = 1;
 
-const NO_SUCH_TYPE: u32 = 4;
+pub const NO_SUCH_CODE: u32 = 4;
 
-const SINGULAR: u32 = 6;
+pub const SINGULAR: u32 = 6;
 
 // A fitted model, its numbers by the slots of the standard. A rotation-zoom's m4 is −m3 and its m5 is
 // m2.
@@ -85,8 +86,32 @@ pub struct AffineSums {
     pub sv: f64,
 }
 
+// The refusal of a fit, 0 for a fitted model.
+pub fn refusal_of(model: Fitted) -> u32
+    ensures { λ r. ⌜ r ≡ refusalOf model ⌝ }
+{
+    match model {
+        Fitted::Refused(number) => number,
+        Fitted::Translation { m0: _, m1: _ } => 0,
+        Fitted::RotZoom {
+            m0: _,
+            m1: _,
+            m2: _,
+            m3: _,
+        } => 0,
+        Fitted::Affine {
+            m0: _,
+            m1: _,
+            m2: _,
+            m3: _,
+            m4: _,
+            m5: _,
+        } => 0,
+    }
+}
+
 // The type code of a fitted model, 0 for a refusal.
-pub fn kind_of(model: Fitted) -> u8
+pub fn type_of(model: Fitted) -> u8
     ensures { λ r. ⌜ r ≡ typeOf model ⌝ }
 {
     match model {
@@ -339,48 +364,89 @@ fn affine_fit(words: &[u32]) -> Fitted
     affine_of(across, down)
 }
 
-pub fn fit_translation(words: &[u32]) -> Fitted
-    ensures { λ r. ⌜ r ≡ answered (now (words .entry)) (translationFit (now (words .entry))) ⌝ }
+// Row 1: a list of so many samples is too long.
+pub fn list_refusal(samples: usize) -> u32
+    ensures { λ r. ⌜ r ≡ listRefusal samples ⌝ }
 {
-    if words.len() > MOST_SAMPLES {
-        return Fitted::Refused(TOO_MANY);
+    if samples > MOST_SAMPLES {
+        return TOO_MANY;
+    }
+    0
+}
+
+pub fn fit_translation(words: &[u32]) -> Fitted
+    ensures { λ r. ⌜ r ≡ fitAnswer (length (now (words .entry))) (translationFit (now (words .entry))) ⌝ }
+{
+    let refusal = list_refusal(words.len());
+    if refusal != 0 {
+        return Fitted::Refused(refusal);
     }
     translation_fit(words)
 }
 
 pub fn fit_rotzoom(words: &[u32]) -> Fitted
-    ensures { λ r. ⌜ r ≡ answered (now (words .entry)) (rotZoomFit (now (words .entry))) ⌝ }
+    ensures { λ r. ⌜ r ≡ fitAnswer (length (now (words .entry))) (rotZoomFit (now (words .entry))) ⌝ }
 {
-    if words.len() > MOST_SAMPLES {
-        return Fitted::Refused(TOO_MANY);
+    let refusal = list_refusal(words.len());
+    if refusal != 0 {
+        return Fitted::Refused(refusal);
     }
     rotzoom_fit(words)
 }
 
 pub fn fit_affine(words: &[u32]) -> Fitted
-    ensures { λ r. ⌜ r ≡ answered (now (words .entry)) (affineFit (now (words .entry))) ⌝ }
+    ensures { λ r. ⌜ r ≡ fitAnswer (length (now (words .entry))) (affineFit (now (words .entry))) ⌝ }
 {
-    if words.len() > MOST_SAMPLES {
-        return Fitted::Refused(TOO_MANY);
+    let refusal = list_refusal(words.len());
+    if refusal != 0 {
+        return Fitted::Refused(refusal);
+    }
+    affine_fit(words)
+}
+
+// Row 4: no type of a fit.
+fn type_refusal(gm_type: u8) -> u32
+    ensures { λ r. ⌜ r ≡ typeRefusal «gm_type» ⌝ }
+{
+    if gm_type == 0 {
+        return NO_SUCH_CODE;
+    }
+    if gm_type > AFFINE {
+        return NO_SUCH_CODE;
+    }
+    0
+}
+
+fn fit_refusal(gm_type: u8, samples: usize) -> u32
+    ensures { λ r. ⌜ r ≡ fitRefusal «gm_type» samples ⌝ }
+{
+    let first = list_refusal(samples);
+    if first != 0 {
+        return first;
+    }
+    type_refusal(gm_type)
+}
+
+fn fit_of(gm_type: u8, words: &[u32]) -> Fitted
+    requires { ⌜ length (now words) ≤ mostSamples ⌝ }
+    ensures { λ r. ⌜ r ≡ fitOf «gm_type» (now (words .entry)) ⌝ }
+{
+    if gm_type == TRANSLATION {
+        return translation_fit(words);
+    }
+    if gm_type == ROTZOOM {
+        return rotzoom_fit(words);
     }
     affine_fit(words)
 }
 
 // The fit of a type code: 1 TRANSLATION, 2 ROTZOOM, 3 AFFINE.
-pub fn fit_model(kind: u8, words: &[u32]) -> Fitted
-    ensures { λ r. ⌜ r ≡ fitted kind (now (words .entry)) ⌝ }
+pub fn fit_model(gm_type: u8, words: &[u32]) -> Fitted
+    ensures { λ r. ⌜ r ≡ fitted «gm_type» (now (words .entry)) ⌝ }
 {
-    if words.len() > MOST_SAMPLES {
-        return Fitted::Refused(TOO_MANY);
+    let refusal = fit_refusal(gm_type, words.len());
+    if refusal != 0 {
+        return Fitted::Refused(refusal);
     }
-    if kind == TRANSLATION {
-        return translation_fit(words);
-    }
-    if kind == ROTZOOM {
-        return rotzoom_fit(words);
-    }
-    if kind == AFFINE {
-        return affine_fit(words);
-    }
-    Fitted::Refused(NO_SUCH_TYPE)
+    fit_of(gm_type, words)
 }

@@ -3,7 +3,8 @@
 use Prim.Native.Nat.{ℕ, zero, suc, _+_, _-_, _*_, _/_, _≤_, _<_, min, zero-le}
 use mathlib.Core.Bool.{Bool, true, false}
 use mathlib.Core.Path.{_≡_, refl, sym, ap, _∙_, subst}
-use native.Mathlib.Nat.{le-refl, mul-right-comm, mul-lt-mul-of-pos-right, lt-of-mul-lt-mul-right, div-lt-iff-lt-mul, le-div-iff-mul-le, add-div-right, div-div-eq-div-mul, div-eq-of-lt, lt-of-lt-of-le, mul-le-mul-right}
+use native.Mathlib.Nat.{le-refl, lt-of-lt-of-le, mul-right-comm, mul-lt-mul-of-pos-right, lt-of-mul-lt-mul-right, mul-le-mul-right}
+use native.Mathlib.Nat.{div-lt-iff-lt-mul, le-div-iff-mul-le, add-div-right, div-div-eq-div-mul, div-eq-of-lt}
 use native.Mathlib.Omega.{arith}
 use borrow.Author.Tests.{lt-ltb, ltb-true, ltb-false}
 use lib.Dec.{T, lt→ltb, lit≤}
@@ -101,7 +102,8 @@ unfolding magnitude
 halved-fin m e t h =
     let s = suc m * up e in
     let d = down e in
-    let v : HasValue (add binary64 (fin false (suc m) e) (fin false (suc m) e)) false (s + s) d = double-exact binary64 m e t (lt-of-lt-of-le h (mul-le-mul-right d (pow-mono {i = 31} {j = 1023} (lit≤ tt)))) in
+    let v : HasValue (add binary64 (fin false (suc m) e) (fin false (suc m) e)) false (s + s) d =
+    double-exact binary64 m e t (lt-of-lt-of-le h (mul-le-mul-right d (pow-mono {i = 31} {j = 1023} (lit≤ tt)))) in
     let less : s + s < 4294967297 * d = omega (arith, down-pos e) in
     let whole-less : (s + s) / d < 4294967297 = div-lt-iff-lt-mul (down-pos e) .1 less in
     let c = cut (add binary64 (fin false (suc m) e) (fin false (suc m) e)) (s + s) d (down-pos e) (omega arith) v in

@@ -10,7 +10,7 @@ ghost use Rattle.laws.specs.Binary64.{nought};
 ghost use Rattle.grid_number.specs.GridNumber.{limit, magnitude, held, gridNumber};
 
 // Document 01, 'Grid number': one at 16 fraction bits, and 2^31, from which on a magnitude is held.
-const SCALE: f64 = 65536.0;
+pub const SCALE: f64 = 65536.0;
 
 const LIMIT: f64 = 2147483648.0;
 

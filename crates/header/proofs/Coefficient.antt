@@ -6,7 +6,7 @@ use mathlib.Core.Path.{_≡_, ap, _∙_}
 use native.Mathlib.Omega.{arith}
 use lib.IntN.{ℤ}
 use lib.ListN.{length}
-use Rattle.bits.specs.Bits.{Holds, AreBits}
+use Rattle.bits.proofs.Held.{Holds, AreBits}
 use Rattle.bits.specs.Ns.{Taken}
 use Rattle.subexp.specs.Coefficient.{symbol, symbolBits}
 use Rattle.subexp.proofs.Coefficient.{symbol-read, symbol-within, symbolBits-are-bits, four-bits-at-least, twice-absBits-less-one-at-most}

@@ -9,7 +9,7 @@ use lib.Dec.{eqb, lit<, lit≤}
 use lib.IntN.{ℤ}
 use lib.ListN.{length, length-append}
 use Rattle.laws.specs.Refusal.{choose}
-use Rattle.bits.specs.Bits.{Holds, AreBits}
+use Rattle.bits.proofs.Held.{Holds, AreBits}
 use Rattle.bits.proofs.Buffer.{holds-front, holds-back, bits-append}
 use Rattle.grid.specs.Grid.{absBits, precBits, centre, Codable}
 use Rattle.models.specs.Models.{carries, filler}

@@ -13,7 +13,8 @@ use lib.ListN.{length, getD, take, drop, length-append}
 use lib.Seq.{take-all, take-add, drop-cons, drop-drop}
 use Rattle.laws.specs.Refusal.{choose}
 use Rattle.laws.proofs.Below.{each-fails}
-use Rattle.bits.specs.Bits.{Holds, AreBits, bitAt}
+use Rattle.bits.specs.Bits.{bitAt}
+use Rattle.bits.proofs.Held.{Holds, AreBits}
 use Rattle.bits.specs.Fields.{padBits, padding}
 use Rattle.bits.proofs.Buffer.{bitAt-lt, holds-front, holds-back, bits-append, putBits-holds}
 use Rattle.bits.proofs.Fields.{fieldBits-are-bits, length-fieldBits}

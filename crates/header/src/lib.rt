@@ -6,7 +6,7 @@ ghost use mathlib.Core.Path.{_≡_};
 ghost use mathlib.Core.List.{_++_};
 ghost use Prim.Native.Nat.{_+_, _*_, _^_, _≤_, _<_};
 ghost use lib.ListN.{length};
-ghost use Rattle.bits.specs.Bits.{Room, Wrote};
+ghost use Rattle.bits.specs.Inner.{Room, Wrote};
 ghost use Rattle.header.specs.Coefficient.{coefficientBits};
 ghost use Rattle.header.specs.Contracts.{PriorIn, SymbolsIs, SymbolIs, ModelReady, HeaderReady, TypeFieldIs};
 ghost use Rattle.header.specs.Writing.{slotOf, typeBits, pairBits, affineBits, modelBits, referenceBits, headerBits, lengthsWrong, bytesFor, tooShort, placed, writeRefusal, written, headerAfter};

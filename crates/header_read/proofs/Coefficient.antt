@@ -7,7 +7,7 @@ use native.Mathlib.Omega.{arith}
 use lib.IntN.{ℤ, pos, natAbs, _-ℤ_, _*ℤ_}
 use lib.ListN.{length}
 use Rattle.laws.proofs.Signed.{natAbs-add-le}
-use Rattle.bits.specs.Bits.{Holds}
+use Rattle.bits.proofs.Held.{Holds}
 use Rattle.subexp.specs.Coefficient.{symbol, symbolBits}
 use Rattle.subexp.proofs.Coefficient.{symbol-within, symbol-again, symbol-all}
 use Rattle.grid.specs.Grid.{absBits, precBits, centre, step}

@@ -12,7 +12,8 @@ use lib.IntN.{ℤ, pos}
 use lib.ListN.{length, getD, take, drop, length-append}
 use lib.Seq.{getD-drop, getD-take, take-all, take-at, drop-at, take-add, drop-drop, length-take-le, drop-cons}
 use Rattle.laws.proofs.Cases.{eq-or-ne}
-use Rattle.bits.specs.Bits.{Holds, bitAt}
+use Rattle.bits.specs.Bits.{bitAt}
+use Rattle.bits.proofs.Held.{Holds}
 use Rattle.bits.proofs.Buffer.{bitAt-lt, holds-join}
 use Rattle.header.specs.Coefficient.{coefficient, coefficientBits}
 use Rattle.header.specs.Reading.{ReadModel, pairRead, typeRead, typeLength, translationRead, rotzoomRead, affineRead, modelRead, referenceRead, referencesRead, modelsRead}

@@ -8,7 +8,8 @@ use borrow.Author.Tests.{le-ltb}
 use lib.IntN.{ℤ}
 use lib.ListN.{length, getD, set, take}
 use lib.Seq.{set-getD}
-use Rattle.bits.specs.Bits.{Holds, withBit, bitAt, putBit, putBits}
+use Rattle.bits.specs.Bits.{withBit, bitAt, putBit, putBits}
+use Rattle.bits.proofs.Held.{Holds}
 use Rattle.bits.specs.Fields.{padBits}
 use Rattle.bits.proofs.Buffer.{holds-join, length-putBits}
 use Rattle.bits.proofs.Byte.{parts}

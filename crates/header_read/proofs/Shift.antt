@@ -8,7 +8,8 @@ use native.Mathlib.Nat.{add-zero, add-assoc}
 use native.Mathlib.Omega.{arith}
 use lib.IntN.{ℤ}
 use lib.ListN.{length, drop}
-use Rattle.bits.specs.Bits.{Holds, bitAt}
+use Rattle.bits.specs.Bits.{bitAt}
+use Rattle.bits.proofs.Held.{Holds}
 use Rattle.bits.proofs.Buffer.{bitAt-drop}
 use Rattle.models.specs.Models.{priorsOut}
 use Rattle.header.specs.Reading.{ReadModels, modelsRead}

@@ -17,9 +17,8 @@ use Rattle.block.specs.declared.FrameRead.{FrameRead}
 use Rattle.block.specs.declared.BlockRead.{BlockRead}
 use Rattle.block.specs.Frame.{blocksOf, frameBytes, storeRefusal, readFrame, wordsLeft, samplesFrom, totalIn, readAlone}
 use Rattle.block.proofs.Answers.{storing}
-use Rattle.block_laws.specs.Carried.{carried}
-use Rattle.block_laws.proofs.RoundTrip.{frame-length, alone-read, total-back, samples-back}
-use Rattle.block_laws.proofs.Stored.{read-stored, words-stored}
+use Rattle.block.proofs.RoundTrip.{frame-length, alone-read, total-back, samples-back}
+use Rattle.block.proofs.Carried.{carried, read-stored, words-stored}
 use Rattle.job_task.specs.Task.{Task}
 use Rattle.job_task.specs.Ready.{Sound}
 use Rattle.job_outcome.specs.Outcome.{Ended, samples, words}

@@ -14,7 +14,7 @@ use Rattle.models.specs.Integers.{equal}
 use Rattle.models.specs.Models.{carries, filler, slotWrong, slotAt, modelWrong}
 use Rattle.models.proofs.Integers.{equal-same}
 use Rattle.quantize.specs.Quantize.{rowFirst}
-use Rattle.quantize.specs.OnGrid.{OnGrid}
+use Rattle.quantize.proofs.OnGrid.{OnGrid}
 
 not-wrong : (z y : ℤ) → z ≡ y → not (equal z y) ≡ false
 not-wrong z y e = rw (equal-same z y e)

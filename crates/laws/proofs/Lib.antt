@@ -7,6 +7,7 @@ pub mod Cases
 pub mod Products
 pub mod Signed
 pub mod Placed
+pub mod Filling
 pub mod Parts
 pub mod Floor
 pub mod Below

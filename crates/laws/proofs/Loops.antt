@@ -1,9 +1,9 @@
 -- The laws that a loop cites. The invariant says what is left: from here, as much is to be done as from the start.
 -- Assumes nothing.
-use Prim.Native.Nat.{ℕ, zero, suc, _+_, _*_, _-_, _≤_, _<_, zero-le, suc-le-suc}
+use Prim.Native.Nat.{ℕ, zero, suc, _+_, _-_, _≤_, _<_, suc-le-suc}
 use mathlib.Core.List.{List, [], _∷_, _++_}
 use mathlib.Core.Path.{_≡_, refl, sym, ap, _∙_}
-use native.Mathlib.Nat.{mul-suc, add-le-add, le-of-lt, le-refl}
+use native.Mathlib.Nat.{le-of-lt, le-refl}
 use native.Mathlib.Numerals.{add-one}
 use native.Mathlib.Omega.{arith}
 use lib.ListN.{length, drop, getD, drop-of-length-le}
@@ -43,9 +43,7 @@ module _ {A S : Type 0} (f : S → A → S) where
 pub sum-step : (f : ℕ → ℕ) (n : ℕ) → sum f (n + 1) ≡ sum f n + f n
 sum-step f n = rw (add-one n)
 
--- n terms of at most b
-pub sum-le : (f : ℕ → ℕ) (b n : ℕ) → ((i : ℕ) → i < n → f i ≤ b) → sum f n ≤ b * n
-sum-le f b zero h = zero-le
-sum-le f b (suc n) h =
-    rw (mul-suc b n)
-    (add-le-add (sum-le f b n (λ i l. h i (le-of-lt (suc-le-suc l)))) (h n (le-refl (suc n))))
+-- equal terms, equal sums
+pub sum-same : (f g : ℕ → ℕ) (n : ℕ) → ((i : ℕ) → i < n → f i ≡ g i) → sum f n ≡ sum g n
+sum-same f g zero h = refl
+sum-same f g (suc n) h = rw (sum-same f g n (λ i l. h i (le-of-lt (suc-le-suc l))), h n (le-refl (suc n)))

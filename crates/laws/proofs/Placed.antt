@@ -2,18 +2,15 @@
 -- Assumes nothing.
 use Prim.Native.Nat.{ℕ, suc, _+_, _≤_, _<_, _-_}
 use mathlib.Core.List.{List, [], _∷_, _++_, append-nil, append-assoc}
-use mathlib.Core.Path.{_≡_, refl, sym, ap, _∙_}
+use mathlib.Core.Path.{_≡_, sym, ap, _∙_}
 use native.Mathlib.Numerals.{add-one}
 use native.Mathlib.Omega.{arith}
 use lib.ListN.{length, take, drop, set, getD, length-append, length-take, length-drop}
-use lib.Seq.{take-append-seam, drop-append-seam, drop-drop, sets, sets-eq, drop-cons, set-append-seam, take-suc, take-all, length-take-le}
+use lib.Seq.{take-append-seam, drop-append-seam, drop-drop, sets, sets-eq, drop-cons, set-append-seam, take-all, length-take-le}
 use Rattle.laws.specs.Buffer.{onto}
 use Rattle.laws.specs.Placed.{placed}
 
 module _ {A : Type 0} where
-  pub onto-nothing : (old : List A) → onto [] old ≡ old
-  onto-nothing old = refl
-
   -- the second part right after the first
   pub placed-after : (a b old : List A) → placed (length a) b (onto a old) ≡ onto (a ++ b) old
   placed-after a b old =
@@ -28,14 +25,20 @@ module _ {A : Type 0} where
   set-after n a old x e h =
       rw (← e)
       (let l : length a < length old = omega arith in
-      rw (drop-cons old (length a) x l, set-append-seam a (getD old (length a) x) (drop (suc (length a)) old) x, length-append a (x ∷ []), add-one (length a), append-assoc a (x ∷ []) (drop (suc (length a)) old)))
+      rw (
+        drop-cons old (length a) x l,
+        set-append-seam a (getD old (length a) x) (drop (suc (length a)) old) x,
+        length-append a (x ∷ []),
+        add-one (length a),
+        append-assoc a (x ∷ []) (drop (suc (length a)) old),
+      ))
 
-  -- one element more of a list that is copied to the front
-  pub set-next : (i : ℕ) (from old to : List A) (d : A) → i < length from → i < length old → to ≡ onto (take i from) old
-      → set to i (getD from i d) ≡ onto (take (i + 1) from) old
-  set-next i from old to d h l e =
-      rw (e, add-one i, take-suc from i d h)
-      (set-after i (take i from) old (getD from i d) (length-take-le i from (omega arith)) l)
+  -- a part in its place is the front up to it, written over
+  pub placed-front : (at : ℕ) (new old : List A) → at ≤ length old → placed at new old ≡ onto (take at old ++ new) old
+  placed-front at new old h =
+      ap (λ (r : List A). take at old ++ (new ++ r)) (drop-drop (length new) at old)
+      ∙ sym (append-assoc (take at old) new (drop (at + length new) old))
+      ∙ ap (λ (n : ℕ). take at old ++ new ++ drop n old) (sym (length-append (take at old) new ∙ ap (λ (n : ℕ). n + length new) (length-take-le at old h)))
 
   -- all of it
   pub onto-whole : (new old : List A) → length old ≤ length new → onto new old ≡ new

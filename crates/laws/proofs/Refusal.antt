@@ -7,7 +7,17 @@ use mathlib.Core.Path.{_≡_, refl}
 use native.Mathlib.Omega.{arith}
 use borrow.Author.Tests.{eqb-true, not-false}
 use lib.Dec.{T, ltb, eqb, ltb→lt}
-use Rattle.laws.specs.Refusal.{Row, row, choose, judge, orElse, either, both, any, Quiet, numbered}
+use Rattle.laws.specs.Refusal.{Row, row, choose, judge, orElse, either, both}
+
+-- no row holds
+abbrev pub Quiet : List Row → Type 0
+Quiet [] = Unit {0}
+Quiet (r ∷ rs) = (r .holds ≡ false) × Quiet rs
+
+-- no row has the number 0
+abbrev pub numbered : List Row → Bool
+numbered [] = true
+numbered (r ∷ rs) = both (ltb 0 (r .number)) (numbered rs)
 
 pub judge-hit : (n : ℕ) (b : Bool) (rs : List Row) → b ≡ true → judge (row n b ∷ rs) ≡ n
 judge-hit n b rs e = rw e

@@ -6,4 +6,3 @@ pub mod Placed
 pub mod Parts
 pub mod Binary64
 pub mod Below
-pub mod Filled

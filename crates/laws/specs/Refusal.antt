@@ -3,8 +3,6 @@
 use Prim.Native.Nat.{ℕ, zero, suc}
 use mathlib.Core.Bool.{Bool, true, false}
 use mathlib.Core.List.{List, [], _∷_}
-use mathlib.Core.Path.{_≡_}
-use lib.Dec.{ltb}
 
 pub record Row : Type 0 where
   pub number : ℕ
@@ -39,13 +37,3 @@ both false b = false
 abbrev pub any : {A : Type 0} → (A → Bool) → List A → Bool
 any p [] = false
 any p (x ∷ xs) = either (p x) (any p xs)
-
--- no row holds
-abbrev pub Quiet : List Row → Type 0
-Quiet [] = Unit {0}
-Quiet (r ∷ rs) = (r .holds ≡ false) × Quiet rs
-
--- no row has the number 0
-abbrev pub numbered : List Row → Bool
-numbered [] = true
-numbered (r ∷ rs) = both (ltb 0 (r .number)) (numbered rs)

@@ -17,6 +17,12 @@ const ROTZOOM: u8 = 2;
 
 const AFFINE: u8 = 3;
 
+// Document 01, 'Header': how far a prior's number may lie from its slot's centre, in slots 0 and 1 and in
+// the others.
+const TRANSLATION_PRIOR: u64 = 4194304;
+
+const LINEAR_PRIOR: u64 = 8192;
+
 pub fn carries_slot(gm_type: u8, slot: u8) -> bool
     ensures { λ r. ⌜ r ≡ carries «gm_type» slot ⌝ }
 {
@@ -106,9 +112,9 @@ fn prior_out(slot: u8, z: i32) -> bool
 {
     let distance = grid::magnitude(grid::from_centre(z, grid::centre_of(slot)));
     if slot < 2 {
-        return 4194304 < distance;
+        return TRANSLATION_PRIOR < distance;
     }
-    8192 < distance
+    LINEAR_PRIOR < distance
 }
 
 // A list of priors, six to a reference.

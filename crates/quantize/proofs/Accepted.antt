@@ -10,33 +10,30 @@ use lib.Dec.{eqb, ltb}
 use lib.IntN.{ℤ}
 use lib.ListN.{length}
 use Rattle.laws.specs.Refusal.{row, choose}
-use Rattle.laws.proofs.Refusal.{quiet}
+use Rattle.laws.specs.Call.{answered}
+use Rattle.laws.proofs.Refusal.{quiet, or-else-quiet}
 use Rattle.fit.specs.declared.Fitted.{Fitted}
-use Rattle.fit.specs.Fitted.{typeOf, tooMany, mostSamples}
-use Rattle.quantize.specs.declared.Quantized.{Quantized}
-use Rattle.quantize.specs.Quantize.{params, acceptedModel, rejectedModel, noModel, quantizeRefusal, quantizedModel, exchange, rowFirst}
+use Rattle.fit.specs.Fitted.{typeOf, listRefusal}
+use Rattle.fit.proofs.Accepted.{list-few}
+use Rattle.quantize.specs.Quantize.{params, quantizedAs, refusedModel, noModel, modelRefusal, quantizeRefusal, quantizedModel, exchange, rowFirst}
+use Rattle.quantize.specs.Inner.{Accepted}
 
--- what the refusal 0 says of the arguments
-pub record Accepted (f : Fitted) (flag : ℕ) (ws : List ℕ) : Type 0 where
-  pub few : length ws ≤ mostSamples
-  pub model : typeOf f ≡ 0 → ⊥
-  pub flagged : flag ≤ 1
-
-refusal-shown : (n : ℕ) (a : Quantized) → a .refusal ≡ 0 → choose {A = Quantized} (eqb n 0) a (rejectedModel n) .refusal ≡ n
-refusal-shown zero a e = e
-refusal-shown (suc n) a e = rw (ne-eqb (suc n) 0 (omega arith))
-
-pub refusal-is : (f : Fitted) (flag : ℕ) (ws : List ℕ) → quantizedModel f flag ws .refusal ≡ quantizeRefusal f flag ws
-refusal-is f flag ws = refusal-shown (quantizeRefusal f flag ws) (acceptedModel f flag ws) refl
-
-pub accepted : (f : Fitted) (flag : ℕ) (ws : List ℕ) → quantizedModel f flag ws .refusal ≡ 0 → Accepted f flag ws
-accepted f flag ws e =
-    let q = quiet (row 1 (tooMany ws) ∷ row 4 (noModel f) ∷ row 4 (ltb 1 flag) ∷ []) tt (sym (refusal-is f flag ws) ∙ e) in
+pub accepted : (f : Fitted) (flag samples : ℕ) → quantizeRefusal f flag samples ≡ 0 → Accepted f flag samples
+accepted f flag samples e =
+    let groups = or-else-quiet (listRefusal samples) (modelRefusal f flag) e in
+    let q = quiet (row 4 (noModel f) ∷ row 4 (ltb 1 flag) ∷ []) tt (groups .1) in
     record {
-      few = ltb-false mostSamples (length ws) (q .0);
-      model = eqb-false (typeOf f) 0 (q .1 .0);
-      flagged = ltb-false 1 flag (q .1 .1 .0);
+      few = list-few samples (groups .0);
+      model = eqb-false (typeOf f) 0 (q .0);
+      flagged = ltb-false 1 flag (q .1 .0);
     }
+
+refusal-shown : (n : ℕ) (p : List ℤ) → answered refusedModel n (quantizedAs 0 p) .refusal ≡ n
+refusal-shown zero p = refl
+refusal-shown (suc n) p = rw (ne-eqb (suc n) 0 (omega arith))
+
+pub refusal-is : (f : Fitted) (flag : ℕ) (ws : List ℕ) → quantizedModel f flag ws .refusal ≡ quantizeRefusal f flag (length ws)
+refusal-is f flag ws = refusal-shown (quantizeRefusal f flag (length ws)) (params f flag ws)
 
 pub accepted-params : (f : Fitted) (flag : ℕ) (ws : List ℕ) → quantizedModel f flag ws .refusal ≡ 0 → quantizedModel f flag ws .params ≡ params f flag ws
 accepted-params f flag ws e = rw (sym (refusal-is f flag ws) ∙ e)
@@ -47,7 +44,7 @@ twice : (b : Bool) (x y : ℤ) (p : List ℤ) → choose b (exchange (choose b (
 twice true x y p = refl
 twice false x y p = refl
 
-pub row-first-twice : (kind : ℕ) (p : List ℤ) → 2 ≤ length p → rowFirst kind (rowFirst kind p) ≡ p
-row-first-twice kind [] h = absurd (omega arith)
-row-first-twice kind (x ∷ []) h = absurd (omega arith)
-row-first-twice kind (x ∷ y ∷ p) h = twice (eqb kind 1) x y p
+pub row-first-twice : (gmType : ℕ) (p : List ℤ) → 2 ≤ length p → rowFirst gmType (rowFirst gmType p) ≡ p
+row-first-twice gmType [] h = absurd (omega arith)
+row-first-twice gmType (x ∷ []) h = absurd (omega arith)
+row-first-twice gmType (x ∷ y ∷ p) h = twice (eqb gmType 1) x y p

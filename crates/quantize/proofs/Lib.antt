@@ -4,3 +4,4 @@ pub mod OppositeSlots
 pub mod OnGrid
 pub mod NearestSlots
 pub mod Accepted
+pub mod SameSamples

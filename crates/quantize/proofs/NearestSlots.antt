@@ -2,7 +2,7 @@
 -- Assumes nothing.
 use Prim.Native.Nat.{ℕ, zero, suc, _≤_, _<_}
 use mathlib.Core.List.{List}
-use mathlib.Core.Logic.{⊎-elim}
+use mathlib.Core.Logic.{_⊎_, ⊎-elim}
 use mathlib.Core.Path.{_≡_, refl, subst}
 use native.Mathlib.Omega.{arith}
 use lib.IntN.{ℤ, negℤ}
@@ -15,16 +15,20 @@ use Rattle.fit.specs.Fitted.{typeOf}
 use Rattle.grid_number.specs.GridNumber.{gridNumber}
 use Rattle.score.specs.Score.{slot}
 use Rattle.quantize.specs.Quantize.{linearOf, refitted, params, slotOf}
-use Rattle.quantize.specs.OnGrid.{gridNumberAt, HasGridNumber, NearestAt}
+use Rattle.quantize.specs.OnGrid.{gridNumberAt, NearestAt}
 use Rattle.quantize.proofs.OppositeSlots.{slot-four-opposite}
 use Rattle.quantize.proofs.OnGrid.{each-of-six}
 
-slot-nearest : (kind flag i : ℕ) (z : ℤ) → NearestAt kind flag i z (quantized kind flag i z)
+-- the slots that have a grid number: two of a TRANSLATION, six of the other types
+abbrev pub HasGridNumber : Fitted → ℕ → Type 0
+HasGridNumber f i = (i < 6) × ((i < 2) ⊎ (2 ≤ typeOf f))
+
+slot-nearest : (gmType flag i : ℕ) (z : ℤ) → NearestAt gmType flag i z (quantized gmType flag i z)
 unfolding quantize
-slot-nearest kind flag i z =
+slot-nearest gmType flag i z =
     record {
-      ordinal = ordinalOf (absBits kind flag i) (precBits kind flag i) (centre i) z;
-      nearest = row-nearest kind flag i z;
+      ordinal = ordinalOf (absBits gmType flag i) (precBits gmType flag i) (centre i) z;
+      nearest = row-nearest gmType flag i z;
       is = refl;
     }
 

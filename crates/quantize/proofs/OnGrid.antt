@@ -1,10 +1,12 @@
--- Every quantized model is on the grid of its type, with its uncarried slots and its pair right; each of its numbers is the nearest codable one to the fitted model's grid number.
+-- Every quantized model is on the grid of its type: each slot codable, its uncarried slots and its pair right.
 -- Assumes nothing.
 use Prim.Native.Nat.{ℕ, zero, suc, _<_, zero-le}
 use mathlib.Core.List.{List, [], _∷_}
 use mathlib.Core.Path.{_≡_, refl, subst}
+use native.Mathlib.Nat.{zero-mul, zero-add}
 use native.Mathlib.Omega.{arith}
 use lib.IntN.{ℤ, pos, negℤ}
+use lib.ListN.{length}
 use lib.Ieee.{Float}
 use Rattle.grid.specs.Grid.{absBits, precBits, centre, quantized, Codable}
 use Rattle.grid.proofs.Table.{row-codable, row-negative}
@@ -15,7 +17,30 @@ use Rattle.grid_number.specs.GridNumber.{gridNumber}
 use Rattle.score.specs.Score.{slot}
 use Rattle.quantize.specs.declared.Motion.{Motion}
 use Rattle.quantize.specs.Quantize.{linearOf, refitted, paramsOf, params, slotOf}
-use Rattle.quantize.specs.OnGrid.{OnGrid}
+
+-- ---- what it is to be on the grid
+
+-- slots 2 to 5 of the identity
+pub record IdentityLinear (p : List ℤ) : Type 0 where
+  pub two : slot p 2 ≡ pos 65536
+  pub three : slot p 3 ≡ pos 0
+  pub four : slot p 4 ≡ pos 0
+  pub five : slot p 5 ≡ pos 65536
+
+pub record Pair (p : List ℤ) : Type 0 where
+  pub four : slot p 4 ≡ negℤ (slot p 3)
+  pub five : slot p 5 ≡ slot p 2
+
+-- a slot's own number
+abbrev pub CodableAt : ℕ → ℕ → ℕ → ℤ → Type 0
+CodableAt gmType flag i z = Codable (absBits gmType flag i) (precBits gmType flag i) (centre i) z
+
+-- every slot codable, the slots that a TRANSLATION doesn't carry those of the identity, a ROTZOOM's pair right
+pub record OnGrid (gmType flag : ℕ) (p : List ℤ) : Type 0 where
+  pub six : length p ≡ 6
+  pub codable : (i : ℕ) → i < 6 → CodableAt gmType flag i (slot p i)
+  pub translation : gmType ≡ 1 → IdentityLinear p
+  pub pair : gmType ≡ 2 → Pair p
 
 -- ---- any property of the six slots
 
@@ -29,18 +54,9 @@ module _ (P : ℕ → ℤ → Type 0) (a b c d e f : ℤ) where
   each-of-six p0 p1 p2 p3 p4 p5 (suc (suc (suc (suc (suc zero))))) h = p5
   each-of-six p0 p1 p2 p3 p4 p5 (suc (suc (suc (suc (suc (suc i)))))) h = absurd (omega arith)
 
--- a slot's own number
-abbrev CodableAt : ℕ → ℕ → ℕ → ℤ → Type 0
-CodableAt kind flag i z = Codable (absBits kind flag i) (precBits kind flag i) (centre i) z
-
-identity-two : (flag : ℕ) → CodableAt 1 flag 2 (pos 65536)
-identity-two flag = record { ordinal = pos 0; in-range = record { within = zero-le }; is = refl }
-
-identity-five : (flag : ℕ) → CodableAt 1 flag 5 (pos 65536)
-identity-five flag = record { ordinal = pos 0; in-range = record { within = zero-le }; is = refl }
-
-identity-middle : (flag : ℕ) → CodableAt 1 flag 3 (pos 0)
-identity-middle flag = record { ordinal = pos 0; in-range = record { within = zero-le }; is = refl }
+-- a slot's centre is its ordinal 0
+centre-codable : (gmType flag i : ℕ) → CodableAt gmType flag i (pos (centre i))
+centre-codable gmType flag i = record { ordinal = pos 0; in-range = record { within = zero-le }; is = rw (zero-mul, zero-add) }
 
 opposite-codable : (flag : ℕ) (z : ℤ) → CodableAt 2 flag 4 (negℤ (quantized 2 flag 3 z))
 opposite-codable flag z = subst (λ (x : ℤ). CodableAt 2 flag 4 x) (row-negative 2 flag 3 z refl) (row-codable 2 flag 4 (negℤ z))
@@ -54,7 +70,7 @@ on-grid-translation flag t =
       codable =
           each-of-six (λ (i : ℕ) (z : ℤ). CodableAt 1 flag i z) (slotOf 1 flag 0 (t .u)) (slotOf 1 flag 1 (t .v)) (pos 65536) (pos 0) (pos 0) (pos 65536)
           (row-codable 1 flag 0 (gridNumber (t .u))) (row-codable 1 flag 1 (gridNumber (t .v)))
-          (identity-two flag) (identity-middle flag) (identity-middle flag) (identity-five flag);
+          (centre-codable 1 flag 2) (centre-codable 1 flag 3) (centre-codable 1 flag 4) (centre-codable 1 flag 5);
       translation = λ e. record { two = refl; three = refl; four = refl; five = refl };
       pair = λ e. absurd (omega arith);
     }
@@ -65,7 +81,8 @@ on-grid-rotzoom flag t m2 m3 =
     record {
       six = refl;
       codable =
-          each-of-six (λ (i : ℕ) (z : ℤ). CodableAt 2 flag i z) (slotOf 2 flag 0 (t .u)) (slotOf 2 flag 1 (t .v)) (slotOf 2 flag 2 m2) (slotOf 2 flag 3 m3) (negℤ (slotOf 2 flag 3 m3)) (slotOf 2 flag 2 m2)
+          each-of-six (λ (i : ℕ) (z : ℤ). CodableAt 2 flag i z)
+          (slotOf 2 flag 0 (t .u)) (slotOf 2 flag 1 (t .v)) (slotOf 2 flag 2 m2) (slotOf 2 flag 3 m3) (negℤ (slotOf 2 flag 3 m3)) (slotOf 2 flag 2 m2)
           (row-codable 2 flag 0 (gridNumber (t .u))) (row-codable 2 flag 1 (gridNumber (t .v)))
           (row-codable 2 flag 2 (gridNumber m2)) (row-codable 2 flag 3 (gridNumber m3)) (opposite-codable flag (gridNumber m3)) (row-codable 2 flag 5 (gridNumber m2));
       translation = λ e. absurd (omega arith);

@@ -9,9 +9,9 @@ use Rattle.grid.specs.Grid.{answer, quantized, quantize, negative, signed, near
 use Rattle.grid.proofs.Signs.{signed-times, natAbs-signed}
 use Rattle.grid.proofs.Nearest.{nearestOrdinal-le}
 
-pub accepted-answer : (kind flag slot : ℕ) (z : ℤ) → kind ≤ 3 → flag ≤ 1 → slot ≤ 5 → answer kind flag slot z .value ≡ quantized kind flag slot z
+pub accepted-answer : (gmType flag slot : ℕ) (z : ℤ) → gmType ≤ 3 → flag ≤ 1 → slot ≤ 5 → answer gmType flag slot z .value ≡ quantized gmType flag slot z
 unfolding answer
-accepted-answer kind flag slot z a b c = rw (le-ltb 3 kind a, le-ltb 1 flag b, le-ltb 5 slot c)
+accepted-answer gmType flag slot z a b c = rw (le-ltb 3 gmType a, le-ltb 1 flag b, le-ltb 5 slot c)
 
 -- slot 3 reaches 8,192 either way
 pub slot-three-reach : (flag : ℕ) (z : ℤ) → natAbs (quantized 2 flag 3 z) ≤ 8192

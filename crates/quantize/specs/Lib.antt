@@ -1,2 +1,3 @@
 pub mod Quantize
 pub mod OnGrid
+pub mod Inner

@@ -7,15 +7,17 @@ use lib.Dec.{ltb, eqb}
 use lib.IntN.{ℤ, pos, negℤ}
 use lib.ListN.{length, replicate, set}
 use lib.Ieee.{Float}
-use Rattle.laws.specs.Refusal.{row, judge, choose}
+use Rattle.laws.specs.Refusal.{row, judge, orElse, choose}
+use Rattle.laws.specs.Call.{answered}
 use Rattle.laws.specs.Binary64.{_⊕_, _⊖_, _⊗_, _⊘_, nought, one}
 use Rattle.grid.specs.Grid.{quantized}
 use Rattle.sample.specs.declared.MotionSample.{MotionSample}
 use Rattle.fit.specs.declared.Fitted.{Fitted}
 use Rattle.fit.specs.declared.Fitted.the-variants.{Refused, Translation, RotZoom, Affine}
 use Rattle.fit.specs.declared.TranslationSums.{TranslationSums}
-use Rattle.fit.specs.Sums.{plus, sumOf, countOf}
-use Rattle.fit.specs.Fitted.{typeOf, tooMany}
+use Rattle.sample.specs.Sample.{sampleOf}
+use Rattle.fit.specs.Sums.{Summing, sumsOf, countAs}
+use Rattle.fit.specs.Fitted.{typeOf, listRefusal}
 use Rattle.score.specs.declared.ContinuousModel.{ContinuousModel}
 use Rattle.quantize.specs.declared.Linear.{Linear}
 use Rattle.quantize.specs.declared.Motion.{Motion}
@@ -25,7 +27,7 @@ use Rattle.score.specs.Score.{continuousOf, slot}
 
 -- the nearest codable number of a slot to a number's grid number
 abbrev pub slotOf : ℕ → ℕ → ℕ → Float → ℤ
-slotOf kind flag slot value = quantized kind flag slot (gridNumber value)
+slotOf gmType flag slot value = quantized gmType flag slot (gridNumber value)
 
 abbrev pub identityLinear : Linear
 identityLinear = record { p2 = pos 65536; p3 = pos 0; p4 = pos 0; p5 = pos 65536 }
@@ -60,25 +62,25 @@ leftU m s = s .u ⊖ ((m .m2 ⊖ one) ⊗ s .x ⊕ m .m3 ⊗ s .y)
 abbrev pub leftV : ContinuousModel → MotionSample → Float
 leftV m s = s .v ⊖ (m .m4 ⊗ s .x ⊕ (m .m5 ⊖ one) ⊗ s .y)
 
-abbrev pub refitStep : ContinuousModel → TranslationSums → MotionSample → TranslationSums
-refitStep m t s = record { su = plus (leftU m) (t .su) s; sv = plus (leftV m) (t .sv) s }
+unfoldable pub refitTotals : ContinuousModel → Summing → TranslationSums
+refitTotals m sum = record { su = sum (leftU m); sv = sum (leftV m) }
 
-unfoldable pub refitSums : ContinuousModel → List ℕ → TranslationSums
-refitSums m ws = record { su = sumOf (leftU m) ws; sv = sumOf (leftV m) ws }
-
--- its mean, 0 with no samples
-abbrev pub meanMotion : TranslationSums → List ℕ → Motion
-meanMotion t ws =
-    choose (eqb (length ws) 0)
+-- its mean over so many samples, 0 with none
+abbrev pub meanMotion : TranslationSums → ℕ → Motion
+meanMotion t samples =
+    choose (eqb samples 0)
     (record { u = nought; v = nought })
-    (record { u = t .su ⊘ countOf ws; v = t .sv ⊘ countOf ws })
+    (record { u = t .su ⊘ countAs samples; v = t .sv ⊘ countAs samples })
+
+abbrev pub refitBy : Linear → Summing → ℕ → Motion
+refitBy l sum samples = meanMotion (refitTotals (continuousLinear l) sum) samples
 
 unfoldable pub refitted : Linear → List ℕ → Motion
-refitted l ws = meanMotion (refitSums (continuousLinear l) ws) ws
+refitted l ws = refitBy l (sumsOf sampleOf ws) (length ws)
 
 -- the six numbers, x first
 abbrev pub paramsOf : ℕ → ℕ → Linear → Motion → List ℤ
-paramsOf kind flag l t = slotOf kind flag 0 (t .u) ∷ slotOf kind flag 1 (t .v) ∷ l .p2 ∷ l .p3 ∷ l .p4 ∷ l .p5 ∷ []
+paramsOf gmType flag l t = slotOf gmType flag 0 (t .u) ∷ slotOf gmType flag 1 (t .v) ∷ l .p2 ∷ l .p3 ∷ l .p4 ∷ l .p5 ∷ []
 
 unfoldable pub params : Fitted → ℕ → List ℕ → List ℤ
 params f flag ws = paramsOf (typeOf f) flag (linearOf f flag) (refitted (linearOf f flag) ws)
@@ -87,23 +89,20 @@ params f flag ws = paramsOf (typeOf f) flag (linearOf f flag) (refitted (linearO
 abbrev pub noModel : Fitted → Bool
 noModel f = eqb (typeOf f) 0
 
-abbrev pub quantizeRefusal : Fitted → ℕ → List ℕ → ℕ
-quantizeRefusal f flag ws = judge (row 1 (tooMany ws) ∷ row 4 (noModel f) ∷ row 4 (ltb 1 flag) ∷ [])
+abbrev pub modelRefusal : Fitted → ℕ → ℕ
+modelRefusal f flag = judge (row 4 (noModel f) ∷ row 4 (ltb 1 flag) ∷ [])
 
-abbrev pub zeroParams : List ℤ
-zeroParams = replicate 6 (pos 0)
+abbrev pub quantizeRefusal : Fitted → ℕ → ℕ → ℕ
+quantizeRefusal f flag samples = orElse (listRefusal samples) (modelRefusal f flag)
 
-abbrev pub rejectedModel : ℕ → Quantized
-rejectedModel n = record { refusal = n; params = zeroParams }
+abbrev pub quantizedAs : ℕ → List ℤ → Quantized
+quantizedAs n p = record { refusal = n; params = p }
 
-abbrev pub acceptedModel : Fitted → ℕ → List ℕ → Quantized
-acceptedModel f flag ws = record { refusal = 0; params = params f flag ws }
+abbrev pub refusedModel : ℕ → Quantized
+refusedModel n = quantizedAs n (replicate 6 (pos 0))
 
 abbrev pub quantizedModel : Fitted → ℕ → List ℕ → Quantized
-quantizedModel f flag ws =
-    choose (eqb (quantizeRefusal f flag ws) 0)
-    (acceptedModel f flag ws)
-    (rejectedModel (quantizeRefusal f flag ws))
+quantizedModel f flag ws = answered refusedModel (quantizeRefusal f flag (length ws)) (quantizedAs 0 (params f flag ws))
 
 -- slots 0 and 1 exchanged
 abbrev pub exchange : List ℤ → List ℤ
@@ -111,4 +110,4 @@ exchange p = set (set p 0 (slot p 1)) 1 (slot p 0)
 
 -- a TRANSLATION is stored row first; the same takes it back
 abbrev pub rowFirst : ℕ → List ℤ → List ℤ
-rowFirst kind p = choose (eqb kind 1) (exchange p) p
+rowFirst gmType p = choose (eqb gmType 1) (exchange p) p

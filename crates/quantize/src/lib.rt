@@ -1,7 +1,11 @@
 // A fitted model on the grid of codable numbers: a fitted model, a flag and sample words go in, six
 // numbers at 16 fraction bits come out, x first. Answers to document 01, 'Fits and score' and
 // 'Header' (the row-first exchange), rows 1 and 4, and to `quantize_model` (encoder/global_motion.rs).
+use fit::AFFINE;
 use fit::Fitted;
+use fit::NO_SUCH_CODE;
+use fit::ROTZOOM;
+use fit::TRANSLATION;
 use fit::TranslationSums;
 use sample::MotionSample;
 use score::ContinuousModel;
@@ -9,23 +13,11 @@ ghost use mathlib.Core.Path.{_≡_};
 ghost use Prim.Native.Nat.{_≤_};
 ghost use lib.IntN.{natAbs};
 ghost use lib.ListN.{length};
-ghost use Rattle.fit.specs.Fitted.{mostSamples, typeOf};
-ghost use Rattle.quantize.specs.Quantize.{slotOf, rotZoomLinear, identityLinear, linearOf, continuousLinear, refitStep, refitSums, refitted, paramsOf, rejectedModel, acceptedModel, quantizedModel, rowFirst};
-
-// Document 01: a list holds at most so many samples.
-const MOST_SAMPLES: usize = 4096;
-
-// Type codes.
-const TRANSLATION: u8 = 1;
-
-const ROTZOOM: u8 = 2;
-
-const AFFINE: u8 = 3;
-
-// Rows of document 01's table.
-const TOO_MANY: u32 = 1;
-
-const NO_SUCH_CODE: u32 = 4;
+ghost use Rattle.sample.specs.Word.{mostSamples};
+ghost use Rattle.fit.specs.Fitted.{typeOf};
+ghost use Rattle.quantize.specs.Quantize.{slotOf, rotZoomLinear, identityLinear, linearOf, continuousLinear, refitted, paramsOf, params};
+ghost use Rattle.quantize.specs.Quantize.{modelRefusal, quantizeRefusal, refusedModel, quantizedModel, rowFirst};
+ghost use Rattle.quantize.specs.Inner.{refitStep, refitSums, Accepted};
 
 // Slots 2 to 5 of a model.
 pub struct Linear {
@@ -49,11 +41,11 @@ pub struct Quantized {
 }
 
 // The nearest codable number of a slot.
-fn quantized_slot(kind: u8, flag: u8, slot: u8, value: f64) -> i32
-    requires { ⌜ (kind ≤ 3) × (flag ≤ 1) × (slot ≤ 5) ⌝ }
-    ensures { λ r. ⌜ r ≡ slotOf kind flag slot value ⌝ }
+fn quantized_slot(gm_type: u8, flag: u8, slot: u8, value: f64) -> i32
+    requires { ⌜ («gm_type» ≤ 3) × (flag ≤ 1) × (slot ≤ 5) ⌝ }
+    ensures { λ r. ⌜ r ≡ slotOf «gm_type» flag slot value ⌝ }
 {
-    let q = grid::quantize_global_param(kind, flag, slot, grid_number::grid_number(value));
+    let q = grid::quantize_global_param(gm_type, flag, slot, grid_number::grid_number(value));
     q.value
 }
 
@@ -163,17 +155,48 @@ fn refit(l: Linear, words: &[u32]) -> Motion
     }
 }
 
-fn params_of(kind: u8, flag: u8, l: Linear, t: Motion) -> [i32; 6]
-    requires { ⌜ (kind ≤ 3) × (flag ≤ 1) ⌝ }
-    ensures { λ r. ⌜ r ≡ paramsOf kind flag l t ⌝ }
+fn params_of(gm_type: u8, flag: u8, l: Linear, t: Motion) -> [i32; 6]
+    requires { ⌜ («gm_type» ≤ 3) × (flag ≤ 1) ⌝ }
+    ensures { λ r. ⌜ r ≡ paramsOf «gm_type» flag l t ⌝ }
 {
-    let x = quantized_slot(kind, flag, 0, t.u);
-    let y = quantized_slot(kind, flag, 1, t.v);
+    let x = quantized_slot(gm_type, flag, 0, t.u);
+    let y = quantized_slot(gm_type, flag, 1, t.v);
     [x, y, l.p2, l.p3, l.p4, l.p5]
 }
 
-fn rejected_model(number: u32) -> Quantized
-    ensures { λ r. ⌜ r ≡ rejectedModel number ⌝ }
+fn model_params(fitted: Fitted, flag: u8, words: &[u32]) -> [i32; 6]
+    requires { ⌜ Accepted fitted flag (length (now words)) ⌝ }
+    ensures { λ r. ⌜ r ≡ params fitted flag (now (words .entry)) ⌝ }
+{
+    let l = linear_of(fitted, flag);
+    params_of(fit::type_of(fitted), flag, l, refit(l, words))
+}
+
+// Row 4: no fitted model, or no such flag.
+fn model_refusal(fitted: Fitted, flag: u8) -> u32
+    ensures { λ r. ⌜ r ≡ modelRefusal fitted flag ⌝ }
+{
+    if fit::type_of(fitted) == 0 {
+        return NO_SUCH_CODE;
+    }
+    if flag > 1 {
+        return NO_SUCH_CODE;
+    }
+    0
+}
+
+fn quantize_refusal(fitted: Fitted, flag: u8, samples: usize) -> u32
+    ensures { λ r. ⌜ r ≡ quantizeRefusal fitted flag samples ⌝ }
+{
+    let first = fit::list_refusal(samples);
+    if first != 0 {
+        return first;
+    }
+    model_refusal(fitted, flag)
+}
+
+fn refused_model(number: u32) -> Quantized
+    ensures { λ r. ⌜ r ≡ refusedModel number ⌝ }
 {
     let params = [0i32; 6];
     Quantized {
@@ -182,36 +205,22 @@ fn rejected_model(number: u32) -> Quantized
     }
 }
 
-fn accepted_model(fitted: Fitted, kind: u8, flag: u8, words: &[u32]) -> Quantized
-    requires { ⌜ (length (now words) ≤ mostSamples) × (flag ≤ 1) × (kind ≤ 3) × (kind ≡ typeOf fitted) ⌝ }
-    ensures { λ r. ⌜ r ≡ acceptedModel fitted flag (now (words .entry)) ⌝ }
-{
-    let l = linear_of(fitted, flag);
-    let params = params_of(kind, flag, l, refit(l, words));
-    Quantized { refusal: 0, params }
-}
-
 pub fn quantize_model(fitted: Fitted, flag: u8, words: &[u32]) -> Quantized
     ensures { λ r. ⌜ r ≡ quantizedModel fitted flag (now (words .entry)) ⌝ }
 {
-    if words.len() > MOST_SAMPLES {
-        return rejected_model(TOO_MANY);
+    let refusal = quantize_refusal(fitted, flag, words.len());
+    if refusal != 0 {
+        return refused_model(refusal);
     }
-    let kind = fit::kind_of(fitted);
-    if kind == 0 {
-        return rejected_model(NO_SUCH_CODE);
-    }
-    if flag > 1 {
-        return rejected_model(NO_SUCH_CODE);
-    }
-    accepted_model(fitted, kind, flag, words)
+    let params = model_params(fitted, flag, words);
+    Quantized { refusal: 0, params }
 }
 
 // A TRANSLATION is stored row first: slots 0 and 1 change places, and the same takes them back.
-pub fn row_first(kind: u8, params: [i32; 6]) -> [i32; 6]
-    ensures { λ r. ⌜ r ≡ rowFirst kind params ⌝ }
+pub fn row_first(gm_type: u8, params: [i32; 6]) -> [i32; 6]
+    ensures { λ r. ⌜ r ≡ rowFirst «gm_type» params ⌝ }
 {
-    if kind == TRANSLATION {
+    if gm_type == TRANSLATION {
         let x = params[0];
         let y = params[1];
         let mut stored = params;

@@ -1,4 +1,5 @@
 pub mod Word
 pub mod Motion
 pub mod Storable
+pub mod InOrder
 pub mod Filled

@@ -4,7 +4,8 @@ use Prim.Native.Nat.{ℕ, _+_, _*_, _<_, _^_}
 use mathlib.Core.Path.{_≡_}
 use native.Mathlib.Nat.{div-div-eq-div-mul}
 use native.Mathlib.Omega.{arith}
-use Rattle.sample.specs.Word.{rowOf, colOf, vOf, uOf, classOf, wordOf, Held, placeOf}
+use Rattle.sample.specs.Word.{rowOf, colOf, vOf, uOf, classOf, wordOf, placeOf}
+use Rattle.sample.specs.Inner.{Held}
 
 pub row-below : (w : ℕ) → w < 2 ^ 32 → rowOf w < 64
 row-below w h = omega arith

@@ -1,3 +1,4 @@
 pub mod Word
 pub mod Sample
 pub mod Storable
+pub mod Inner

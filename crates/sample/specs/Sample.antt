@@ -1,11 +1,8 @@
 -- The sample of a word as four binary64 numbers in pels: x = 16 C + 7.5, y = 16 R + 7.5, u and v the eighths divided by 8, each step rounded once.
 -- Assumes nothing.
-use Prim.Native.Nat.{ℕ, _*_, _<_}
-use mathlib.Core.List.{List}
-use mathlib.Core.Path.{_≡_}
-use lib.ListN.{getD}
+use Prim.Native.Nat.{ℕ, _*_}
 use lib.IntN.{ℤ, pos, _-ℤ_}
-use lib.Ieee.{Float, binary64, nan, add, div, ofInt, ofBits}
+use lib.Ieee.{Float, binary64, add, div, ofInt, ofBits}
 use Rattle.sample.specs.declared.MotionSample.{MotionSample}
 use Rattle.sample.specs.Word.{rowOf, colOf, vOf, uOf}
 
@@ -38,7 +35,3 @@ pelsOf stored = div binary64 (ofInt binary64 (eighthsOf stored)) eight
 
 abbrev pub sampleOf : ℕ → MotionSample
 sampleOf w = record { x = centreOf (colOf w); y = centreOf (rowOf w); u = pelsOf (uOf w); v = pelsOf (vOf w) }
-
--- a table of the centres of all rows or columns
-pub record Centres (t : List Float) : Type 0 where
-  pub at : (place : ℕ) → place < 64 → getD t place nan ≡ centreOf place

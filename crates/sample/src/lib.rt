@@ -1,10 +1,16 @@
 // The sample word and the sample it stands for (document 01, 'Records': Sample, Sample word).
-// A word's five fields are taken apart and put together; a word becomes a `MotionSample`, the
-// four binary64 numbers that the fits take (`MotionSample` of the Rust's global_motion.rs).
+// A word's five fields are taken apart and put together; a list of words is tested for what a frame
+// may store; a word becomes a `MotionSample`, the four binary64 numbers that the fits take
+// (`MotionSample` of the Rust's global_motion.rs).
 ghost use mathlib.Core.Path.{_≡_};
 ghost use Prim.Native.Nat.{_<_};
-ghost use Rattle.sample.specs.Word.{rowOf, colOf, vOf, uOf, classOf, wordOf, Held, inRange, placeOf, motions};
-ghost use Rattle.sample.specs.Sample.{sampleOf, centreOf, pelsOf, Centres};
+ghost use Rattle.sample.specs.Word.{rowOf, colOf, vOf, uOf, classOf, wordOf, inRange, placeOf, sides, motions};
+ghost use Rattle.sample.specs.Sample.{sampleOf, centreOf, pelsOf};
+ghost use Rattle.sample.specs.Storable.{storableFrom};
+ghost use Rattle.sample.specs.Inner.{Held, Centres};
+
+// The samples of the largest frame, and of the longest list.
+pub const MOST_SAMPLES: usize = 4096;
 
 const ROW_UNIT: u32 = 67108864;
 
@@ -91,9 +97,30 @@ pub fn place_of(word: u32) -> u32
     word / COL_UNIT
 }
 
+// The words may be stored from the place `first` on: motions in range, (R, C) rising.
+pub fn storable_from(first: u32, words: &[u32]) -> bool
+    ensures { λ r. ⌜ r ≡ storableFrom first (now (words .entry)) ⌝ }
+{
+    let mut least = first;
+    let mut i = 0;
+    while i < words.len() {
+        let word = words[i];
+        if !in_range(word) {
+            return false;
+        }
+        let place = place_of(word);
+        if place < least {
+            return false;
+        }
+        least = place + 1;
+        i += 1;
+    }
+    true
+}
+
 // The centre of the block at this row or column, in pels.
 fn centre_of(place: u32) -> f64
-    requires { ⌜ place < 64 ⌝ }
+    requires { ⌜ place < sides ⌝ }
     ensures { λ r. ⌜ r ≡ centreOf place ⌝ }
 {
     (BLOCK_SIDE * place) as f64 + 7.5

@@ -1,1 +1,2 @@
 pub mod TooMany
+pub mod SameSamples

@@ -1,12 +1,15 @@
--- Over 4,096 samples the score is refused, whatever the sum.
+-- A refused count has the same score whatever the sum is.
 -- Assumes nothing.
-use Prim.Native.Nat.{ℕ, _<_}
-use mathlib.Core.Path.{_≡_}
-use borrow.Author.Tests.{lt-ltb}
+use Prim.Native.Nat.{ℕ}
+use mathlib.Core.Path.{_≡_, sym, _∙_}
 use lib.Ieee.{Float}
-use Rattle.fit.specs.Fitted.{mostSamples}
-use Rattle.score.specs.Score.{scoreOf}
+use Rattle.laws.specs.Binary64.{nought}
+use Rattle.laws.proofs.Call.{answered-refused}
+use Rattle.fit.specs.Fitted.{listRefusal}
+use Rattle.score.specs.Score.{scoreAs, meanOf, scoreOf}
 
-pub refused-whatever-the-sum : (a b : Float) (samples : ℕ) → mostSamples < samples → scoreOf a samples ≡ scoreOf b samples
+pub refused-whatever-the-sum : (a b : Float) (samples : ℕ) → (listRefusal samples ≡ 0 → ⊥) → scoreOf a samples ≡ scoreOf b samples
 unfolding scoreOf
-refused-whatever-the-sum a b samples h = rw (lt-ltb mostSamples samples h)
+refused-whatever-the-sum a b samples h =
+    answered-refused (λ n. scoreAs n nought) (listRefusal samples) (scoreAs 0 (meanOf a samples)) h
+    ∙ sym (answered-refused (λ n. scoreAs n nought) (listRefusal samples) (scoreAs 0 (meanOf b samples)) h)

@@ -1,18 +1,19 @@
 -- A model of whole numbers as binary64 numbers, its residual at a sample, and the score of a list: the mean squared residual, 0.0 for none.
 -- Assumes nothing.
 use Prim.Native.Nat.{ℕ}
-use mathlib.Core.List.{List, [], _∷_}
-use lib.Dec.{ltb, eqb}
+use mathlib.Core.List.{List}
+use lib.Dec.{eqb}
 use lib.IntN.{ℤ, pos}
 use lib.ListN.{length, getD}
 use lib.Ieee.{Float, binary64, ofInt}
 use Rattle.laws.specs.Loops.{fold}
-use Rattle.laws.specs.Refusal.{row, judge, choose}
+use Rattle.laws.specs.Refusal.{choose}
+use Rattle.laws.specs.Call.{answered}
 use Rattle.laws.specs.Binary64.{_⊕_, _⊖_, _⊗_, _⊘_, nought, one}
 use Rattle.sample.specs.declared.MotionSample.{MotionSample}
 use Rattle.sample.specs.Sample.{sampleOf}
 use Rattle.fit.specs.Sums.{reading}
-use Rattle.fit.specs.Fitted.{mostSamples}
+use Rattle.fit.specs.Fitted.{listRefusal}
 use Rattle.score.specs.declared.ContinuousModel.{ContinuousModel}
 use Rattle.score.specs.declared.Score.{Score}
 use Rattle.grid_number.specs.GridNumber.{scale}
@@ -52,22 +53,15 @@ residualOf m s = square (s .u ⊖ motionU m s) ⊕ square (s .v ⊖ motionV m s)
 abbrev pub scoreStep : ContinuousModel → Float → MotionSample → Float
 scoreStep m acc s = acc ⊕ residualOf m s
 
-abbrev pub scoreRefusal : ℕ → ℕ
-scoreRefusal samples = judge (row 1 (ltb mostSamples samples) ∷ [])
-
 -- the sum over so many samples, divided
 abbrev pub meanOf : Float → ℕ → Float
 meanOf acc samples = choose (eqb samples 0) nought (acc ⊘ ofInt binary64 (pos samples))
 
-unfoldable pub scoreOf : Float → ℕ → Score
-scoreOf acc samples =
-    choose (eqb (scoreRefusal samples) 0)
-    (record { refusal = 0; score = meanOf acc samples })
-    (record { refusal = scoreRefusal samples; score = nought })
+abbrev pub scoreAs : ℕ → Float → Score
+scoreAs n score = record { refusal = n; score = score }
 
--- the squared residuals of a list of words, added
-unfoldable pub residualSum : ContinuousModel → List ℕ → Float
-residualSum m ws = fold (reading (scoreStep m) sampleOf) ws nought
+unfoldable pub scoreOf : Float → ℕ → Score
+scoreOf acc samples = answered (λ n. scoreAs n nought) (listRefusal samples) (scoreAs 0 (meanOf acc samples))
 
 -- the score of a list whose elements stand for samples
 abbrev pub scored : {A : Type 0} → (A → MotionSample) → ContinuousModel → List A → Score

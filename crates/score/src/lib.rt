@@ -1,17 +1,11 @@
 // The score of a model: six numbers at 16 fraction bits and sample words go in, the mean squared
 // residual in square pels comes out. Answers to document 01, 'Fits and score', row 1, and to
 // `continuous_of_params` and `mean_sq_residual` (encoder/global_motion.rs).
+use grid_number::SCALE;
 use sample::MotionSample;
 ghost use mathlib.Core.Path.{_≡_};
-ghost use Rattle.score.specs.Score.{continuousOf, continuousModel, residualOf, scoreStep, residualSum, scoreOf, meanSqResidual};
-
-// One at 16 fraction bits.
-const SCALE: f64 = 65536.0;
-
-// Document 01: a list holds at most so many samples, row 1 of its table.
-const MOST_SAMPLES: usize = 4096;
-
-const TOO_MANY: u32 = 1;
+ghost use Rattle.score.specs.Score.{continuousOf, continuousModel, residualOf, scoreStep, scoreOf, meanSqResidual};
+ghost use Rattle.score.specs.Inner.{residualSum};
 
 // A model of six numbers at 16 fraction bits, as binary64 numbers.
 pub struct ContinuousModel {
@@ -69,9 +63,10 @@ pub fn score_step(m: ContinuousModel, acc: f64, s: MotionSample) -> f64
 pub fn score_of(acc: f64, samples: usize) -> Score
     ensures { λ r. ⌜ r ≡ scoreOf acc samples ⌝ }
 {
-    if samples > MOST_SAMPLES {
+    let refusal = fit::list_refusal(samples);
+    if refusal != 0 {
         return Score {
-            refusal: TOO_MANY,
+            refusal,
             score: 0.0,
         };
     }
@@ -103,7 +98,7 @@ fn residual_sum(m: ContinuousModel, words: &[u32]) -> f64
 pub fn mean_sq_residual(params: [i32; 6], words: &[u32]) -> Score
     ensures { λ r. ⌜ r ≡ meanSqResidual params (now (words .entry)) ⌝ }
 {
-    if words.len() > MOST_SAMPLES {
+    if fit::list_refusal(words.len()) != 0 {
         return score_of(0.0, words.len());
     }
     score_of(

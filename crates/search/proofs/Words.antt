@@ -11,7 +11,8 @@ use lib.ListN.{length, getD, List·getD-append}
 use lib.Seq.{getD-at}
 use lib.Dec.{ltb}
 use borrow.Author.Tests.{ltb-true, ltb-false}
-use Rattle.sample.specs.Word.{Held, inRange, placeOf}
+use Rattle.sample.specs.Word.{inRange, placeOf}
+use Rattle.sample.specs.Inner.{Held}
 use Rattle.sample.specs.Storable.{storable}
 use Rattle.sample.proofs.Word as word
 use Rattle.sample.proofs.Storable.{in-range-of, storable-by-index}

@@ -17,9 +17,8 @@ use Rattle.bits.specs.Ns.{Taken, ns, nsBits}
 use Rattle.bits.proofs.Fields.{fieldBits-low}
 use Rattle.bits.specs.declared.BitCursor.{BitCursor}
 use Rattle.subexp.specs.declared.RungRead.{RungRead}
-use Rattle.subexp.specs.Ends.{Rung, rungCode, behind, ClimbIs}
+use Rattle.subexp.specs.Inner.{Rung, rungCode, behind, ClimbIs, rungBits, rungStart, rungStep, reach, lastRung, climbs}
 use Rattle.subexp.specs.Ladder.{climb, climbBits, counted, subexp, subexpBits}
-use Rattle.subexp.specs.Rungs.{rungBits, rungStart, rungStep, reach, lastRung, climbs}
 use Rattle.subexp.proofs.Ladder.{bits-last, bits-stop, bits-more, climb-last, climb-more, climb-stop}
 use Rattle.subexp.proofs.Rungs.{next-start, step-pos, le-start, few-rungs}
 
@@ -49,6 +48,10 @@ goes-on S v i e =
     falsity : false ≡ true → ⊥
     falsity p = let z : _≡_ {A = ℕ} 0 1 = cc in omega arith
 
+-- the climb has a rung to go
+fuel : (S i : ℕ) → rungStart i < S → S - i ≡ suc (S - (i + 1))
+fuel S i h = omega (arith, le-start i)
+
 module _ (S v : ℕ) where
   -- what is left, after i ones
   pub record Reached (i : ℕ) : Type 0 where
@@ -60,10 +63,6 @@ module _ (S v : ℕ) where
   unfolding subexpBits
   at-the-foot pos = record { start = omega arith; below = pos; bits = ap (λ (n : ℕ). climbBits n S v 0) (let e : S ≡ S - 0 = omega arith in e) }
 
-  -- the climb has a rung to go
-  fuel : (i : ℕ) → rungStart i < S → S - i ≡ suc (S - (i + 1))
-  fuel i h = omega (arith, le-start i)
-
   pub up : (i : ℕ) → climbs S v i ≡ true → Reached i → Reached (i + 1)
   up i e r =
       let t = goes-on S v i e in
@@ -74,7 +73,7 @@ module _ (S v : ℕ) where
         below = omega (arith, t .0, step-pos i);
         bits =
             r .bits
-            ∙ rw (fuel i (r .below), bits-more (S - (i + 1)) S i v (t .0) (t .1), s)
+            ∙ rw (fuel S i (r .below), bits-more (S - (i + 1)) S i v (t .0) (t .1), s)
             (one-more i (climbBits (S - (i + 1)) S v (rungStart (i + 1))));
       }
 
@@ -82,7 +81,7 @@ module _ (S v : ℕ) where
   there i less small e r =
       record {
         on = record { few = few-rungs i (omega (arith, r .below)); start = r .start; less = less; small = small };
-        bits = r .bits ∙ ap (λ (l : List ℕ). replicate i 1 ++ l) (rw (fuel i (r .below)) code);
+        bits = r .bits ∙ ap (λ (l : List ℕ). replicate i 1 ++ l) (rw (fuel S i (r .below)) code);
       }
     where
       code : climbBits (suc (S - (i + 1))) S v (rungStart i) ≡ rungCode S v i
@@ -115,9 +114,6 @@ module _ (g : ℕ → ℕ) (S j : ℕ) where
       plain : (t : Taken) → t ≡ after 0 t
       plain t = ap (λ (b : ℕ). record { value = t .value; bits = b }) (let e : t .bits ≡ 0 + t .bits = omega arith in e)
 
-  left-fuel : (i : ℕ) → rungStart i < S → S - i ≡ suc (S - (i + 1))
-  left-fuel i h = omega (arith, le-start i)
-
   pub one-read : (i : ℕ) → reach i < S → g (j + i) ≡ 1 → Left i → Left (i + 1)
   one-read i more one l =
       let s : rungStart (suc i) ≡ rungStart (i + 1) = ap rungStart (sym (add-one i)) in
@@ -127,7 +123,7 @@ module _ (g : ℕ → ℕ) (S j : ℕ) where
         below = omega (arith, step-pos i);
         is =
             l .is
-            ∙ rw (left-fuel i (l .below), climb-more (S - (i + 1)) S i g (j + i) more one, e, s)
+            ∙ rw (fuel S i (l .below), climb-more (S - (i + 1)) S i g (j + i) more one, e, s)
             (passed (climb g (S - (i + 1)) S (rungStart (i + 1)) (j + (i + 1))));
       }
     where
@@ -136,11 +132,11 @@ module _ (g : ℕ → ℕ) (S j : ℕ) where
 
   pub zero-read : (i : ℕ) → reach i < S → (g (j + i) ≡ 1 → ⊥) → Left i
       → subexp g j S ≡ record { value = rungStart i + field g (j + i + 1) (rungBits i); bits = i + suc (rungBits i) }
-  zero-read i more other l = l .is ∙ rw (left-fuel i (l .below), climb-stop (S - (i + 1)) S i g (j + i) more other)
+  zero-read i more other l = l .is ∙ rw (fuel S i (l .below), climb-stop (S - (i + 1)) S i g (j + i) more other)
 
   pub last-read : (i : ℕ) → S ≤ reach i → Left i
       → subexp g j S ≡ record { value = rungStart i + ns g (j + i) (S - rungStart i) .value; bits = i + ns g (j + i) (S - rungStart i) .bits }
-  last-read i last l = l .is ∙ rw (left-fuel i (l .below), climb-last (S - (i + 1)) S i g (j + i) last)
+  last-read i last l = l .is ∙ rw (fuel S i (l .below), climb-last (S - (i + 1)) S i g (j + i) last)
 
   module _ (small : S ≤ 65536) (i : ℕ) (k : BitCursor) where
     pub stops : (bit : ℕ) → lastRung S i ≡ false → bit ≡ g (j + i) → bit ≡ 0 → k .at ≡ j + i + 1 → Left i

@@ -1,12 +1,12 @@
 -- A coefficient that was written is read back and takes exactly its bits; one that is read is a symbol, and its bits are those that were read.
 -- Assumes nothing.
-use Prim.Native.Nat.{ℕ, _-_, _*_, _≤_, _<_}
+use Prim.Native.Nat.{ℕ, _+_, _-_, _*_, _^_, _≤_, _<_}
 use mathlib.Core.Path.{_≡_, ap, _∙_}
 use native.Mathlib.Omega.{arith}
 use lib.ListN.{length}
-use Rattle.bits.specs.Bits.{Holds, AreBits}
+use Rattle.bits.proofs.Held.{Holds, AreBits}
 use Rattle.bits.specs.Ns.{Taken}
-use Rattle.subexp.specs.Coefficient.{symbols, symbol, symbolBits}
+use Rattle.subexp.specs.Coefficient.{symbol, symbolBits}
 use Rattle.subexp.specs.Ladder.{subexp, subexpBits}
 use Rattle.subexp.specs.Recenter.{codeOf, symbolOf}
 use Rattle.subexp.proofs.Centring.{code-lt, symbol-of-code, symbol-lt, code-of-symbol}
@@ -48,10 +48,13 @@ pub symbolBits-are-bits : (S p t : ℕ) → AreBits (symbolBits S p t)
 unfolding subexpBits
 symbolBits-are-bits S p t = climbBits-are-bits S S (codeOf S p t) 0
 
--- the lengths of a coefficient's bits
+-- the lengths of a coefficient's bits, for document 01's S
 module _ (abs p t : ℕ) (three : 3 ≤ abs) where
-  pub four-bits-at-least : 4 ≤ length (symbolBits (symbols abs) p t)
-  four-bits-at-least = subexp-lengths abs three (codeOf (symbols abs) p t) .0
+  abbrev count : ℕ
+  count = 2 * 2 ^ abs + 1
 
-  pub twice-absBits-less-one-at-most : length (symbolBits (symbols abs) p t) ≤ 2 * abs - 1
-  twice-absBits-less-one-at-most = subexp-lengths abs three (codeOf (symbols abs) p t) .1
+  pub four-bits-at-least : 4 ≤ length (symbolBits count p t)
+  four-bits-at-least = subexp-lengths abs three (codeOf count p t) .0
+
+  pub twice-absBits-less-one-at-most : length (symbolBits count p t) ≤ 2 * abs - 1
+  twice-absBits-less-one-at-most = subexp-lengths abs three (codeOf count p t) .1

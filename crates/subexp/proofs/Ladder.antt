@@ -8,13 +8,13 @@ use native.Mathlib.Omega.{arith}
 use borrow.Author.Tests.{lt-ltb, le-ltb, le-leb, lt-leb, eq-eqb, ne-eqb}
 use lib.Dec.{lit<}
 use lib.ListN.{length}
-use Rattle.bits.specs.Bits.{Holds, AreBits}
+use Rattle.bits.proofs.Held.{Holds, AreBits}
 use Rattle.bits.specs.Fields.{field, fieldBits}
 use Rattle.bits.specs.Ns.{Taken, ns, nsBits}
 use Rattle.bits.proofs.Fields.{length-fieldBits, fieldBits-are-bits, field-read, field-lt, field-again}
 use Rattle.bits.proofs.Ns.{ns-read, ns-lt, ns-again, ns-again-length, nsBits-are-bits}
 use Rattle.subexp.specs.Ladder.{raised, counted, climb, climbBits}
-use Rattle.subexp.specs.Rungs.{rungBits, rungStart, rungStep, reach}
+use Rattle.subexp.specs.Inner.{rungBits, rungStart, rungStep, reach}
 use Rattle.subexp.proofs.Rungs.{step-is, width-is, next-start, step-pos}
 
 module _ (n S i : ℕ) where

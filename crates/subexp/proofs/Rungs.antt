@@ -7,9 +7,9 @@ use native.Mathlib.Nat.{pow-suc}
 use native.Mathlib.Omega.{arith}
 use borrow.Author.Tests.{ne-eqb}
 use lib.Pow.{pow-pos, pow-mono}
-use Rattle.bits.proofs.Ns.{bitLength-is}
+use Rattle.bits.proofs.BitLength.{bitLength-is}
 use Rattle.subexp.specs.Ladder.{stepAt, widthOf}
-use Rattle.subexp.specs.Rungs.{rungBits, rungStart, rungStep}
+use Rattle.subexp.specs.Inner.{rungBits, rungStart, rungStep}
 
 pub step-is : (i : ℕ) → stepAt (rungStart i) ≡ rungStep i
 step-is zero = refl

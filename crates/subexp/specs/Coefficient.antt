@@ -1,14 +1,10 @@
--- One coefficient of absBits bits about its prior's place: clauses 5.9.26 to 5.9.28, as symbols counted from 0.
+-- One coefficient, a symbol of S counted from 0, about its prior's place: clauses 5.9.26 to 5.9.28.
 -- Assumes nothing.
-use Prim.Native.Nat.{ℕ, _+_, _*_, _^_}
+use Prim.Native.Nat.{ℕ}
 use mathlib.Core.List.{List}
 use Rattle.bits.specs.Ns.{Taken}
 use Rattle.subexp.specs.Recenter.{codeOf, symbolOf}
 use Rattle.subexp.specs.Ladder.{subexp, subexpBits}
-
--- S
-abbrev pub symbols : ℕ → ℕ
-symbols abs = 2 * 2 ^ abs + 1
 
 -- the bits of the symbol t, about the place p
 abbrev pub symbolBits : ℕ → ℕ → ℕ → List ℕ

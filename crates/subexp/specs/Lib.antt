@@ -1,5 +1,4 @@
 pub mod Recenter
 pub mod Ladder
-pub mod Rungs
-pub mod Ends
 pub mod Coefficient
+pub mod Inner

@@ -166,10 +166,10 @@ fn mend(asked: u32, bytes: &mut [u8], at: usize) {
     if start > bytes.len() - 512 {
         return;
     }
-    let block = form1::block_in(&bytes[start..]);
+    let block = layout::block_in(&bytes[start..]);
     let check = [wrapping_sum(&block[0..127])];
     let place = start + 508;
-    form1::words::write_words(&check, &mut bytes[place..]);
+    layout::words::write_words(&check, &mut bytes[place..]);
 }
 
 fn size(list: i32) -> usize {

@@ -17,7 +17,7 @@ const FITS: u8 = 0;
 
 const SYSTEMS: u8 = 1;
 
-// The bits of the values that a fitted model carries, 0 for those that its kind doesn't.
+// The bits of the values that a fitted model carries, 0 for those that its type doesn't.
 struct Values {
     m0: u64,
     m1: u64,
@@ -52,13 +52,13 @@ fn next_if(list: i32, carried: bool) -> u64 {
     if carried { next_bits(list) } else { 0 }
 }
 
-fn next_values(list: i32, kind: u8) -> Values {
+fn next_values(list: i32, gm_type: u8) -> Values {
     let m0 = next_bits(list);
     let m1 = next_bits(list);
-    let m2 = next_if(list, 1 < kind);
-    let m3 = next_if(list, 1 < kind);
-    let m4 = next_if(list, 2 < kind);
-    let m5 = next_if(list, 2 < kind);
+    let m2 = next_if(list, fit::TRANSLATION < gm_type);
+    let m3 = next_if(list, fit::TRANSLATION < gm_type);
+    let m4 = next_if(list, fit::ROTZOOM < gm_type);
+    let m5 = next_if(list, fit::ROTZOOM < gm_type);
     Values {
         m0,
         m1,
@@ -115,25 +115,18 @@ fn same_model(fitted: Fitted, w: Values) -> bool {
     }
 }
 
-fn refusal_of(fitted: Fitted) -> u32 {
-    match fitted {
-        Fitted::Refused(number) => number,
-        _ => 0,
-    }
-}
-
 // The fit by its name or by its type code.
-fn fit_of(kind: u8, named: bool, words: &[u32]) -> Fitted {
+fn fit_of(gm_type: u8, named: bool, words: &[u32]) -> Fitted {
     if named {
-        if kind == 1 {
+        if gm_type == fit::TRANSLATION {
             return fit::fit_translation(words);
         }
-        if kind == 2 {
+        if gm_type == fit::ROTZOOM {
             return fit::fit_rotzoom(words);
         }
         return fit::fit_affine(words);
     }
-    fit::fit_model(kind, words)
+    fit::fit_model(gm_type, words)
 }
 
 // The quantized model of a fit, and the score of that.
@@ -145,14 +138,14 @@ fn same_quantized(fitted: Fitted, flag: u8, words: &[u32], params: [i32; 6], sco
 }
 
 // One type of a case: a refusal or 0, the values, the quantized model, its score.
-fn replay_kind(list: i32, kind: u8, flag: u8, words: &[u32]) -> bool {
+fn replay_type(list: i32, gm_type: u8, flag: u8, words: &[u32]) -> bool {
     let refusal = replay::next_word(list);
-    let values = next_values(list, kind);
+    let values = next_values(list, gm_type);
     let params = next_params(list);
     let score = next_bits(list);
-    let fitted = fit_of(kind, flag == 0, words);
+    let fitted = fit_of(gm_type, flag == 0, words);
     if refusal != 0 {
-        return refusal_of(fitted) == refusal;
+        return fit::refusal_of(fitted) == refusal;
     }
     same_model(fitted, values) && same_quantized(fitted, flag, words, params, score)
 }
@@ -170,9 +163,9 @@ fn fill(words: &mut [u32], seed: u32, mask: u32, fixed: u32) {
 }
 
 fn replay_words(list: i32, flag: u8, words: &[u32]) -> bool {
-    let translation = replay_kind(list, 1, flag, words);
-    let rotzoom = replay_kind(list, 2, flag, words);
-    let affine = replay_kind(list, 3, flag, words);
+    let translation = replay_type(list, fit::TRANSLATION, flag, words);
+    let rotzoom = replay_type(list, fit::ROTZOOM, flag, words);
+    let affine = replay_type(list, fit::AFFINE, flag, words);
     translation && rotzoom && affine
 }
 
@@ -190,7 +183,7 @@ fn replay_case(list: i32, flag: u8, words: &mut [u32]) -> bool {
 }
 
 fn replay_fits(list: i32, flag: u8) -> bool {
-    let mut words = [0u32; 4096];
+    let mut words = [0u32; sample::MOST_SAMPLES];
     replay_case(list, flag, &mut words)
 }
 
@@ -212,7 +205,7 @@ fn next_entries(list: i32) -> System {
 fn refusal_of_outcome(outcome: Outcome) -> u32 {
     match outcome {
         Outcome::Solved => 0,
-        Outcome::Singular => 6,
+        Outcome::Singular => fit::SINGULAR,
     }
 }
 
@@ -296,19 +289,19 @@ fn quantize_refusal(fitted: Fitted, flag: u8, words: &[u32]) -> u32 {
 
 fn try_refusals(words: &[u32], few: &[u32]) {
     refused(
-        refusal_of(fit::fit_model(1, words)) == 1,
+        fit::refusal_of(fit::fit_model(1, words)) == 1,
         b"4097 words, type 1",
     );
     refused(
-        refusal_of(fit::fit_model(0, words)) == 1,
+        fit::refusal_of(fit::fit_model(0, words)) == 1,
         b"4097 words, type 0",
     );
     refused(
-        refusal_of(fit::fit_affine(words)) == 1,
+        fit::refusal_of(fit::fit_affine(words)) == 1,
         b"4097 words, affine",
     );
-    refused(refusal_of(fit::fit_model(0, few)) == 4, b"type 0");
-    refused(refusal_of(fit::fit_model(4, few)) == 4, b"type 4");
+    refused(fit::refusal_of(fit::fit_model(0, few)) == 4, b"type 0");
+    refused(fit::refusal_of(fit::fit_model(4, few)) == 4, b"type 4");
     let still = Fitted::Translation { m0: 0.0, m1: 0.0 };
     refused(
         quantize_refusal(still, 2, words) == 1,

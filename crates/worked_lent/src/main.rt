@@ -1,12 +1,9 @@
-// Tries the two forms of `lent` against the core they stand over, on inputs from the generator: a bit,
-// a field, an ns code and seven models by a reader against slice and position, and the score of lent
-// samples against that of their words.
+// Tries the two forms that are walked by hand against the core they stand over, on inputs from the
+// generator: seven models by a reader against slice and position, and the score of lent samples against
+// that of their words.
 ghost use Prim.Native.Nat.{_≤_, _<_};
-use bits::BitCursor;
 use header_read::Models;
 use sample::MotionSample;
-
-const READS: u64 = 4000;
 
 const MODELS: u64 = 4000;
 
@@ -166,41 +163,9 @@ fn models_case(case: u64) -> bool {
     let flag = (upper(code) % 3) as u8;
     let bytes = bytes_from(seed);
     let prior = prior_from(code);
-    let lent = lent::read_models(&bytes, at, flag, &prior);
+    let lent = bit_reader::read_models(&bytes, at, flag, &prior);
     let core = header_read::read_global_motion_params(&bytes, at, flag, &prior);
     models_agree(lent, core)
-}
-
-// The reader's answers are the cursor's, also past the end of the bytes.
-fn reads_agree(bytes: [u8; 24], at: usize, width: u32, symbols: u32) -> bool
-    requires { ⌜ (at < 65536) × (width ≤ 32) × (0 < symbols) × (symbols ≤ 65536) ⌝ }
-{
-    let lent = lent::read_in_turn(&bytes, at, width, symbols);
-    let cursor = BitCursor { at };
-    let bit = cursor.read_bit(&bytes);
-    let second = bit.next;
-    let field = second.f(&bytes, width);
-    let third = field.next;
-    let symbol = third.ns(&bytes, symbols);
-    let end = symbol.next;
-    lent.bit == bit.value
-        && lent.field == field.value
-        && lent.symbol == symbol.value
-        && lent.at == end.at
-}
-
-fn read_case(case: u64) -> bool {
-    let seed = replay::next_state((case % 0x1_0000_0000) as u32);
-    let at = replay::next_state(seed);
-    let width = replay::next_state(at);
-    let symbols = replay::next_state(width);
-    let bytes = bytes_from(symbols);
-    reads_agree(
-        bytes,
-        (upper(at) % 240) as usize,
-        upper(width) % 33,
-        upper(symbols) + 1,
-    )
 }
 
 fn same(a: f64, b: f64) -> bool {
@@ -211,7 +176,7 @@ fn same(a: f64, b: f64) -> bool {
 fn scores_agree(params: [i32; 6], words: [u32; 64], n: usize) -> bool
     requires { ⌜ n ≤ 64 ⌝ }
 {
-    let lent = lent::mean_sq_residual_of_first(params, samples_of(words), n);
+    let lent = lent_score::mean_sq_residual_of_first(params, samples_of(words), n);
     let core = score::mean_sq_residual(params, &words[..n]);
     lent.refusal == core.refusal && same(lent.score, core.score)
 }
@@ -223,16 +188,6 @@ fn score_case(case: u64) -> bool {
 }
 
 // 1 for a case that failed, which gets a line.
-fn failed_read(case: u64) -> u64
-    ensures { λ r. ⌜ r ≤ 1 ⌝ }
-{
-    if read_case(case) {
-        return 0;
-    }
-    replay::print_failure(b"reads", case);
-    1
-}
-
 fn failed_model(case: u64) -> u64
     ensures { λ r. ⌜ r ≤ 1 ⌝ }
 {
@@ -251,16 +206,6 @@ fn failed_score(case: u64) -> u64
     }
     replay::print_failure(b"scores", case);
     1
-}
-
-fn failed_reads(count: u64) -> u64 {
-    let mut failed = 0u64;
-    let mut case = 0u64;
-    while case < count {
-        failed += failed_read(case);
-        case += 1;
-    }
-    failed
 }
 
 fn failed_models(count: u64) -> u64 {
@@ -284,7 +229,6 @@ fn failed_scores(count: u64) -> u64 {
 }
 
 fn main() {
-    replay::print_count(b"reads", READS, failed_reads(READS));
     replay::print_count(b"models", MODELS, failed_models(MODELS));
     replay::print_count(b"scores", SCORES, failed_scores(SCORES));
 }

@@ -8,7 +8,7 @@ use borrow.Author.Needs.{needs}
 use lib.IntN.{ℤ, pos}
 use lib.ListN.{length}
 use mir.Syntax.{w32}
-use Rattle.laws.specs.Filled.{Filled}
+use Rattle.laws.proofs.Filled.{Filled}
 use Rattle.laws.proofs.Filled.{filled-none, filled-more, filled-all}
 use Rattle.laws.proofs.Signed.{result-reads}
 use Rattle.assemble.specs.Assemble.{inserted, Reference}

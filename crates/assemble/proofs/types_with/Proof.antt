@@ -6,7 +6,7 @@ use mathlib.Core.Path.{_≡_, sym, _∙_}
 use native.Mathlib.Omega.{arith}
 use borrow.Author.Needs.{needs}
 use lib.ListN.{length}
-use Rattle.laws.specs.Filled.{Filled}
+use Rattle.laws.proofs.Filled.{Filled}
 use Rattle.laws.proofs.Filled.{filled-none, filled-more, filled-all}
 use Rattle.assemble.specs.Assemble.{inserted, Reference}
 use Rattle.assemble.proofs.Inserted.{length-inserted}

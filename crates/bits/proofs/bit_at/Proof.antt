@@ -1,4 +1,4 @@
--- `bits::bit_at` meets its contract. Assumes nothing.
+-- `bits::bit_at` meets its contract: inside the bytes the bit of its byte, past them the definition's 0. Assumes nothing.
 use borrow.Author.Needs.{needs}
 use Rattle.bits.proofs.bit_at.Statement.{statement}
 use Rattle.bits.proofs.bit_at.Tie as tie

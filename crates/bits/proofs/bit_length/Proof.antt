@@ -1,4 +1,4 @@
--- `bits::bit_length` meets its contract. Assumes nothing.
+-- `bits::bit_length` meets its contract: each halving takes one bit off, and nothing is left at 0. Assumes nothing.
 use borrow.Author.Needs.{needs}
 use Rattle.bits.proofs.bit_length.Statement.{statement}
 use Rattle.bits.proofs.bit_length.Tie as tie
@@ -6,7 +6,7 @@ use Prim.Native.Nat.{_+_, _≤_}
 use mathlib.Core.Path.{_≡_, ap}
 use native.Mathlib.Omega.{arith}
 use Rattle.bits.specs.Ns.{bitLength}
-use Rattle.bits.proofs.Ns.{bitLength-step, bitLength-zero, bitLength-le}
+use Rattle.bits.proofs.BitLength.{bitLength-step, bitLength-zero, bitLength-le}
 
 abbrev Inv-loop : tie.InvT-loop
 Inv-loop n x₀ count₀ x count = (count + bitLength x ≡ bitLength n) × (x ≤ n)

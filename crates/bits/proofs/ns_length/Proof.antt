@@ -1,4 +1,4 @@
--- `bits::ns_length` meets its contract. Assumes nothing.
+-- `bits::ns_length` meets its contract: the test on v is the definition's, and each arm's field has its width. Assumes nothing.
 use borrow.Author.Needs.{needs}
 use Rattle.bits.proofs.ns_length.Statement.{statement}
 use Rattle.bits.proofs.ns_length.Tie as tie

@@ -1,4 +1,4 @@
--- `bits::ns_width` meets its contract. Assumes nothing.
+-- `bits::ns_width` meets its contract: n lies below 2 ^ w and not below half of it, so m is what 2 ^ w has over n. Assumes nothing.
 use borrow.Author.Needs.{needs}
 use Rattle.bits.proofs.ns_width.Statement.{statement}
 use Rattle.bits.proofs.ns_width.Tie as tie
@@ -7,7 +7,7 @@ use mathlib.Core.Path.{_≡_, ap, _∙_}
 use native.Mathlib.Omega.{arith}
 use lib.Pow.{pow-mono}
 use Rattle.bits.specs.Ns.{bitLength}
-use Rattle.bits.proofs.Ns.{bitLength-length, bitLength-le, bitLength-step}
+use Rattle.bits.proofs.BitLength.{bitLength-length, bitLength-le, bitLength-step}
 
 power-requires : tie.Need-power-requires
 power-requires c κs = omega (arith, bitLength-le (c .before .args .n) 17 (omega arith))

@@ -1,4 +1,4 @@
--- `bits::power` meets its contract. Assumes nothing.
+-- `bits::power` meets its contract: a one shifted by less than the width loses nothing. Assumes nothing.
 use borrow.Author.Needs.{needs}
 use Rattle.bits.proofs.power.Statement.{statement}
 use Rattle.bits.proofs.power.Tie as tie

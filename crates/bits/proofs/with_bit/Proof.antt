@@ -28,8 +28,10 @@ steps x k b y w o hx hk hb ey ew eo =
 
 at : (c : tie.After-bit-of) → Steps (c .before .before .wide .result) (c .before .before .before .args .k) (c .before .before .before .args .b) (c .before .power .result) (c .bit-of .result)
 at c =
-    steps (c .before .before .before .args .x) (c .before .before .before .args .k) (c .before .before .before .args .b) (c .before .before .wide .result) (c .before .power .result) (c .bit-of .result)
-    (omega arith) (omega arith) (omega arith) (c .before .before .wide .ensures) (c .before .power .ensures) (c .bit-of .ensures)
+    let a = c .before .before .before .args in
+    let wide = c .before .before .wide in
+    steps (a .x) (a .k) (a .b) (wide .result) (c .before .power .result) (c .bit-of .result)
+    (omega arith) (omega arith) (omega arith) (wide .ensures) (c .before .power .ensures) (c .bit-of .ensures)
 
 mul-without : tie.Need-mul-without
 mul-without c = omega (arith, at c .old, c .before .before .wide .ensures)

@@ -1,4 +1,4 @@
--- `fit::rotzoom_fit` meets its contract: what each step ensures, one inside the other.
+-- `fit::rotzoom_fit`: the sums make the system, and its solution the fit.
 -- Assumes nothing.
 use Rattle.fit.specs.Fitted.{rotZoomFit}
 use borrow.Author.Needs.{needs}
@@ -7,7 +7,10 @@ use Rattle.fit.proofs.rotzoom_fit.Tie as tie
 
 returns : tie.Need-returns
 unfolding rotZoomFit
-returns c = rw (← c .before .before .before .rotzoom-sums .ensures, ← c .before .before .before .before .count-of .ensures, ← c .before .before .rotzoom-system .ensures, ← c .before .solve-linear .ensures) (c .rotzoom-of .ensures)
+returns c =
+    let sums = c .before .before .before in
+    rw (← sums .rotzoom-sums .ensures, ← sums .before .count-of .ensures, ← c .before .before .rotzoom-system .ensures, ← c .before .solve-linear .ensures)
+    (c .rotzoom-of .ensures)
 
 pub rotzoom-fit-spec : {M : Type 1} → statement M
 rotzoom-fit-spec =

@@ -1,4 +1,4 @@
--- `rotzoom_step` meets its contract: the rounded terms are the definition's, one by one.
+-- `fit::rotzoom_step`: each sum takes its rounded term.
 -- Assumes nothing.
 use mathlib.Core.Path.{refl}
 use Rattle.fit.proofs.rotzoom_step.Statement.{statement}

@@ -1,4 +1,4 @@
--- `fit::translation_fit` meets its contract: the sums divided by the count.
+-- `fit::translation_fit`: each sum divided by the count.
 -- Assumes nothing.
 use Rattle.fit.specs.Fitted.{translationFit}
 use borrow.Author.Needs.{needs}

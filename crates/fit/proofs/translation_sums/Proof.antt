@@ -1,7 +1,8 @@
--- `fit::translation_sums` meets its contract: what is left to add, from here as from the first word; the state's sums are then taken apart.
+-- `fit::translation_sums`: what is left to add, from here as from the first word; the sums are then taken apart.
 -- Assumes nothing.
 use Rattle.fit.proofs.Sums.{translation-sums}
-use Rattle.fit.specs.Sums.{reading, translationStep}
+use Rattle.fit.specs.Sums.{reading, translationTotals}
+use Rattle.fit.specs.Inner.{translationStep}
 use Rattle.sample.specs.Sample.{sampleOf}
 use Rattle.laws.proofs.Fold.{fold-again, fold-done}
 use Rattle.laws.specs.Loops.{fold}
@@ -22,11 +23,16 @@ loop-holds : tie.Need-loop-holds Inv-loop μ-loop
 loop-holds c = refl
 
 loop-again : tie.Need-loop-again Inv-loop μ-loop
-loop-again c = fold-again (reading translationStep sampleOf) (c .before .before .before .before .before .before .args .words .now) (c .before .before .before .before .loop .i) 0
-    (c .before .before .before .loop-test .taken) (c .translation-step .ensures ∙ ap (translationStep (c .before .before .before .before .loop .t)) (c .before .sample-of .ensures)) (c .before .before .before .before .loop .inv)
+loop-again c =
+    let l = c .before .before .before .before .loop in
+    fold-again (reading translationStep sampleOf) (c .before .before .before .before .before .before .args .words .now) (l .i) 0
+    (c .before .before .before .loop-test .taken) (c .translation-step .ensures ∙ ap (translationStep (l .t)) (c .before .sample-of .ensures)) (l .inv)
 
 returns : tie.Need-returns Inv-loop μ-loop
-returns c = fold-done (reading translationStep sampleOf) (c .before .before .before .args .words .now) (c .before .loop .i) (c .loop-test .left) (c .before .loop .inv) ∙ translation-sums (c .before .before .before .args .words .now)
+unfolding translationTotals
+returns c =
+    let words = c .before .before .before .args .words .now in
+    fold-done (reading translationStep sampleOf) words (c .before .loop .i) (c .loop-test .left) (c .before .loop .inv) ∙ translation-sums words
 
 pub translation-sums-spec : {M : Type 1} → statement M
 translation-sums-spec =

@@ -1,4 +1,4 @@
--- `grid_number::held_above` meets its contract: a size below the limit stays.
+-- `grid_number::held_above`: a size below the limit stays.
 -- Assumes nothing.
 use lib.IntN.{pos}
 use Prim.Native.Nat.{min}
@@ -11,7 +11,10 @@ use Rattle.grid_number.proofs.held_above.Statement.{statement}
 use Rattle.grid_number.proofs.held_above.Tie as tie
 
 returns : tie.Need-returns
-returns c = toZ-pos w32 {n = c .before .args .size} (omega (arith, c .if1 .taken)) ∙ ap pos (let e : c .before .args .size ≡ min (c .before .args .size) 2147483647 = omega (arith, c .if1 .taken) in e)
+returns c =
+    let size = c .before .args .size in
+    let kept : size ≡ min size 2147483647 = omega (arith, c .if1 .taken) in
+    toZ-pos w32 {n = size} (omega (arith, c .if1 .taken)) ∙ ap pos kept
 
 returns-2 : tie.Need-returns-2
 returns-2 c = ap pos (let e : 2147483647 ≡ min (c .before .args .size) 2147483647 = omega (arith, c .if1 .left) in e)

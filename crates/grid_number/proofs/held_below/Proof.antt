@@ -1,4 +1,4 @@
--- `grid_number::held_below` meets its contract: the negation of a magnitude up to 2 ^ 31 is an i32.
+-- `grid_number::held_below`: the negation of a magnitude up to 2 ^ 31 is an i32.
 -- Assumes nothing.
 use Rattle.grid_number.proofs.Held.{negation-fits}
 use Rattle.laws.proofs.Signed.{result-reads}

@@ -5,7 +5,7 @@ use mathlib.Core.List.{List}
 use mathlib.Core.Path.{_≡_, refl}
 use native.Mathlib.Omega.{arith}
 use lib.ListN.{length}
-use Rattle.bits.specs.Bits.{Room}
+use Rattle.bits.specs.Inner.{Room}
 use Rattle.header.proofs.RoundTrip.{at-most-987-bits}
 use Rattle.header.proofs.header_length.Statement.{statement}
 use Rattle.header.proofs.header_length.Tie as tie

@@ -6,7 +6,7 @@ use mathlib.Core.Path.{_≡_, sym, _∙_}
 use native.Mathlib.Omega.{arith}
 use borrow.Author.Needs.{needs}
 use lib.ListN.{length}
-use Rattle.bits.specs.Bits.{Room, Wrote}
+use Rattle.bits.specs.Inner.{Room, Wrote}
 use Rattle.bits.specs.Fields.{padBits, padding}
 use Rattle.bits.proofs.Buffer.{putBits-append, wrote-length}
 use Rattle.bits.proofs.Fields.{length-fieldBits}

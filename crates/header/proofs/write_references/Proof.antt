@@ -7,7 +7,8 @@ use native.Mathlib.Omega.{arith}
 use lib.IntN.{ℤ}
 use lib.ListN.{length, getD}
 use borrow.Author.Needs.{needs}
-use Rattle.bits.specs.Bits.{putBits, Room, Wrote}
+use Rattle.bits.specs.Bits.{putBits}
+use Rattle.bits.specs.Inner.{Room, Wrote}
 use Rattle.bits.proofs.Buffer.{wrote-rest, wrote-length, room-front}
 use Rattle.header.specs.Contracts.{HeaderReady, ModelReady}
 use Rattle.header.specs.Writing.{referenceBits, referencesBits, headerBits}

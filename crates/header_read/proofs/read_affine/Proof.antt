@@ -27,4 +27,4 @@ returns c =
     refl
 
 pub read-affine-spec : {M : Type 1} → statement M
-read-affine-spec = tie.close (tie.spec (search needs) (search needs) (search needs) returns)
+read-affine-spec = tie.close (tie.spec (λ c κs. search needs) (λ c κs. search needs) (λ c κs. search needs) returns)

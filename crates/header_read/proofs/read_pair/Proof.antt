@@ -18,4 +18,4 @@ returns c =
     (result-reads w32 _ (c .before .struct-told .given .0 .1)) (result-reads w32 _ (c .struct-told2 .given .0 .1)) refl
 
 pub read-pair-spec : {M : Type 1} → statement M
-read-pair-spec = tie.close (tie.spec (search needs) (search needs) (search needs) returns)
+read-pair-spec = tie.close (tie.spec (λ c κs. search needs) (search needs) (λ c κs. search needs) returns)

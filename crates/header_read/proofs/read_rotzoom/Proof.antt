@@ -33,4 +33,4 @@ returns c =
     refl
 
 pub read-rotzoom-spec : {M : Type 1} → statement M
-read-rotzoom-spec = tie.close (tie.spec (search needs) (search needs) opposite-requires returns)
+read-rotzoom-spec = tie.close (tie.spec (λ c κs. search needs) (λ c κs. search needs) opposite-requires returns)

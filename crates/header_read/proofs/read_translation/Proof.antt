@@ -17,4 +17,4 @@ returns c =
     (rw (result-reads w32 (t .result .first) (c .before .struct-told .given .0 .1), result-reads w32 (t .result .second) (c .before .struct-told .given .1 .0 .1))) refl
 
 pub read-translation-spec : {M : Type 1} → statement M
-read-translation-spec = tie.close (tie.spec (search needs) returns)
+read-translation-spec = tie.close (tie.spec (λ c κs. search needs) returns)

@@ -16,8 +16,8 @@ write-out-spec =
     tie.close
     (tie.spec
     (search needs)
-    (search needs)
-    (search needs)
+    (λ c. search needs)
+    (λ c. search needs)
     (search needs)
     (search needs)
     (search needs)

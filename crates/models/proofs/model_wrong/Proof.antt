@@ -24,7 +24,8 @@ returns : tie.Need-returns Inv-loop μ-loop
 unfolding modelWrong
 returns c =
     let e = c .before .before .before .before .args in
-    sym (found (slotAt (e .gm-type) (e .flag) (e .params .now) (e .first)) 6 (c .before .before .before .loop .slot) (c .before .before .loop-test .taken) (sym (c .before .slot-at .ensures) ∙ c .if1 .taken))
+    sym (found (slotAt (e .gm-type) (e .flag) (e .params .now) (e .first)) 6 (c .before .before .before .loop .slot) (c .before .before .loop-test .taken)
+    (sym (c .before .slot-at .ensures) ∙ c .if1 .taken))
 
 loop-again : tie.Need-loop-again Inv-loop μ-loop
 loop-again c =

@@ -1,4 +1,4 @@
--- `quantize::continuous_linear` meets its contract: each slot is read back from its bits.
+-- `quantize::continuous_linear`: each slot is read back from its bits.
 -- Assumes nothing.
 use mir.Syntax.{w32}
 use Rattle.laws.proofs.Signed.{result-reads}
@@ -7,7 +7,17 @@ use Rattle.quantize.proofs.continuous_linear.Statement.{statement}
 use Rattle.quantize.proofs.continuous_linear.Tie as tie
 
 returns : tie.Need-returns
-returns c = cc (rw (result-reads w32 (c .before .before .before .before .before .before .before .before .args .l .p2) (c .before .before .before .before .before .before .before .struct-told .given .0 .1)) at (c .before .before .before .before .before .before .continuous-of .ensures), rw (result-reads w32 (c .before .before .before .before .before .before .before .before .args .l .p3) (c .before .before .before .before .before .struct-told2 .given .1 .0 .1)) at (c .before .before .before .before .continuous-of2 .ensures), rw (result-reads w32 (c .before .before .before .before .before .before .before .before .args .l .p4) (c .before .before .before .struct-told3 .given .1 .1 .0 .1)) at (c .before .before .continuous-of3 .ensures), rw (result-reads w32 (c .before .before .before .before .before .before .before .before .args .l .p5) (c .before .struct-told4 .given .1 .1 .1 .0 .1)) at (c .continuous-of4 .ensures))
+returns c =
+    let p4 = c .before .before in
+    let p3 = p4 .before .before in
+    let p2 = p3 .before .before in
+    let l = p2 .before .before .args .l in
+    cc (
+      rw (result-reads w32 (l .p2) (p2 .before .struct-told .given .0 .1)) at (p2 .continuous-of .ensures),
+      rw (result-reads w32 (l .p3) (p3 .before .struct-told2 .given .1 .0 .1)) at (p3 .continuous-of2 .ensures),
+      rw (result-reads w32 (l .p4) (p4 .before .struct-told3 .given .1 .1 .0 .1)) at (p4 .continuous-of3 .ensures),
+      rw (result-reads w32 (l .p5) (c .before .struct-told4 .given .1 .1 .1 .0 .1)) at (c .continuous-of4 .ensures),
+    )
 
 pub continuous-linear-spec : {M : Type 1} → statement M
 continuous-linear-spec =

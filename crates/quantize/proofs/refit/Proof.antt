@@ -1,4 +1,4 @@
--- `quantize::refit` meets its contract: each return rewrites with the test of the length.
+-- `quantize::refit`: no samples leave no motion, and others leave the mean of theirs.
 -- Assumes nothing.
 use borrow.Author.Tests.{eq-eqb, ne-eqb}
 use Rattle.quantize.specs.Quantize.{refitted}
@@ -12,7 +12,9 @@ returns c = rw (eq-eqb _ _ (c .if1 .taken))
 
 returns-2 : tie.Need-returns-2
 unfolding refitted
-returns-2 c = rw (ne-eqb _ _ (c .before .before .before .if1 .left), ← c .before .before .before .before .before .continuous-linear .ensures, ← c .before .before .before .before .refit-sums .ensures, ← c .before .before .count-of .ensures)
+returns-2 c =
+    let test = c .before .before .before in
+    rw (ne-eqb _ _ (test .if1 .left), ← test .before .before .continuous-linear .ensures, ← test .before .refit-sums .ensures, ← c .before .before .count-of .ensures)
 
 pub refit-spec : {M : Type 1} → statement M
 refit-spec =

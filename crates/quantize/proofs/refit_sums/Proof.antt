@@ -1,7 +1,8 @@
--- `quantize::refit_sums` meets its contract: what is left to add, from here as from the first word.
+-- `quantize::refit_sums`: what is left to add, from here as from the first word; the two sums are then taken apart.
 -- Assumes nothing.
 use Rattle.quantize.proofs.Leftover.{refit-sums}
-use Rattle.quantize.specs.Quantize.{refitStep}
+use Rattle.quantize.specs.Quantize.{refitTotals}
+use Rattle.quantize.specs.Inner.{refitStep}
 use Rattle.fit.specs.Sums.{reading}
 use Rattle.sample.specs.Sample.{sampleOf}
 use Rattle.laws.proofs.Fold.{fold-again, fold-done}
@@ -26,11 +27,18 @@ sample-by-requires : tie.Need-sample-by-requires Inv-loop μ-loop
 sample-by-requires c κs = c .before .before .before .before .centres .ensures
 
 loop-again : tie.Need-loop-again Inv-loop μ-loop
-loop-again c = fold-again (reading (refitStep (c .before .before .before .before .before .before .before .before .args .m)) sampleOf) (c .before .before .before .before .before .before .before .before .args .words .now) (c .before .before .before .before .before .loop .i) 0
-    (c .before .before .before .before .loop-test .taken) (c .refit-step .ensures ∙ ap (refitStep (c .before .before .before .before .before .before .before .before .args .m) (c .before .before .before .before .before .loop .t)) (c .before .sample-by .ensures)) (c .before .before .before .before .before .loop .inv)
+loop-again c =
+    let l = c .before .before .before .before .before in
+    let a = l .before .before .before .args in
+    fold-again (reading (refitStep (a .m)) sampleOf) (a .words .now) (l .loop .i) 0
+    (c .before .before .before .before .loop-test .taken) (c .refit-step .ensures ∙ ap (refitStep (a .m) (l .loop .t)) (c .before .sample-by .ensures)) (l .loop .inv)
 
 returns : tie.Need-returns Inv-loop μ-loop
-returns c = fold-done (reading (refitStep (c .before .before .before .before .args .m)) sampleOf) (c .before .before .before .before .args .words .now) (c .before .loop .i) (c .loop-test .left) (c .before .loop .inv) ∙ refit-sums (c .before .before .before .before .args .m) (c .before .before .before .before .args .words .now)
+unfolding refitTotals
+returns c =
+    let a = c .before .before .before .before .args in
+    fold-done (reading (refitStep (a .m)) sampleOf) (a .words .now) (c .before .loop .i) (c .loop-test .left) (c .before .loop .inv)
+    ∙ refit-sums (a .m) (a .words .now)
 
 pub refit-sums-spec : {M : Type 1} → statement M
 refit-sums-spec =

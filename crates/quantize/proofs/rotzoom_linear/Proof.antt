@@ -1,4 +1,4 @@
--- `quantize::rotzoom_linear` meets its contract: a number within 8,192 of zero can be negated.
+-- `quantize::rotzoom_linear`: a number within 8,192 of zero can be negated.
 -- Assumes nothing.
 use Rattle.laws.proofs.Signed.{natAbs-neg, sfits-natAbs, reads-back}
 use lib.IntN.{negℤ, +ℤ-idl}

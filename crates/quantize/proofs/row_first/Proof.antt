@@ -1,4 +1,4 @@
--- `quantize::row_first` meets its contract: the two slots are read back from their bits.
+-- `quantize::row_first`: the two slots are read back from their bits, and change places.
 -- Assumes nothing.
 use borrow.Author.Tests.{eq-eqb, ne-eqb}
 use mir.Syntax.{w32}
@@ -9,7 +9,9 @@ use Rattle.quantize.proofs.row_first.Statement.{statement}
 use Rattle.quantize.proofs.row_first.Tie as tie
 
 returns : tie.Need-returns
-returns c = rw (result-reads w32 (slot (c .before .before .before .args .t2) 0) (c .before .x .given), result-reads w32 (slot (c .before .before .before .args .t2) 1) (c .y .given), eq-eqb _ _ (c .before .before .if1 .taken))
+returns c =
+    let params = c .before .before .before .args .t2 in
+    rw (result-reads w32 (slot params 0) (c .before .x .given), result-reads w32 (slot params 1) (c .y .given), eq-eqb _ _ (c .before .before .if1 .taken))
 
 returns-2 : tie.Need-returns-2
 returns-2 c = rw (ne-eqb _ _ (c .if1 .left))

@@ -21,8 +21,9 @@ loop-holds c = (record { at = λ k h. absurd (not-suc-le-zero h) }, refl, omega 
 
 loop-again : tie.Need-loop-again Inv-loop μ-loop
 loop-again c =
+    let centre-of = c .centre-of in
     let l = c .before .before .loop in
-    (one-more (l .place) (l .table) (c .centre-of .result) (omega (arith, l .inv .1, c .before .loop-test .taken)) (c .centre-of .ensures) (l .inv .0), search needs, search needs)
+    (one-more (l .place) (l .table) (centre-of .result) (omega (arith, l .inv .1, c .before .loop-test .taken)) (centre-of .ensures) (l .inv .0), search needs, search needs)
 
 returns : tie.Need-returns Inv-loop μ-loop
 returns c = record { at = λ place h. c .before .loop .inv .0 .at place (omega (arith, c .loop-test .left)) }

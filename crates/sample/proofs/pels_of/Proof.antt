@@ -14,7 +14,8 @@ sub-result c = rw (toZ-pos w32 (c .args .stored) (omega arith)) (eighths-fit (c 
 
 returns : tie.Need-returns
 returns c =
-    rw (toZ-pos w32 (c .before .args .stored) (omega arith), toZ-ofZ w32 (eighthsOf (c .before .args .stored)) (eighths-fit (c .before .args .stored) (omega arith)))
+    let a = c .before .args in
+    rw (toZ-pos w32 (a .stored) (omega arith), toZ-ofZ w32 (eighthsOf (a .stored)) (eighths-fit (a .stored) (omega arith)))
 
 pub pels-of-spec : {M : Type 1} → statement M
 pels-of-spec = tie.close (tie.spec (search needs) sub-result (search needs) returns)

@@ -1,4 +1,4 @@
--- `model::residual` meets its contract: the same operations in the same order.
+-- `score::residual`: the same operations in the same order.
 -- Assumes nothing.
 use mathlib.Core.Path.{refl}
 use Rattle.score.specs.Score.{residualOf}

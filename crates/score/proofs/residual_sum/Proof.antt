@@ -1,6 +1,7 @@
--- `model::residual_sum` meets its contract: what is left to add, from here as from the first word.
+-- `score::residual_sum`: what is left to add, from here as from the first word.
 -- Assumes nothing.
-use Rattle.score.specs.Score.{scoreStep, residualSum}
+use Rattle.score.specs.Score.{scoreStep}
+use Rattle.score.specs.Inner.{residualSum}
 use Rattle.fit.specs.Sums.{reading}
 use Rattle.sample.specs.Sample.{sampleOf}
 use Rattle.laws.proofs.Fold.{fold-again, fold-done}
@@ -25,12 +26,17 @@ sample-by-requires : tie.Need-sample-by-requires Inv-loop μ-loop
 sample-by-requires c κs = c .before .before .before .before .centres .ensures
 
 loop-again : tie.Need-loop-again Inv-loop μ-loop
-loop-again c = fold-again (reading (scoreStep (c .before .before .before .before .before .before .before .before .args .m)) sampleOf) (c .before .before .before .before .before .before .before .before .args .words .now) (c .before .before .before .before .before .loop .i) 0
-    (c .before .before .before .before .loop-test .taken) (c .score-step .ensures ∙ ap (scoreStep (c .before .before .before .before .before .before .before .before .args .m) (c .before .before .before .before .before .loop .acc)) (c .before .sample-by .ensures)) (c .before .before .before .before .before .loop .inv)
+loop-again c =
+    let l = c .before .before .before .before .before in
+    let a = l .before .before .before .args in
+    fold-again (reading (scoreStep (a .m)) sampleOf) (a .words .now) (l .loop .i) 0
+    (c .before .before .before .before .loop-test .taken) (c .score-step .ensures ∙ ap (scoreStep (a .m) (l .loop .acc)) (c .before .sample-by .ensures)) (l .loop .inv)
 
 returns : tie.Need-returns Inv-loop μ-loop
 unfolding residualSum
-returns c = fold-done (reading (scoreStep (c .before .before .before .before .args .m)) sampleOf) (c .before .before .before .before .args .words .now) (c .before .loop .i) (c .loop-test .left) (c .before .loop .inv)
+returns c =
+    let a = c .before .before .before .before .args in
+    fold-done (reading (scoreStep (a .m)) sampleOf) (a .words .now) (c .before .loop .i) (c .loop-test .left) (c .before .loop .inv)
 
 pub residual-sum-spec : {M : Type 1} → statement M
 residual-sum-spec =

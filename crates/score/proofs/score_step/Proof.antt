@@ -1,4 +1,4 @@
--- `model::score_step` meets its contract: the residual is added.
+-- `score::score_step`: the residual is added.
 -- Assumes nothing.
 use borrow.Author.Needs.{needs}
 use Rattle.score.proofs.score_step.Statement.{statement}

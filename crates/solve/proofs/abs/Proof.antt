@@ -1,4 +1,4 @@
--- `solve::abs` meets its contract: each return rewrites with the tests that led there.
+-- `solve::abs`: each return takes the arm of its test.
 -- Assumes nothing.
 use Rattle.solve.specs.Elimination.{absOf}
 use Rattle.solve.proofs.abs.Statement.{statement}

@@ -1,4 +1,4 @@
--- `solve::back_substitute` meets its contract: what is left to find, from here as from the last row.
+-- `solve::back_substitute`: what is left to find, from here as from the last row.
 -- Assumes nothing.
 use Prim.Native.Nat.{_-_}
 use Rattle.laws.proofs.Loops.{again, done}

@@ -1,4 +1,4 @@
--- `solve::column_step` meets its contract: by cases on the outcome so far.
+-- `solve::column_step`: a refused column leaves the elimination as it is, and after a solved one the next is eliminated.
 -- Assumes nothing.
 use borrow.Author.Needs.{needs}
 use Rattle.solve.proofs.column_step.Statement.{statement}
@@ -9,4 +9,5 @@ returns-2 c = rw (c .before .enum-told2 .given .1) (c .eliminate-column .ensures
 
 pub column-step-spec : {M : Type 1} → statement M
 column-step-spec =
-    tie.close (tie.spec (search needs) (search needs) (search needs) (search needs) returns-2)
+    tie.close
+    (tie.spec (λ c. search needs) (λ c. search needs) (λ c κs. search needs) (λ c. search needs) returns-2)

@@ -1,4 +1,4 @@
--- `solve::eliminate` meets its contract: what is left to eliminate, from here as from the first column.
+-- `solve::eliminate`: what is left to eliminate, from here as from the first column.
 -- Assumes nothing.
 use Prim.Native.Nat.{_-_}
 use Rattle.laws.proofs.Loops.{again, done}

@@ -1,4 +1,4 @@
--- `solve::eliminate_column` meets its contract: each return rewrites with the pivot found and the test of its magnitude.
+-- `solve::eliminate_column`: the pivot found is the definition's, and its magnitude decides.
 -- Assumes nothing.
 use Rattle.solve.specs.Elimination.{column}
 use borrow.Author.Needs.{needs}
@@ -11,7 +11,16 @@ returns c = rw (← c .before .before .before .pivot-of .ensures .0, ← c .befo
 
 returns-2 : tie.Need-returns-2
 unfolding column
-returns-2 c = rw (← c .before .before .before .before .before .pivot-of .ensures .0, ← c .before .before .before .before .entry-of .ensures, ← c .before .before .before .abs .ensures, c .before .before .if1 .left, ← c .before .exchange-rows .ensures, ← c .reduce-below .ensures)
+returns-2 c =
+    let test = c .before .before in
+    rw (
+      ← test .before .before .before .pivot-of .ensures .0,
+      ← test .before .before .entry-of .ensures,
+      ← test .before .abs .ensures,
+      test .if1 .left,
+      ← c .before .exchange-rows .ensures,
+      ← c .reduce-below .ensures,
+    )
 
 pub eliminate-column-spec : {M : Type 1} → statement M
 eliminate-column-spec =

@@ -1,4 +1,4 @@
--- `solve::pivot_of` meets its contract: what is left to compare, from here as from the diagonal.
+-- `solve::pivot_of`: what is left to compare, from here as from the diagonal.
 -- Assumes nothing.
 use Prim.Native.Nat.{_<_, _-_}
 use Rattle.laws.proofs.Loops.{again, done}
@@ -19,10 +19,14 @@ loop-holds : tie.Need-loop-holds Inv-loop μ-loop
 loop-holds c = (refl, search needs)
 
 loop-again : tie.Need-loop-again Inv-loop μ-loop
-loop-again c = (again (pivotStep (c .before .before .before .args .s) (c .before .before .before .args .col)) (c .before .loop-test .taken) (c .pivot-step .ensures .0) (c .before .before .loop .inv .0), c .pivot-step .ensures .1)
+loop-again c =
+    let a = c .before .before .before .args in
+    (again (pivotStep (a .s) (a .col)) (c .before .loop-test .taken) (c .pivot-step .ensures .0) (c .before .before .loop .inv .0), c .pivot-step .ensures .1)
 
 returns : tie.Need-returns Inv-loop μ-loop
-returns c = (done (pivotStep (c .before .before .args .s) (c .before .before .args .col)) (c .loop-test .left) (c .before .loop .inv .0), c .before .loop .inv .1)
+returns c =
+    let a = c .before .before .args in
+    (done (pivotStep (a .s) (a .col)) (c .loop-test .left) (c .before .loop .inv .0), c .before .loop .inv .1)
 
 pub pivot-of-spec : {M : Type 1} → statement M
 pivot-of-spec =

@@ -1,14 +1,18 @@
--- `solve::pivot_step` meets its contract: the comparison is that of the two entries' magnitudes.
+-- `solve::pivot_step`: the comparison is that of the two entries' magnitudes.
 -- Assumes nothing.
 use borrow.Author.Needs.{needs}
 use Rattle.solve.proofs.pivot_step.Statement.{statement}
 use Rattle.solve.proofs.pivot_step.Tie as tie
 
 returns : tie.Need-returns
-returns c = (rw (← c .before .before .before .before .entry-of .ensures, ← c .before .before .before .abs .ensures, ← c .before .before .entry-of2 .ensures, ← c .before .abs2 .ensures, c .if1 .taken), search needs)
+returns c =
+    let e = c .before .before .before in
+    (rw (← e .before .entry-of .ensures, ← e .abs .ensures, ← c .before .before .entry-of2 .ensures, ← c .before .abs2 .ensures, c .if1 .taken), search needs)
 
 returns-2 : tie.Need-returns-2
-returns-2 c = (rw (← c .before .before .before .before .entry-of .ensures, ← c .before .before .before .abs .ensures, ← c .before .before .entry-of2 .ensures, ← c .before .abs2 .ensures, c .if1 .left), search needs)
+returns-2 c =
+    let e = c .before .before .before in
+    (rw (← e .before .entry-of .ensures, ← e .abs .ensures, ← c .before .before .entry-of2 .ensures, ← c .before .abs2 .ensures, c .if1 .left), search needs)
 
 pub pivot-step-spec : {M : Type 1} → statement M
 pivot-step-spec =

@@ -1,4 +1,4 @@
--- `solve::reduce_below` meets its contract: what is left to reduce, from here as from the row below the diagonal.
+-- `solve::reduce_below`: what is left to reduce, from here as from the row below the diagonal.
 -- Assumes nothing.
 use Prim.Native.Nat.{_-_}
 use Rattle.laws.proofs.Loops.{again, done}

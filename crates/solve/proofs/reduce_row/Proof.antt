@@ -1,4 +1,4 @@
--- `solve::reduce_row` meets its contract: what is left to reduce, from here as from the pivot's column; the right side goes before.
+-- `solve::reduce_row`: what is left to reduce, from here as from the pivot's column; the right side goes before.
 -- Assumes nothing.
 use Prim.Native.Nat.{_-_}
 use mathlib.Core.Path.{_≡_, refl, sym, _∙_}

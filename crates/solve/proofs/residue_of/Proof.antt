@@ -1,4 +1,4 @@
--- `solve::residue_of` meets its contract: what is left to subtract, from here as from the diagonal.
+-- `solve::residue_of`: what is left to subtract, from here as from the diagonal.
 -- Assumes nothing.
 use Prim.Native.Nat.{_-_}
 use Rattle.laws.proofs.Loops.{again, done}
@@ -19,11 +19,15 @@ loop-holds : tie.Need-loop-holds Inv-loop μ-loop
 loop-holds c = refl
 
 loop-again : tie.Need-loop-again Inv-loop μ-loop
-loop-again c = again (residueStep (c .before .before .before .before .args .s) (c .before .before .before .before .args .u) (c .before .before .before .before .args .row)) (c .before .loop-test .taken) (c .residue-step .ensures) (c .before .before .loop .inv)
+loop-again c =
+    let a = c .before .before .before .before .args in
+    again (residueStep (a .s) (a .u) (a .row)) (c .before .loop-test .taken) (c .residue-step .ensures) (c .before .before .loop .inv)
 
 returns : tie.Need-returns Inv-loop μ-loop
 unfolding residueOf
-returns c = done (residueStep (c .before .before .before .args .s) (c .before .before .before .args .u) (c .before .before .before .args .row)) (c .loop-test .left) (c .before .loop .inv)
+returns c =
+    let a = c .before .before .before .args in
+    done (residueStep (a .s) (a .u) (a .row)) (c .loop-test .left) (c .before .loop .inv)
 
 pub residue-of-spec : {M : Type 1} → statement M
 residue-of-spec =

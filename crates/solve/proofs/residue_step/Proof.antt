@@ -1,4 +1,4 @@
--- `solve::residue_step` meets its contract: the entry is that of the row and column.
+-- `solve::residue_step`: the entry is that of the row and column.
 -- Assumes nothing.
 use borrow.Author.Needs.{needs}
 use Rattle.solve.proofs.residue_step.Statement.{statement}

@@ -1,4 +1,4 @@
--- `solve::unknown_step` meets its contract: the row's residue divided by its diagonal entry.
+-- `solve::unknown_step`: the row's residue divided by its diagonal entry.
 -- Assumes nothing.
 use borrow.Author.Needs.{needs}
 use Rattle.solve.proofs.unknown_step.Statement.{statement}

@@ -27,9 +27,14 @@ read-bit-requires c κs = omega (arith, few-rungs (c .before .before .loop .i) (
 
 returns : tie.Need-returns Inv-loop μ-loop
 returns c =
-    let b = c .before .before .before .read-bit .ensures in
-    stops (bitAt (c .before .before .before .before .before .before .before .before .args .bytes .now)) (c .before .before .before .before .before .before .before .before .args .num-syms) (c .before .before .before .before .before .before .before .before .args .cursor .at) (c .before .before .before .before .before .before .before .before .pre .1) (c .before .before .before .before .before .before .loop .i) (c .before .before .before .read-bit .result .next) (c .before .before .before .read-bit .result .value)
-    (sym (c .before .before .before .before .before .is-last .ensures) ∙ not-true _ (c .before .before .before .before .if1 .taken)) (b .value ∙ ap (bitAt (c .before .before .before .before .before .before .before .before .args .bytes .now)) (c .before .before .before .before .before .before .loop .inv .0)) (c .if2 .taken) (omega (arith, b .next)) (c .before .before .before .before .before .before .loop .inv .1)
+    let a = c .before .before .before .before .before .before .before .before .args in
+    let asked = c .before .before .before .before .before .before .before .before .pre in
+    let loop = c .before .before .before .before .before .before .loop in
+    let is-last = c .before .before .before .before .before .is-last in
+    let read-bit = c .before .before .before .read-bit in
+    let b = read-bit .ensures in
+    stops (bitAt (a .bytes .now)) (a .num-syms) (a .cursor .at) (asked .1) (loop .i) (read-bit .result .next) (read-bit .result .value)
+    (sym (is-last .ensures) ∙ not-true _ (c .before .before .before .before .if1 .taken)) (b .value ∙ ap (bitAt (a .bytes .now)) (loop .inv .0)) (c .if2 .taken) (omega (arith, b .next)) (loop .inv .1)
 
 add-i : tie.Need-add-i Inv-loop μ-loop
 add-i c = omega (arith, few-rungs (c .before .before .before .before .before .before .loop .i) (omega (arith, c .before .before .before .before .before .before .loop .inv .1 .below)))
@@ -39,18 +44,23 @@ loop-less c = omega (arith, le-start (c .before .before .before .before .before 
 
 loop-again : tie.Need-loop-again Inv-loop μ-loop
 loop-again c =
+    let a = c .before .before .before .before .before .before .before .before .args in
+    let loop = c .before .before .before .before .before .before .loop in
+    let is-last = c .before .before .before .before .before .is-last in
     let b = c .before .before .before .read-bit .ensures in
-    let e = b .value ∙ ap (bitAt (c .before .before .before .before .before .before .before .before .args .bytes .now)) (c .before .before .before .before .before .before .loop .inv .0) in (
+    let e = b .value ∙ ap (bitAt (a .bytes .now)) (loop .inv .0) in (
       omega (arith, b .next),
-      one-read (bitAt (c .before .before .before .before .before .before .before .before .args .bytes .now)) (c .before .before .before .before .before .before .before .before .args .num-syms) (c .before .before .before .before .before .before .before .before .args .cursor .at) (c .before .before .before .before .before .before .loop .i)
-          (leb-false _ _ (sym (c .before .before .before .before .before .is-last .ensures) ∙ not-true _ (c .before .before .before .before .if1 .taken)))
-          (omega (arith, e, bitAt-lt (c .before .before .before .before .before .before .before .before .args .bytes .now) (c .before .before .before .before .before .before .before .before .args .cursor .at + c .before .before .before .before .before .before .loop .i), c .if2 .left)) (c .before .before .before .before .before .before .loop .inv .1),
+      one-read (bitAt (a .bytes .now)) (a .num-syms) (a .cursor .at) (loop .i)
+          (leb-false _ _ (sym (is-last .ensures) ∙ not-true _ (c .before .before .before .before .if1 .taken)))
+          (omega (arith, e, bitAt-lt (a .bytes .now) (a .cursor .at + loop .i), c .if2 .left)) (loop .inv .1),
     )
 
 returns-2 : tie.Need-returns-2 Inv-loop μ-loop
 returns-2 c =
-    ends (bitAt (c .before .before .before .before .args .bytes .now)) (c .before .before .before .before .args .num-syms) (c .before .before .before .before .args .cursor .at) (c .before .before .before .before .pre .1) (c .before .before .loop .i) (c .before .before .loop .next)
-    (sym (c .before .is-last .ensures) ∙ not-false _ (c .if1 .left)) (c .before .before .loop .inv .0) (c .before .before .loop .inv .1)
+    let a = c .before .before .before .before .args in
+    let loop = c .before .before .loop in
+    ends (bitAt (a .bytes .now)) (a .num-syms) (a .cursor .at) (c .before .before .before .before .pre .1) (loop .i) (loop .next)
+    (sym (c .before .is-last .ensures) ∙ not-false _ (c .if1 .left)) (loop .inv .0) (loop .inv .1)
 
 pub climb-spec : {M : Type 1} → statement M
 climb-spec =

@@ -1,4 +1,4 @@
--- `subexp::climbs` meets its contract. Assumes nothing.
+-- `subexp::climbs` meets its contract: never past the last rung, otherwise where v is not below the next rung's start. Assumes nothing.
 use borrow.Author.Needs.{needs}
 use Rattle.subexp.proofs.climbs.Statement.{statement}
 use Rattle.subexp.proofs.climbs.Tie as tie

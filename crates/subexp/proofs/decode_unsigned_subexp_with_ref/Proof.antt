@@ -1,4 +1,4 @@
--- `subexp::decode_unsigned_subexp_with_ref` meets its contract. Assumes nothing.
+-- `subexp::decode_unsigned_subexp_with_ref` meets its contract: the number read is a code number below S, and its symbol is the definition's. Assumes nothing.
 use borrow.Author.Needs.{needs}
 use Rattle.subexp.proofs.decode_unsigned_subexp_with_ref.Statement.{statement}
 use Rattle.subexp.proofs.decode_unsigned_subexp_with_ref.Tie as tie
@@ -10,10 +10,15 @@ use Rattle.subexp.specs.Recenter.{symbolOf}
 use Rattle.subexp.proofs.Coefficient.{subexp-again}
 
 symbol-of-requires : tie.Need-symbol-of-requires
-symbol-of-requires c κs = (omega arith, omega (arith, c .before .decode-subexp .ensures .value, subexp-again (bitAt (c .before .before .before .args .bytes .now)) (bitAt-lt (c .before .before .before .args .bytes .now)) (c .before .before .before .args .mx) (omega arith) (c .before .before .before .args .cursor .at) .within), omega arith)
+symbol-of-requires c κs =
+    let a = c .before .before .before .args in
+    (omega arith, omega (arith, c .before .decode-subexp .ensures .value, subexp-again (bitAt (a .bytes .now)) (bitAt-lt (a .bytes .now)) (a .mx) (omega arith) (a .cursor .at) .within), omega arith)
 
 returns : tie.Need-returns
-returns c = (record { value = c .symbol-of .ensures .0 ∙ ap (symbolOf (c .before .before .before .before .args .mx) (c .before .before .before .before .args .r)) (c .before .before .decode-subexp .ensures .value); next = c .before .before .decode-subexp .ensures .next }, c .symbol-of .ensures .1)
+returns c =
+    let a = c .before .before .before .before .args in
+    let decode-subexp = c .before .before .decode-subexp in
+    (record { value = c .symbol-of .ensures .0 ∙ ap (symbolOf (a .mx) (a .r)) (decode-subexp .ensures .value); next = decode-subexp .ensures .next }, c .symbol-of .ensures .1)
 
 pub decode-unsigned-subexp-with-ref-spec : {M : Type 1} → statement M
 decode-unsigned-subexp-with-ref-spec =

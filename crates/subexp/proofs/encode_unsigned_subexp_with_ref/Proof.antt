@@ -1,4 +1,4 @@
--- `subexp::encode_unsigned_subexp_with_ref` meets its contract. Assumes nothing.
+-- `subexp::encode_unsigned_subexp_with_ref` meets its contract: a symbol's bits are those of its code number. Assumes nothing.
 use borrow.Author.Needs.{needs}
 use Rattle.subexp.proofs.encode_unsigned_subexp_with_ref.Statement.{statement}
 use Rattle.subexp.proofs.encode_unsigned_subexp_with_ref.Tie as tie
@@ -8,10 +8,14 @@ use Rattle.bits.proofs.Buffer.{wrote-as, room-as}
 use Rattle.subexp.specs.Ladder.{subexpBits}
 
 encode-subexp-requires : tie.Need-encode-subexp-requires
-encode-subexp-requires c κs = (c .before .code-of .ensures .1, omega arith, room-as (c .before .before .before .args .buffer .now) (c .before .before .before .args .cursor .at) _ _ (ap (subexpBits (c .before .before .before .args .mx)) (sym (c .before .code-of .ensures .0))) (c .before .before .before .pre .3))
+encode-subexp-requires c κs =
+    let a = c .before .before .before .args in
+    (c .before .code-of .ensures .1, omega arith, room-as (a .buffer .now) (a .cursor .at) _ _ (ap (subexpBits (a .mx)) (sym (c .before .code-of .ensures .0))) (c .before .before .before .pre .3))
 
 returns : tie.Need-returns
-returns c = wrote-as _ _ (ap (subexpBits (c .before .before .before .before .before .before .args .mx)) (c .before .before .before .before .code-of .ensures .0)) (c .before .before .encode-subexp .ensures)
+returns c =
+    let a = c .before .before .before .before .before .before .args in
+    wrote-as _ _ (ap (subexpBits (a .mx)) (c .before .before .before .before .code-of .ensures .0)) (c .before .before .encode-subexp .ensures)
 
 pub encode-unsigned-subexp-with-ref-spec : {M : Type 1} → statement M
 encode-unsigned-subexp-with-ref-spec =

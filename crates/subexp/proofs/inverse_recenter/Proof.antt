@@ -1,4 +1,4 @@
--- `subexp::inverse_recenter` meets its contract. Assumes nothing.
+-- `subexp::inverse_recenter` meets its contract: each return is the arm that its tests choose. Assumes nothing.
 use borrow.Author.Needs.{needs}
 use Rattle.subexp.proofs.inverse_recenter.Statement.{statement}
 use Rattle.subexp.proofs.inverse_recenter.Tie as tie

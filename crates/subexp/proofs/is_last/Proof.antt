@@ -1,4 +1,4 @@
--- `subexp::is_last` meets its contract. Assumes nothing.
+-- `subexp::is_last` meets its contract: the clause's own test, with the rung's start and step. Assumes nothing.
 use borrow.Author.Needs.{needs}
 use Rattle.subexp.proofs.is_last.Statement.{statement}
 use Rattle.subexp.proofs.is_last.Tie as tie

@@ -1,4 +1,4 @@
--- `subexp::recenter` meets its contract. Assumes nothing.
+-- `subexp::recenter` meets its contract: each return is the arm that its tests choose. Assumes nothing.
 use borrow.Author.Needs.{needs}
 use Rattle.subexp.proofs.recenter.Statement.{statement}
 use Rattle.subexp.proofs.recenter.Tie as tie

@@ -26,10 +26,17 @@ loop-less : tie.Need-loop-less Inv-loop μ-loop
 loop-less c = omega (arith, le-start (c .before .before .loop .i), c .before .before .loop .inv .below)
 
 loop-again : tie.Need-loop-again Inv-loop μ-loop
-loop-again c = up (c .before .before .before .args .num-syms) (c .before .before .before .args .v) (c .before .before .loop .i) (sym (c .before .climbs .ensures) ∙ c .if1 .taken) (c .before .before .loop .inv)
+loop-again c =
+    let a = c .before .before .before .args in
+    let loop = c .before .before .loop in
+    up (a .num-syms) (a .v) (loop .i) (sym (c .before .climbs .ensures) ∙ c .if1 .taken) (loop .inv)
 
 returns : tie.Need-returns Inv-loop μ-loop
-returns c = there (c .before .before .before .args .num-syms) (c .before .before .before .args .v) (c .before .before .loop .i) (c .before .before .before .pre .0) (c .before .before .before .pre .1) (sym (c .before .climbs .ensures) ∙ c .if1 .left) (c .before .before .loop .inv)
+returns c =
+    let a = c .before .before .before .args in
+    let asked = c .before .before .before .pre in
+    let loop = c .before .before .loop in
+    there (a .num-syms) (a .v) (loop .i) (asked .0) (asked .1) (sym (c .before .climbs .ensures) ∙ c .if1 .left) (loop .inv)
 
 pub rung-of-spec : {M : Type 1} → statement M
 rung-of-spec =

@@ -1,4 +1,4 @@
--- `subexp::rung_step` meets its contract. Assumes nothing.
+-- `subexp::rung_step` meets its contract: a rung's step is 2 to its bits. Assumes nothing.
 use borrow.Author.Needs.{needs}
 use Rattle.subexp.proofs.rung_step.Statement.{statement}
 use Rattle.subexp.proofs.rung_step.Tie as tie

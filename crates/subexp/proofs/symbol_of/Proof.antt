@@ -1,4 +1,4 @@
--- `subexp::symbol_of` meets its contract. Assumes nothing.
+-- `subexp::symbol_of` meets its contract: by the middle of the range, from one end or the other; what comes back is a symbol. Assumes nothing.
 use borrow.Author.Needs.{needs}
 use Rattle.subexp.proofs.symbol_of.Statement.{statement}
 use Rattle.subexp.proofs.symbol_of.Tie as tie
@@ -10,16 +10,21 @@ use Rattle.subexp.proofs.Centring.{symbol-near, symbol-far, symbol-lt, 
 
 returns : tie.Need-returns
 returns c =
-    let e : c .inverse-recenter .result ≡ symbolOf (c .before .before .args .mx) (c .before .before .args .r) (c .before .before .args .x) = c .inverse-recenter .ensures ∙ sym (symbol-near (c .before .before .args .mx) (c .before .before .args .r) (c .before .before .args .x) (c .before .if1 .taken)) in
-    (e, omega (arith, e, symbol-lt (c .before .before .args .mx) (c .before .before .args .r) (omega arith) (c .before .before .args .x) (omega arith)))
+    let a = c .before .before .args in
+    let e : c .inverse-recenter .result ≡ symbolOf (a .mx) (a .r) (a .x) = c .inverse-recenter .ensures ∙ sym (symbol-near (a .mx) (a .r) (a .x) (c .before .if1 .taken)) in
+    (e, omega (arith, e, symbol-lt (a .mx) (a .r) (omega arith) (a .x) (omega arith)))
 
 sub-result-2 : tie.Need-sub-result-2
-sub-result-2 c = omega (arith, c .inverse-recenter2 .ensures, inverse-within (c .before .before .args .mx) (c .before .before .args .mx - 1 - c .before .before .args .r) (c .before .before .args .x) (omega arith) (omega arith))
+sub-result-2 c =
+    let a = c .before .before .args in
+    omega (arith, c .inverse-recenter2 .ensures, inverse-within (a .mx) (a .mx - 1 - a .r) (a .x) (omega arith) (omega arith))
 
 returns-2 : tie.Need-returns-2
 returns-2 c =
-    let e : c .before .before .args .mx - 1 - c .inverse-recenter2 .result ≡ symbolOf (c .before .before .args .mx) (c .before .before .args .r) (c .before .before .args .x) = ap (λ (y : ℕ). c .before .before .args .mx - 1 - y) (c .inverse-recenter2 .ensures) ∙ sym (symbol-far (c .before .before .args .mx) (c .before .before .args .r) (c .before .before .args .x) (c .before .if1 .left)) in
-    (e, omega (arith, e, symbol-lt (c .before .before .args .mx) (c .before .before .args .r) (omega arith) (c .before .before .args .x) (omega arith)))
+    let a = c .before .before .args in
+    let e : a .mx - 1 - c .inverse-recenter2 .result ≡ symbolOf (a .mx) (a .r) (a .x) = ap (λ (y : ℕ). a .mx - 1 - y) (c .inverse-recenter2 .ensures)
+    ∙ sym (symbol-far (a .mx) (a .r) (a .x) (c .before .if1 .left)) in
+    (e, omega (arith, e, symbol-lt (a .mx) (a .r) (omega arith) (a .x) (omega arith)))
 
 pub symbol-of-spec : {M : Type 1} → statement M
 symbol-of-spec =

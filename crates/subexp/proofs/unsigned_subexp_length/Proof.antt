@@ -1,4 +1,4 @@
--- `subexp::unsigned_subexp_length` meets its contract. Assumes nothing.
+-- `subexp::unsigned_subexp_length` meets its contract: a symbol's bits are those of its code number. Assumes nothing.
 use borrow.Author.Needs.{needs}
 use Rattle.subexp.proofs.unsigned_subexp_length.Statement.{statement}
 use Rattle.subexp.proofs.unsigned_subexp_length.Tie as tie

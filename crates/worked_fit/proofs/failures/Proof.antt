@@ -1,4 +1,4 @@
--- `failures` meets its contract: at most one failure a case.
+-- `worked_fit::failures`: a case counts at most one failure, so the count stays below the number of cases.
 -- Assumes nothing.
 use Prim.Native.Nat.{_-_, _≤_}
 use borrow.Author.Needs.{needs}

@@ -1,4 +1,4 @@
--- `next_entries` meets its contract.
+-- `worked_fit::next_entries`: the index stays below 16.
 -- Assumes nothing.
 use Prim.Native.Nat.{_-_, _≤_}
 use borrow.Author.Needs.{needs}

@@ -1,4 +1,4 @@
--- `next_float` meets its contract: bits up to those of infinity, but for the sign, are a float's.
+-- `worked_fit::next_float`: bits up to those of infinity, but for the sign, are a float's.
 -- Assumes nothing.
 use Rattle.worked_fit.proofs.Numbers.{up-to-infinity}
 use borrow.Author.Needs.{needs}

@@ -1,4 +1,4 @@
--- `replay_case` meets its contract: the part that is filled is as long as the count.
+-- `worked_fit::replay_case`: the part that is filled is as long as the count.
 -- Assumes nothing.
 use lib.ListN.{length-take, length-append, length-drop}
 use native.Mathlib.Omega.{arith}

@@ -1,4 +1,4 @@
--- `same_float` meets its contract: a float that equals itself has bits.
+-- `worked_fit::same_float`: a float that equals itself has bits.
 -- Assumes nothing.
 use Rattle.worked_fit.proofs.Numbers.{equals-itself}
 use borrow.Author.Needs.{needs}

@@ -1,4 +1,4 @@
--- `bits::BitCursor::byte_align` meets its contract. Assumes nothing.
+-- `bits::BitCursor::byte_align` meets its contract: zeros as many as the position lacks to a whole byte are the padding. Assumes nothing.
 use borrow.Author.Needs.{needs}
 use Rattle.bits.proofs.BitCursor.byte_align.Statement.{statement}
 use Rattle.bits.proofs.BitCursor.byte_align.Tie as tie

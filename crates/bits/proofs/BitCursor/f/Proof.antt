@@ -21,10 +21,12 @@ abbrev μ-loop : tie.MeasureT-loop
 
 next : (c : tie.After-read-bit Inv-loop μ-loop) → 2 * c .before .before .loop .value + c .read-bit .result .value < 2 ^ 32
 next c =
-    field-front-lt (bitAt (c .before .before .before .before .args .bytes .now)) (bitAt-lt (c .before .before .before .before .args .bytes .now)) (c .before .before .before .before .args .self .at) (c .before .before .before .before .args .n)
-    (2 * c .before .before .loop .value + c .read-bit .result .value) (c .before .before .loop .left - 1) (field (bitAt (c .before .before .before .before .args .bytes .now)) (c .read-bit .result .next .at) (c .before .before .loop .left - 1))
+    let a = c .before .before .before .before .args in
+    let loop = c .before .before .loop in
+    field-front-lt (bitAt (a .bytes .now)) (bitAt-lt (a .bytes .now)) (a .self .at) (a .n)
+    (2 * loop .value + c .read-bit .result .value) (loop .left - 1) (field (bitAt (a .bytes .now)) (c .read-bit .result .next .at) (loop .left - 1))
     (omega arith)
-    (read-step (bitAt (c .before .before .before .before .args .bytes .now)) (c .before .before .loop .cursor .at) (c .before .before .loop .left) (c .before .before .loop .value) (c .before .loop-test .taken) (c .read-bit .ensures .value) (c .read-bit .ensures .next) (c .before .before .loop .inv .2))
+    (read-step (bitAt (a .bytes .now)) (loop .cursor .at) (loop .left) (loop .value) (c .before .loop-test .taken) (c .read-bit .ensures .value) (c .read-bit .ensures .next) (loop .inv .2))
 
 -- nothing is left to read
 ended : (g : ℕ → ℕ) (j left value : ℕ) {t : ℕ} → left ≡ 0 → value * 2 ^ left + field g j left ≡ t → value ≡ t
@@ -43,17 +45,23 @@ add-value c = omega (arith, next (c .before))
 
 loop-again : tie.Need-loop-again Inv-loop μ-loop
 loop-again c =
-    let inv = c .before .before .before .before .loop .inv in
+    let a = c .before .before .before .before .before .before .args in
+    let loop = c .before .before .before .before .loop in
+    let inv = loop .inv in
     let e = c .before .before .read-bit .ensures in (
       omega arith,
       omega (arith, e .next),
-      read-step (bitAt (c .before .before .before .before .before .before .args .bytes .now)) (c .before .before .before .before .loop .cursor .at) (c .before .before .before .before .loop .left) (c .before .before .before .before .loop .value) (c .before .before .before .loop-test .taken) (e .value) (e .next) (inv .2),
+      read-step (bitAt (a .bytes .now)) (loop .cursor .at) (loop .left) (loop .value) (c .before .before .before .loop-test .taken) (e .value) (e .next) (inv .2),
     )
 
 returns : tie.Need-returns Inv-loop μ-loop
 returns c =
     let z : c .before .loop .left ≡ 0 = omega arith in
-    record { value = ended (bitAt (c .before .before .before .args .bytes .now)) (c .before .loop .cursor .at) (c .before .loop .left) (c .before .loop .value) z (c .before .loop .inv .2); next = omega arith }
+    record {
+      value = ended (bitAt (c .before .before .before .args .bytes .now)) (c .before .loop .cursor .at) (c .before .loop .left) (c .before .loop .value) z
+          (c .before .loop .inv .2);
+      next = omega arith;
+    }
 
 pub f-spec : {M : Type 1} → statement M
 f-spec =

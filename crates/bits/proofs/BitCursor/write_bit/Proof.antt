@@ -1,4 +1,4 @@
--- `bits::BitCursor::write_bit` meets its contract. Assumes nothing.
+-- `bits::BitCursor::write_bit` meets its contract: the byte at / 8 is set with the bit of weight 7 - at % 8, as the definition puts it. Assumes nothing.
 use borrow.Author.Needs.{needs}
 use Rattle.bits.proofs.BitCursor.write_bit.Statement.{statement}
 use Rattle.bits.proofs.BitCursor.write_bit.Tie as tie

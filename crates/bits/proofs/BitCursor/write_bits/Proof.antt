@@ -27,12 +27,15 @@ write-bit-requires c κs = (rw (c .bit-of .ensures) (bitOf-lt _ _), record { wit
 
 loop-again : tie.Need-loop-again Inv-loop μ-loop
 loop-again c =
+    let a = c .before .before .before .before .before .before .before .before .args in
+    let loop = c .before .before .before .before .before .before .loop in
+    let loop-test = c .before .before .before .before .before .loop-test in
     let e = c .before .before .write-bit .ensures in
-    let inv = c .before .before .before .before .before .before .loop .inv in (
+    let inv = loop .inv in (
       omega arith,
       omega (arith, e .at),
       ap length (e .buffer) ∙ simp length-putBit (inv .2),
-      written-step (c .before .before .before .before .before .before .loop .buffer) (c .before .before .before .before .before .before .loop .cursor .at) (c .before .before .before .before .before .before .loop .left) (c .before .before .before .before .before .before .before .before .args .value) (c .before .before .before .before .before .loop-test .taken) (c .before .before .before .bit-of .ensures) (e .at) (e .buffer) (inv .3),
+      written-step (loop .buffer) (loop .cursor .at) (loop .left) (a .value) (loop-test .taken) (c .before .before .before .bit-of .ensures) (e .at) (e .buffer) (inv .3),
     )
 
 returns : tie.Need-returns Inv-loop μ-loop

@@ -1,3 +1,0 @@
-pub mod HandedOn
-pub mod Lending
-pub mod Words

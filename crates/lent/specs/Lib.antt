@@ -1,2 +1,0 @@
-pub mod InTurn
-pub mod Score
