@@ -128,6 +128,12 @@ pub fn quantize_global_param(kind: u8, high: bool, slot: usize, value: i32) -> i
     frame_obu::quantize_global_param(type_of(kind), high, slot, value)
 }
 
+/// The verdict and alpha, beta, gamma, delta of a codable ROTZOOM or AFFINE model, by a writing of clause 7.11.3.6.
+pub fn shear(params: &[i32; 6]) -> Option<(bool, [i32; 4])> {
+    inter_pred::setup_shear(*params)
+        .map(|shear| (shear.warp_valid, [shear.alpha, shear.beta, shear.gamma, shear.delta]))
+}
+
 /// `encode_inter_global_motion`: the bytes, padded with zeros, and the number of bits.
 pub fn write_header(types: &[u8; 7], params: &Models, high: bool, prior: &Models) -> (Vec<u8>, usize) {
     let mut gm = GlobalMotionParams::identity();

@@ -413,3 +413,26 @@ pub fn job(task: &Task<'_>, lent: &mut Lent<'_>) -> Result<Report, Refusal> {
     let raw::Report { refusal, types, models, score, bits, samples } = report;
     judged(refusal, Report { types, models, score, bits, samples })
 }
+
+/// The shear numbers of a warp, at 16 fraction bits, and whether a decoder keeps the warp.
+#[derive(Clone, Copy, Debug, PartialEq, Eq)]
+pub struct Shear {
+    pub valid: bool,
+    pub alpha: i32,
+    pub beta: i32,
+    pub gamma: i32,
+    pub delta: i32,
+}
+
+/// Will a decoder keep the warp of a rotation-zoom (2) or an affine model (3)? The four numbers are given whether it
+/// does or not. Rows 2, 4, 7.
+///
+/// ```
+/// let kept = belt::setup_shear(3, &[0, 0, 65536, 8192, -8192, 65536]).unwrap();
+/// assert_eq!((kept.valid, kept.beta, kept.gamma, kept.delta), (true, 8192, -8192, 1024));
+/// assert_eq!(belt::setup_shear(1, &[0, 0, 65536, 0, 0, 65536]), Err(belt::Refusal::OffGrid));
+/// ```
+pub fn setup_shear(gm_type: u8, params: &[i32]) -> Result<Shear, Refusal> {
+    let raw::Shear { refusal, valid, alpha, beta, gamma, delta } = raw::setup_shear(gm_type, params);
+    judged(refusal, Shear { valid: valid == 1, alpha, beta, gamma, delta })
+}

@@ -38,6 +38,16 @@ pub struct QuantizedParam {
 }
 
 #[repr(C)]
+pub struct Shear {
+    pub refusal: u32,
+    pub valid: u32,
+    pub alpha: i32,
+    pub beta: i32,
+    pub gamma: i32,
+    pub delta: i32,
+}
+
+#[repr(C)]
 pub struct Score {
     pub refusal: u32,
     pub score: f64,
@@ -148,6 +158,7 @@ unsafe extern "C" {
         prior: *const i32,
         prior_count: usize,
     ) -> Models;
+    fn belt_setup_shear(gm_type: u8, params: *const i32, count: usize) -> Shear;
     fn belt_job(
         input: *const u16,
         input_pels: usize,
@@ -330,4 +341,9 @@ pub fn job(
             header.len(),
         )
     }
+}
+
+pub fn setup_shear(gm_type: u8, params: &[i32]) -> Shear {
+    // SAFETY: one slice is read.
+    unsafe { belt_setup_shear(gm_type, params.as_ptr(), params.len()) }
 }
