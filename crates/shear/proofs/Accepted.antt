@@ -1,16 +1,16 @@
 -- What an accepted call knows: ROTZOOM or AFFINE, and slots 2 to 5 within the reach of their codable numbers.
 -- Assumes nothing.
-use Prim.Native.Nat.{ℕ, _+_, _≤_, _<_}
-use mathlib.Core.Bool.{Bool, false, not}
-use mathlib.Core.List.{List, [], _∷_}
+use Prim.Native.Nat.{ℕ, _≤_, _<_}
+use mathlib.Core.Bool.{false}
+use mathlib.Core.List.{List}
 use mathlib.Core.Logic.{_⊎_, inl, inr, ⊎-elim}
 use mathlib.Core.Path.{_≡_, refl, sym, subst, _∙_}
 use native.Mathlib.Omega.{arith}
 use borrow.Author.Tests.{ltb-false, not-false}
-use lib.Dec.{ltb, eqb}
+use lib.Dec.{ltb}
 use lib.IntN.{ℤ, pos, natAbs, _-ℤ_, _*ℤ_, +ℤ-idr, +ℤ-negℤ-cancel}
 use lib.ListN.{length, getD}
-use Rattle.laws.specs.Refusal.{Row, row, choose}
+use Rattle.laws.specs.Refusal.{choose}
 use Rattle.laws.proofs.Refusal.{quiet, neither, length-is}
 use Rattle.laws.proofs.Below.{each-fails}
 use Rattle.laws.proofs.Cases.{eq-or-ne}
@@ -19,7 +19,7 @@ use Rattle.grid.specs.Grid.{Codable, quantized}
 use Rattle.grid.proofs.Table.{row-codable}
 use Rattle.models.specs.Models.{carries, filler, slotWrong, slotAt, modelWrong}
 use Rattle.models.proofs.Integers.{same-equal}
-use Rattle.shear.specs.Call.{notWarped, shearRefusal}
+use Rattle.shear.specs.Call.{rows, shearRefusal}
 use Rattle.shear.specs.Inner.{Reach, Linear}
 use Rattle.shear.proofs.Products.{natAbs-product}
 
@@ -94,12 +94,9 @@ module _ (params : List ℤ) where
   two-or-three gmType a b =
       ⊎-elim (λ e. inl e) (λ ne. inr (omega (arith, ltb-false 3 gmType a, ltb-false gmType 2 b, ne))) (eq-or-ne gmType 2)
 
-  rows : ℕ → List Row
-  rows gmType = row 2 (not (eqb (length params) 6)) ∷ row 4 (ltb 3 gmType) ∷ row 7 (notWarped gmType params) ∷ []
-
   pub accepted : (gmType : ℕ) → shearRefusal gmType params ≡ 0 → (length params ≡ 6) × Warped
-  unfolding shearRefusal rows
+  unfolding shearRefusal
   accepted gmType h =
-      let q = quiet (rows gmType) tt h in
+      let q = quiet (rows gmType params) tt h in
       let warped = neither (ltb gmType 2) (modelWrong gmType 0 params 0) (q .1 .1 .0) in
       (length-is (length params) 6 (q .0), linear gmType (two-or-three gmType (q .1 .0) (warped .0)) (warped .1))

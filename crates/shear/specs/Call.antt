@@ -7,7 +7,7 @@ use mathlib.Core.List.{List, [], _∷_}
 use lib.Dec.{ltb, eqb}
 use lib.IntN.{ℤ, pos}
 use lib.ListN.{length, getD}
-use Rattle.laws.specs.Refusal.{row, judge, either}
+use Rattle.laws.specs.Refusal.{Row, row, judge, either}
 use Rattle.laws.specs.Call.{answered}
 use Rattle.models.specs.Models.{modelWrong}
 use Rattle.shear.specs.Shear.{alpha0, beta0, gamma0, delta0, reduced, warpValid}
@@ -27,9 +27,12 @@ shearOf p2 p3 p4 p5 =
 abbrev pub notWarped : ℕ → List ℤ → Bool
 notWarped gmType params = either (ltb gmType 2) (modelWrong gmType 0 params 0)
 
+abbrev pub rows : ℕ → List ℤ → List Row
+rows gmType params =
+    row 2 (not (eqb (length params) 6)) ∷ row 4 (ltb 3 gmType) ∷ row 7 (notWarped gmType params) ∷ []
+
 unfoldable pub shearRefusal : ℕ → List ℤ → ℕ
-shearRefusal gmType params =
-    judge (row 2 (not (eqb (length params) 6)) ∷ row 4 (ltb 3 gmType) ∷ row 7 (notWarped gmType params) ∷ [])
+shearRefusal gmType params = judge (rows gmType params)
 
 abbrev pub rejected : ℕ → Shear
 rejected n = record { refusal = n; valid = 0; alpha = pos 0; beta = pos 0; gamma = pos 0; delta = pos 0 }
