@@ -1,8 +1,7 @@
 -- What the codable numbers of the linear part let the code count on.
 -- Assumes nothing.
-use Prim.Native.Nat.{ℕ, _≤_}
 use native.Mathlib.Omega.{arith}
-use lib.IntN.{ℤ, pos, negsuc, natAbs, _-ℤ_}
+use lib.IntN.{ℤ, pos, negsuc, natAbs}
 use Rattle.grid.proofs.Signs.{apart-of}
 use Rattle.shear.specs.Inner.{Divisor, Reach}
 

@@ -15,11 +15,7 @@ divLutBits = 8
 abbrev pub divLutPrecBits : ℕ
 divLutPrecBits = 14
 
--- DIV_LUT_NUM
-abbrev pub divLutNum : ℕ
-divLutNum = 257
-
--- entry i of the table: 4,194,304 divided by 256 + i, to the nearest; none is a tie
+-- entry i of the table of DIV_LUT_NUM, 257: 4,194,304 divided by 256 + i, to the nearest; none is a tie
 unfoldable pub divLut : ℕ → ℕ
 divLut i = (4194304 + (256 + i) / 2) / (256 + i)
 

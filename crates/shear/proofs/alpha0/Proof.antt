@@ -1,4 +1,4 @@
--- `alpha0` meets its contract: the difference is small, and is clamped.
+-- `alpha0`: the difference is small, and is clamped.
 -- Assumes nothing.
 use mathlib.Core.Path.{refl}
 use native.Mathlib.Omega.{arith}

@@ -1,4 +1,4 @@
--- `clamp` meets its contract: the two tests are those of Clip3, and what passes both is small.
+-- `clamp`: the two tests are those of Clip3, and what passes both is small.
 -- Assumes nothing.
 use mathlib.Core.Path.{sym}
 use native.Mathlib.Omega.{arith}

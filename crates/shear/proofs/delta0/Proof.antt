@@ -1,4 +1,4 @@
--- `delta0` meets its contract: product, quotient and differences stay within 64 bits, and the last is clamped.
+-- `delta0`: product, quotient and differences stay within 64 bits, and the last is clamped.
 -- Assumes nothing.
 use Prim.Native.Nat.{_^_, _<_}
 use mathlib.Core.Path.{refl}

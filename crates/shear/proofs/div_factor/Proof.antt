@@ -1,4 +1,4 @@
--- `div_factor` meets its contract: the table at the magnitude's place, with the divisor's sign.
+-- `div_factor`: the table at the magnitude's place, with the divisor's sign.
 -- Assumes nothing.
 use mathlib.Core.Path.{ap, _∙_}
 use native.Mathlib.Omega.{arith}

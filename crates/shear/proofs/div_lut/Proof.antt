@@ -1,6 +1,5 @@
--- `div_lut` meets its contract: the table follows its rule.
+-- `div_lut`: the table follows its rule.
 -- Assumes nothing.
-use mathlib.Core.Path.{_≡_}
 use borrow.Author.Needs.{needs}
 use native.Mathlib.Omega.{arith}
 use Rattle.shear.proofs.DivLut.{table-follows, entry-small}

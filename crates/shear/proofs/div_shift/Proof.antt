@@ -1,4 +1,4 @@
--- `div_shift` meets its contract: the exponent of the divisor's magnitude, and 14.
+-- `div_shift`: the exponent of the divisor's magnitude, and 14.
 -- Assumes nothing.
 use native.Mathlib.Omega.{arith}
 use mir.Facts.{toZ-ofZ}

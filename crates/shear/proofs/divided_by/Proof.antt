@@ -1,6 +1,5 @@
--- `divided_by` meets its contract: the product with the table's factor stays below 2 ^ 61, and is rounded by its shift.
+-- `divided_by`: the product with the table's factor stays below 2 ^ 61, and is rounded by its shift.
 -- Assumes nothing.
-use mathlib.Core.Path.{refl}
 use native.Mathlib.Omega.{arith}
 use mir.Syntax.{w64}
 use mir.Facts.{toZ-ofZ}

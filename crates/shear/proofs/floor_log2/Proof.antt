@@ -1,4 +1,4 @@
--- `floor_log2` meets its contract: 2 ^ 16 parts the numbers of 16 bits from those of 17.
+-- `floor_log2`: 2 ^ 16 parts the numbers of 16 bits from those of 17.
 -- Assumes nothing.
 use native.Mathlib.Omega.{arith}
 use mathlib.Core.Path.{sym}

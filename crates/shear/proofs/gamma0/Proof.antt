@@ -1,4 +1,4 @@
--- `gamma0` meets its contract: slot 4 shifted stays below 2 ^ 32, and its quotient is clamped.
+-- `gamma0`: slot 4 shifted stays below 2 ^ 32, and its quotient is clamped.
 -- Assumes nothing.
 use mathlib.Core.Path.{refl}
 use native.Mathlib.Omega.{arith}

@@ -1,10 +1,10 @@
--- `judged` meets its contract: numbers of 16 bits fit an i32.
+-- `judged`: numbers of 16 bits fit an i32.
 -- Assumes nothing.
 use Prim.Native.Nat.{_≤_}
 use native.Mathlib.Omega.{arith}
 use borrow.Author.Needs.{needs}
 use lib.IntN.{ℤ, natAbs}
-use mir.Syntax.{w32, w64}
+use mir.Syntax.{w32}
 use mir.Val.{SFits}
 use mir.Facts.{toZ-ofZ}
 use Rattle.laws.proofs.Signed.{sfits-natAbs}

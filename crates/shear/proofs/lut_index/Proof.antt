@@ -1,4 +1,4 @@
--- `lut_index` meets its contract: an exponent above 8 takes the first arm, and what lies beyond the highest bit rounds to at most 256.
+-- `lut_index`: an exponent above 8 takes the first arm, and what lies beyond the highest bit rounds to at most 256.
 -- Assumes nothing.
 use mathlib.Core.Path.{_∙_}
 use native.Mathlib.Omega.{arith}

@@ -1,4 +1,4 @@
--- `not_warped` meets its contract: a type below ROTZOOM, or a model that no header carries.
+-- `not_warped`: a type below ROTZOOM, or a model that no header carries.
 -- Assumes nothing.
 use borrow.Author.Needs.{needs}
 use borrow.Author.Tests.{lt-ltb, le-ltb}

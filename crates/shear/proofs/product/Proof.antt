@@ -1,4 +1,4 @@
--- `product` meets its contract: the magnitudes' product is small, so the signed product fits.
+-- `product`: the magnitudes' product is small, so the signed product fits.
 -- Assumes nothing.
 use mir.Facts.{toZ-ofZ}
 use Rattle.shear.proofs.Products.{product-fits}

@@ -1,4 +1,4 @@
--- `reduce` meets its contract: at most 512 steps of 64.
+-- `reduce`: at most 512 steps of 64.
 -- Assumes nothing.
 use mathlib.Core.Path.{refl}
 use native.Mathlib.Omega.{arith}

@@ -1,7 +1,6 @@
--- `refusal_of` meets its contract: the first row that holds.
+-- `refusal_of`: the first row that holds.
 -- Assumes nothing.
 use mathlib.Core.Path.{sym, _∙_}
-use native.Mathlib.Omega.{arith}
 use borrow.Author.Needs.{needs}
 use borrow.Author.Tests.{eq-eqb, ne-eqb, lt-ltb, le-ltb}
 use Rattle.shear.specs.Call.{shearRefusal}

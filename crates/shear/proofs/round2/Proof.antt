@@ -1,4 +1,4 @@
--- `round2` meets its contract: the power is the divisor, and half of it is added first.
+-- `round2`: the power is the divisor, and half of it is added first.
 -- Assumes nothing.
 use Prim.Native.Nat.{_+_, _/_, _^_}
 use mathlib.Core.Path.{refl}

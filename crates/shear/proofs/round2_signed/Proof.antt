@@ -1,4 +1,4 @@
--- `round2_signed` meets its contract: the magnitude is rounded, and gets the sign back.
+-- `round2_signed`: the magnitude is rounded, and gets the sign back.
 -- Assumes nothing.
 use mathlib.Core.Path.{ap}
 use borrow.Author.Needs.{needs}

@@ -1,4 +1,4 @@
--- `setup_shear` meets its contract: a refused call gives its row, and an accepted one has a codable linear part.
+-- `setup_shear`: a refused call gives its row, and an accepted one has a codable linear part.
 -- Assumes nothing.
 use mathlib.Core.Path.{sym, _∙_}
 use native.Mathlib.Omega.{arith}

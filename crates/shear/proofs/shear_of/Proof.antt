@@ -1,4 +1,4 @@
--- `shear_of` meets its contract: each number is clamped, so that it can be rounded, and the four are judged.
+-- `shear_of`: each number is clamped, so that it can be rounded, and the four are judged.
 -- Assumes nothing.
 use borrow.Author.Needs.{needs}
 use mir.Syntax.{w64}

@@ -1,10 +1,9 @@
--- `slot` meets its contract: an i32 fits 64 bits.
+-- `slot`: an i32 fits 64 bits.
 -- Assumes nothing.
 use borrow.Author.Needs.{needs}
-use mir.Syntax.{w32, w64}
-use mir.Val.{SFits}
-use mir.Facts.{toZ-ofZ, sfits-widen}
-use lib.IntN.{ℤ, pos}
+use mir.Syntax.{w32}
+use mir.Facts.{sfits-widen}
+use lib.IntN.{pos}
 use lib.ListN.{getD}
 use Rattle.laws.proofs.Signed.{result-reads, i32-reads-as-i64}
 use Rattle.shear.proofs.slot.Statement.{statement}

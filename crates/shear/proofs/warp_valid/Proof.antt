@@ -1,4 +1,4 @@
--- `warp_valid` meets its contract: each sum is tested against 65536.
+-- `warp_valid`: each sum is tested against 65536.
 -- Assumes nothing.
 use native.Mathlib.Omega.{arith}
 use borrow.Author.Tests.{lt-ltb, le-ltb}

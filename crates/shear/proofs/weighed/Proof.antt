@@ -1,4 +1,4 @@
--- `weighed` meets its contract: magnitudes of 16 bits and small weights stay within 64 bits.
+-- `weighed`: magnitudes of 16 bits and small weights stay within 64 bits.
 -- Assumes nothing.
 use Prim.Native.Nat.{ℕ, _*_, _≤_}
 use native.Mathlib.Nat.{mul-le-mul}
