@@ -417,10 +417,15 @@ pub fn job(task: &Task<'_>, lent: &mut Lent<'_>) -> Result<Report, Refusal> {
 /// The shear numbers of a warp, at 16 fraction bits, and whether a decoder keeps the warp.
 #[derive(Clone, Copy, Debug, PartialEq, Eq)]
 pub struct Shear {
+    /// Whether a decoder keeps the warp.
     pub valid: bool,
+    /// Slot 2 less 1, clamped and rounded to a multiple of 64, as the next three are.
     pub alpha: i32,
+    /// Slot 3.
     pub beta: i32,
+    /// Slot 4 divided by slot 2.
     pub gamma: i32,
+    /// Slot 5 less slot 3 times slot 4 divided by slot 2, less 1.
     pub delta: i32,
 }
 
