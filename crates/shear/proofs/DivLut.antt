@@ -11,7 +11,7 @@ use lib.ListN.{getD}
 use Rattle.laws.proofs.Products.{quotient-low, quotient-high}
 use Rattle.grid.proofs.Signs.{apart}
 use Rattle.shear.specs.Divisor.{divLut}
-use Rattle.shear.proofs.Table.{entry-passes}
+use Rattle.shear.proofs.Passes.{entry-passes}
 
 -- the code's table
 abbrev pub table : List ℕ

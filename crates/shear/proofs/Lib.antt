@@ -3,7 +3,7 @@ pub mod Clamped
 pub mod Codable
 pub mod DivLut
 pub mod Nearest
+pub mod Passes
 pub mod Products
 pub mod Reach
 pub mod Rounding
-pub mod Table

@@ -3,8 +3,8 @@
 use borrow.Author.Needs.{needs}
 use native.Mathlib.Omega.{arith}
 use Rattle.shear.proofs.DivLut.{table-follows, entry-small}
-use Rattle.shear.proofs.div_lut.Statement.{statement}
-use Rattle.shear.proofs.div_lut.Tie as tie
+use Rattle.shear.proofs.table.div_lut.Statement.{statement}
+use Rattle.shear.proofs.table.div_lut.Tie as tie
 
 returns : tie.Need-returns
 returns c =
