@@ -2,6 +2,7 @@
 //! and three parts are cut out of functions and of frame_obu.rs. None of it is kept in this repository.
 
 use std::path::PathBuf;
+use std::process::exit;
 use std::{env, fs};
 
 /// Seen from the package's folder; the variable OXIDEAV_SRC names another folder.
@@ -33,8 +34,12 @@ fn source(name: &str) -> String {
     let folder = env::var("OXIDEAV_SRC").unwrap_or(DEFAULT_SOURCE.into());
     let path = package.join(folder).join(name);
     println!("cargo:rerun-if-changed={}", path.display());
-    fs::read_to_string(&path)
-        .unwrap_or_else(|error| panic!("{}: {error}; OXIDEAV_SRC names the folder of the ported Rust", path.display()))
+    fs::read_to_string(&path).unwrap_or_else(|error| {
+        let message = format!("{}: {error}; OXIDEAV_SRC names the folder of the ported Rust", path.display());
+        println!("cargo:warning={message}");
+        eprintln!("{message}");
+        exit(1)
+    })
 }
 
 /// The lines from the first that begins with `from`, through the `end` line of the `last` item.

@@ -112,7 +112,13 @@ fn entries(lcg: &mut Lcg, flavour: u16) -> f64 {
         3 => (f64::from(lcg.step()) - 32768.0) / 8.0,
         4 => [f64::NAN, f64::INFINITY, f64::NEG_INFINITY, 0.0, -0.0, 1.0, -1.0, 1e300][usize::from(lcg.below(8))],
         5 => f64::from_bits(u64::from(lcg.word()) << 32 | u64::from(lcg.word())),
-        _ => if lcg.below(4) == 0 { small } else { 0.0 },
+        _ => {
+            if lcg.below(4) == 0 {
+                small
+            } else {
+                0.0
+            }
+        }
     }
 }
 

@@ -182,10 +182,8 @@ fn prior(lcg: &mut Lcg) -> Models {
 fn blocks(frame: u16, words: &[u32]) -> Vec<u32> {
     let mut out = Vec::new();
     for (ordinal, chunk) in words.chunks(BLOCK_SAMPLES).enumerate() {
-        let mut block = vec![
-            u32::from(frame) << 16 | 1 << 8 | chunk.len() as u32,
-            (words.len() as u32) << 16 | ordinal as u32,
-        ];
+        let mut block =
+            vec![u32::from(frame) << 16 | 1 << 8 | chunk.len() as u32, (words.len() as u32) << 16 | ordinal as u32];
         block.extend(chunk);
         block.resize(127, 0);
         let check = block.iter().fold(1u32, |sum, &word| sum.wrapping_add(word));
