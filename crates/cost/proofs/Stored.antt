@@ -3,8 +3,8 @@
 use Prim.Native.Nat.{ℕ, _+_, _/_, _%_}
 use mathlib.Core.Path.{_≡_, sym}
 use native.Mathlib.Omega.{arith}
-use Rattle.pels.specs.Clamp.{offset}
-use Rattle.pels.proofs.Offset.{offset-cases, offset-pos, offset-neg}
+use Rattle.plane.specs.Clamp.{offset}
+use Rattle.plane.proofs.Offsets.{offset-cases, offset-pos, offset-neg}
 use Rattle.cost.specs.Cost.{whole, fraction}
 
 -- a motion in eighths plus 223, as whole pels plus 28 and eighths left

@@ -5,7 +5,7 @@ use mathlib.Core.Path.{_≡_, refl, sym, ap, subst, _∙_}
 use native.Mathlib.Omega.{arith}
 use Rattle.laws.specs.Loops.{sum}
 use Rattle.laws.proofs.Loops.{sum-step}
-use Rattle.pels.specs.Ready.{Is}
+use Rattle.plane.specs.Inner.{Is}
 
 pub sum-same : (f g : ℕ → ℕ) (n : ℕ) → ((i : ℕ) → i < n → f i ≡ g i) → sum f n ≡ sum g n
 sum-same f g zero h = refl

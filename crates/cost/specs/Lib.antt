@@ -1,2 +1,2 @@
 pub mod Cost
-pub mod Ready
+pub mod Inner

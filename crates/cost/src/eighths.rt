@@ -1,13 +1,14 @@
 // The cost between pels: 16×16, bilinear at eighths (`sad_subpel`).
 ghost use mathlib.Core.Path.{_≡_};
-ghost use Prim.Native.Nat.{_+_};
-ghost use Rattle.pels.specs.Clamp.{offset};
-ghost use Rattle.pels.specs.Ready.{Is, Near};
+ghost use Rattle.plane.specs.Plane.{down, right};
+ghost use Rattle.plane.specs.Clamp.{offset};
+ghost use Rattle.plane.specs.Inner.{Inside, Is, Near};
 ghost use Rattle.cost.specs.Cost as cost;
 ghost use Rattle.cost.specs.Cost.{bilinear, predicted, bilinearRowCost, bilinearCost, eighthsCost};
-ghost use Rattle.cost.specs.Ready.{bilinearDifference, Planes, RowAt, BlockAt, Inside, BilinearRows, Fractions, Weighable};
-
-const BLOCK: usize = 16;
+ghost use Rattle.cost.specs.Inner.{bilinearDifference, Planes, RowAt, BlockAt, BilinearRows, Fractions, Weighable};
+use plane::BLOCK;
+use plane::Offset;
+use plane::Place;
 
 // A row of pels that 16 are predicted from.
 const ROW: usize = 17;
@@ -44,7 +45,7 @@ fn row_of_16(input: &[u16], top: &[u16], bottom: &[u16], fy: u32, fx: u32) -> u3
     let mut cost: u32 = 0;
     let mut j = 0;
     while j < BLOCK {
-        cost += pels::absolute_difference(
+        cost += plane::absolute_difference(
             input[j],
             blend(top[j], top[j + 1], bottom[j], bottom[j + 1], fy, fx),
         );
@@ -53,27 +54,20 @@ fn row_of_16(input: &[u16], top: &[u16], bottom: &[u16], fy: u32, fx: u32) -> u3
     cost
 }
 
-fn inside_row(
-    input: &[u16],
-    reference: &[u16],
-    width: usize,
-    height: usize,
-    r: usize,
-    c: usize,
-    y: usize,
-    x: usize,
-    fy: u32,
-    fx: u32,
-) -> u32
-    requires { ⌜ Planes (now input) (now reference) width height ⌝ }
-    requires { ⌜ RowAt 16 width height r c y x ⌝ }
-    requires { ⌜ Inside 17 width c x 28 ⌝ }
+fn inside_row(input: &[u16], reference: &[u16], place: Place, by: Offset, fy: u32, fx: u32) -> u32
+    requires { ⌜ Planes (now input) (now reference) place ⌝ }
+    requires { ⌜ RowAt 16 place by ⌝ }
+    requires { ⌜ Inside 17 place (by .x) 28 ⌝ }
     requires { ⌜ Fractions fy fx ⌝ }
-    ensures { λ s. ⌜ Is (bilinearRowCost 16 (now (input .entry)) (now (reference .entry)) width height r c (offset 28 y) (offset 28 x) fy fx) 1048560 s ⌝ }
+    ensures { λ s. ⌜ Is (bilinearRowCost 16 (now (input .entry)) (now (reference .entry)) place (offset 28 (by .y)) (offset 28 (by .x)) fy fx) 1048560 s ⌝ }
 {
-    let a = pels::row_start(BLOCK, width, height, r, c);
-    let top = pels::displaced_start(ROW, width, height, r, c, y, x, WHOLE_BIAS);
-    let bottom = pels::displaced_start(ROW, width, height, r + 1, c, y, x, WHOLE_BIAS);
+    let a = plane::row_start(BLOCK, place);
+    let top = plane::displaced_start(ROW, place, by, WHOLE_BIAS);
+    let below = Place {
+        r: place.r + 1,
+        ..place
+    };
+    let bottom = plane::displaced_start(ROW, below, by, WHOLE_BIAS);
     row_of_16(
         &input[a..a + BLOCK],
         &reference[top..top + ROW],
@@ -83,80 +77,68 @@ fn inside_row(
     )
 }
 
-fn clamped_pel(
-    reference: &[u16],
-    width: usize,
-    height: usize,
-    r: usize,
-    c: usize,
-    y: usize,
-    x: usize,
-    fy: u32,
-    fx: u32,
-) -> u16
-    requires { ⌜ Near (now reference) width height (r + 1) (c + 1) y x ⌝ }
+fn clamped_pel(reference: &[u16], place: Place, by: Offset, fy: u32, fx: u32) -> u16
+    requires { ⌜ Near (now reference) (right (down place 1) 1) by ⌝ }
     requires { ⌜ Fractions fy fx ⌝ }
-    ensures { λ s. ⌜ s ≡ predicted (now (reference .entry)) width height r c (offset 28 y) (offset 28 x) fy fx ⌝ }
+    ensures { λ s. ⌜ s ≡ predicted (now (reference .entry)) place (offset 28 (by .y)) (offset 28 (by .x)) fy fx ⌝ }
 {
-    let p00 = pels::displaced(reference, width, height, r, c, y, x, WHOLE_BIAS);
-    let p01 = pels::displaced(reference, width, height, r, c + 1, y, x, WHOLE_BIAS);
-    let p10 = pels::displaced(reference, width, height, r + 1, c, y, x, WHOLE_BIAS);
-    let p11 = pels::displaced(reference, width, height, r + 1, c + 1, y, x, WHOLE_BIAS);
+    let p00 = plane::displaced(reference, place, by, WHOLE_BIAS);
+    let next = Place {
+        c: place.c + 1,
+        ..place
+    };
+    let p01 = plane::displaced(reference, next, by, WHOLE_BIAS);
+    let below = Place {
+        r: place.r + 1,
+        ..place
+    };
+    let p10 = plane::displaced(reference, below, by, WHOLE_BIAS);
+    let last = Place {
+        c: below.c + 1,
+        ..below
+    };
+    let p11 = plane::displaced(reference, last, by, WHOLE_BIAS);
     blend(p00, p01, p10, p11, fy, fx)
 }
 
-fn clamped_row(
-    input: &[u16],
-    reference: &[u16],
-    width: usize,
-    height: usize,
-    r: usize,
-    c: usize,
-    y: usize,
-    x: usize,
-    fy: u32,
-    fx: u32,
-) -> u32
-    requires { ⌜ Planes (now input) (now reference) width height ⌝ }
-    requires { ⌜ RowAt 16 width height r c y x ⌝ }
+fn clamped_row(input: &[u16], reference: &[u16], place: Place, by: Offset, fy: u32, fx: u32) -> u32
+    requires { ⌜ Planes (now input) (now reference) place ⌝ }
+    requires { ⌜ RowAt 16 place by ⌝ }
     requires { ⌜ Fractions fy fx ⌝ }
-    ensures { λ s. ⌜ Is (bilinearRowCost 16 (now (input .entry)) (now (reference .entry)) width height r c (offset 28 y) (offset 28 x) fy fx) 1048560 s ⌝ }
+    ensures { λ s. ⌜ Is (bilinearRowCost 16 (now (input .entry)) (now (reference .entry)) place (offset 28 (by .y)) (offset 28 (by .x)) fy fx) 1048560 s ⌝ }
 {
-    let first = pels::row_start(BLOCK, width, height, r, c);
+    let first = plane::row_start(BLOCK, place);
     let mut cost: u32 = 0;
     let mut j = 0;
     while j < BLOCK {
-        cost += pels::absolute_difference(
+        let next = Place {
+            c: place.c + j,
+            ..place
+        };
+        cost += plane::absolute_difference(
             input[first + j],
-            clamped_pel(reference, width, height, r, c + j, y, x, fy, fx),
+            clamped_pel(reference, next, by, fy, fx),
         );
         j += 1;
     }
     cost
 }
 
-fn inside_block(
-    input: &[u16],
-    reference: &[u16],
-    width: usize,
-    height: usize,
-    r: usize,
-    c: usize,
-    y: usize,
-    x: usize,
-    fy: u32,
-    fx: u32,
-) -> u32
-    requires { ⌜ Planes (now input) (now reference) width height ⌝ }
-    requires { ⌜ BlockAt 16 width height r c y x ⌝ }
-    requires { ⌜ Inside 17 width c x 28 ⌝ }
+fn inside_block(input: &[u16], reference: &[u16], place: Place, by: Offset, fy: u32, fx: u32) -> u32
+    requires { ⌜ Planes (now input) (now reference) place ⌝ }
+    requires { ⌜ BlockAt 16 place by ⌝ }
+    requires { ⌜ Inside 17 place (by .x) 28 ⌝ }
     requires { ⌜ Fractions fy fx ⌝ }
-    ensures { λ s. ⌜ Is (bilinearCost 16 (now (input .entry)) (now (reference .entry)) width height r c (offset 28 y) (offset 28 x) fy fx) 16776960 s ⌝ }
+    ensures { λ s. ⌜ Is (bilinearCost 16 (now (input .entry)) (now (reference .entry)) place (offset 28 (by .y)) (offset 28 (by .x)) fy fx) 16776960 s ⌝ }
 {
     let mut cost: u32 = 0;
     let mut i = 0;
     while i < BLOCK {
-        cost += inside_row(input, reference, width, height, r + i, c, y, x, fy, fx);
+        let row = Place {
+            r: place.r + i,
+            ..place
+        };
+        cost += inside_row(input, reference, row, by, fy, fx);
         i += 1;
     }
     cost
@@ -165,52 +147,45 @@ fn inside_block(
 fn clamped_block(
     input: &[u16],
     reference: &[u16],
-    width: usize,
-    height: usize,
-    r: usize,
-    c: usize,
-    y: usize,
-    x: usize,
+    place: Place,
+    by: Offset,
     fy: u32,
     fx: u32,
 ) -> u32
-    requires { ⌜ Planes (now input) (now reference) width height ⌝ }
-    requires { ⌜ BlockAt 16 width height r c y x ⌝ }
+    requires { ⌜ Planes (now input) (now reference) place ⌝ }
+    requires { ⌜ BlockAt 16 place by ⌝ }
     requires { ⌜ Fractions fy fx ⌝ }
-    ensures { λ s. ⌜ Is (bilinearCost 16 (now (input .entry)) (now (reference .entry)) width height r c (offset 28 y) (offset 28 x) fy fx) 16776960 s ⌝ }
+    ensures { λ s. ⌜ Is (bilinearCost 16 (now (input .entry)) (now (reference .entry)) place (offset 28 (by .y)) (offset 28 (by .x)) fy fx) 16776960 s ⌝ }
 {
     let mut cost: u32 = 0;
     let mut i = 0;
     while i < BLOCK {
-        cost += clamped_row(input, reference, width, height, r + i, c, y, x, fy, fx);
+        let row = Place {
+            r: place.r + i,
+            ..place
+        };
+        cost += clamped_row(input, reference, row, by, fy, fx);
         i += 1;
     }
     cost
 }
 
-// The cost of the 16×16 block at row r, column c, the motion in eighths plus 223 being (v, u).
-pub fn sad_subpel(
-    input: &[u16],
-    reference: &[u16],
-    width: usize,
-    height: usize,
-    r: usize,
-    c: usize,
-    v: usize,
-    u: usize,
-) -> u32
-    requires { ⌜ Planes (now input) (now reference) width height ⌝ }
-    requires { ⌜ BlockAt 16 width height r c v u ⌝ }
-    ensures { λ s. ⌜ Is (eighthsCost (now (input .entry)) (now (reference .entry)) width height r c (offset 223 v) (offset 223 u)) 16776960 s ⌝ }
+// The cost of the 16×16 block at a place, the motion in eighths biased by 223.
+pub fn sad_subpel(input: &[u16], reference: &[u16], place: Place, motion: Offset) -> u32
+    requires { ⌜ Planes (now input) (now reference) place ⌝ }
+    requires { ⌜ BlockAt 16 place motion ⌝ }
+    ensures { λ s. ⌜ Is (eighthsCost (now (input .entry)) (now (reference .entry)) place (offset 223 (motion .y)) (offset 223 (motion .x))) 16776960 s ⌝ }
 {
-    let y = (v + 1) / EIGHTHS;
-    let x = (u + 1) / EIGHTHS;
-    let fy = ((v + 1) % EIGHTHS) as u32;
-    let fx = ((u + 1) % EIGHTHS) as u32;
-    if WHOLE_BIAS <= c + x {
-        if c + x + BLOCK < width + WHOLE_BIAS {
-            return inside_block(input, reference, width, height, r, c, y, x, fy, fx);
+    let by = Offset {
+        y: (motion.y + 1) / EIGHTHS,
+        x: (motion.x + 1) / EIGHTHS,
+    };
+    let fy = ((motion.y + 1) % EIGHTHS) as u32;
+    let fx = ((motion.x + 1) % EIGHTHS) as u32;
+    if WHOLE_BIAS <= place.c + by.x {
+        if place.c + by.x + BLOCK < place.width + WHOLE_BIAS {
+            return inside_block(input, reference, place, by, fy, fx);
         }
     }
-    clamped_block(input, reference, width, height, r, c, y, x, fy, fx)
+    clamped_block(input, reference, place, by, fy, fx)
 }

@@ -1,20 +1,20 @@
 // Costs by whole pels: 8×8 on half planes (`sad_half`) and 16×16 on planes (`sad_int`).
 // A block whose displaced columns lie inside the plane goes by rows of constant width.
 ghost use Prim.Native.Nat.{_*_, _≤_};
-ghost use Rattle.pels.specs.Clamp.{offset};
-ghost use Rattle.pels.specs.Ready.{Is};
+ghost use Rattle.plane.specs.Clamp.{offset};
+ghost use Rattle.plane.specs.Inner.{Inside, Is};
 ghost use Rattle.cost.specs.Cost.{rowCost, blockCost};
-ghost use Rattle.cost.specs.Ready.{rowDifference, Planes, RowAt, BlockAt, Inside, Rows};
-
-const HALF_BLOCK: usize = 8;
-
-const BLOCK: usize = 16;
+ghost use Rattle.cost.specs.Inner.{rowDifference, Planes, RowAt, BlockAt, Rows};
+use plane::BLOCK;
+use plane::HALF_BLOCK;
+use plane::Offset;
+use plane::Place;
 
 // The coarse offsets are −12 to 12.
-const COARSE_BIAS: usize = 12;
+pub const COARSE_BIAS: usize = 12;
 
 // The full-pel offsets are −27 to 27: twice a coarse one, and 3 more.
-const FULL_BIAS: usize = 27;
+pub const FULL_BIAS: usize = 27;
 
 fn row_of_8(a: &[u16], b: &[u16]) -> u32
     requires { ⌜ Rows 8 (now a) (now b) ⌝ }
@@ -23,7 +23,7 @@ fn row_of_8(a: &[u16], b: &[u16]) -> u32
     let mut cost: u32 = 0;
     let mut j = 0;
     while j < HALF_BLOCK {
-        cost += pels::absolute_difference(a[j], b[j]);
+        cost += plane::absolute_difference(a[j], b[j]);
         j += 1;
     }
     cost
@@ -36,49 +36,31 @@ fn row_of_16(a: &[u16], b: &[u16]) -> u32
     let mut cost: u32 = 0;
     let mut j = 0;
     while j < BLOCK {
-        cost += pels::absolute_difference(a[j], b[j]);
+        cost += plane::absolute_difference(a[j], b[j]);
         j += 1;
     }
     cost
 }
 
-fn half_row(
-    input: &[u16],
-    reference: &[u16],
-    width: usize,
-    height: usize,
-    r: usize,
-    c: usize,
-    y: usize,
-    x: usize,
-) -> u32
-    requires { ⌜ Planes (now input) (now reference) width height ⌝ }
-    requires { ⌜ RowAt 8 width height r c y x ⌝ }
-    requires { ⌜ Inside 8 width c x 12 ⌝ }
-    ensures { λ s. ⌜ Is (rowCost 8 (now (input .entry)) (now (reference .entry)) width height r c (offset 12 y) (offset 12 x)) 524280 s ⌝ }
+fn half_row(input: &[u16], reference: &[u16], place: Place, by: Offset) -> u32
+    requires { ⌜ Planes (now input) (now reference) place ⌝ }
+    requires { ⌜ RowAt 8 place by ⌝ }
+    requires { ⌜ Inside 8 place (by .x) 12 ⌝ }
+    ensures { λ s. ⌜ Is (rowCost 8 (now (input .entry)) (now (reference .entry)) place (offset 12 (by .y)) (offset 12 (by .x))) 524280 s ⌝ }
 {
-    let a = pels::row_start(HALF_BLOCK, width, height, r, c);
-    let b = pels::displaced_start(HALF_BLOCK, width, height, r, c, y, x, COARSE_BIAS);
+    let a = plane::row_start(HALF_BLOCK, place);
+    let b = plane::displaced_start(HALF_BLOCK, place, by, COARSE_BIAS);
     row_of_8(&input[a..a + HALF_BLOCK], &reference[b..b + HALF_BLOCK])
 }
 
-fn int_row(
-    input: &[u16],
-    reference: &[u16],
-    width: usize,
-    height: usize,
-    r: usize,
-    c: usize,
-    y: usize,
-    x: usize,
-) -> u32
-    requires { ⌜ Planes (now input) (now reference) width height ⌝ }
-    requires { ⌜ RowAt 16 width height r c y x ⌝ }
-    requires { ⌜ Inside 16 width c x 27 ⌝ }
-    ensures { λ s. ⌜ Is (rowCost 16 (now (input .entry)) (now (reference .entry)) width height r c (offset 27 y) (offset 27 x)) 1048560 s ⌝ }
+fn int_row(input: &[u16], reference: &[u16], place: Place, by: Offset) -> u32
+    requires { ⌜ Planes (now input) (now reference) place ⌝ }
+    requires { ⌜ RowAt 16 place by ⌝ }
+    requires { ⌜ Inside 16 place (by .x) 27 ⌝ }
+    ensures { λ s. ⌜ Is (rowCost 16 (now (input .entry)) (now (reference .entry)) place (offset 27 (by .y)) (offset 27 (by .x))) 1048560 s ⌝ }
 {
-    let a = pels::row_start(BLOCK, width, height, r, c);
-    let b = pels::displaced_start(BLOCK, width, height, r, c, y, x, FULL_BIAS);
+    let a = plane::row_start(BLOCK, place);
+    let b = plane::displaced_start(BLOCK, place, by, FULL_BIAS);
     row_of_16(&input[a..a + BLOCK], &reference[b..b + BLOCK])
 }
 
@@ -87,74 +69,64 @@ fn clamped_row(
     n: usize,
     input: &[u16],
     reference: &[u16],
-    width: usize,
-    height: usize,
-    r: usize,
-    c: usize,
-    y: usize,
-    x: usize,
+    place: Place,
+    by: Offset,
     bias: usize,
 ) -> u32
-    requires { ⌜ Planes (now input) (now reference) width height ⌝ }
-    requires { ⌜ RowAt n width height r c y x ⌝ }
-    ensures { λ s. ⌜ Is (rowCost n (now (input .entry)) (now (reference .entry)) width height r c (offset bias y) (offset bias x)) (65535 * n) s ⌝ }
+    requires { ⌜ Planes (now input) (now reference) place ⌝ }
+    requires { ⌜ RowAt n place by ⌝ }
+    ensures { λ s. ⌜ Is (rowCost n (now (input .entry)) (now (reference .entry)) place (offset bias (by .y)) (offset bias (by .x))) (65535 * n) s ⌝ }
 {
-    let first = pels::row_start(n, width, height, r, c);
+    let first = plane::row_start(n, place);
     let mut cost: u32 = 0;
     let mut j = 0;
     while j < n {
-        cost += pels::absolute_difference(
+        let next = Place {
+            c: place.c + j,
+            ..place
+        };
+        cost += plane::absolute_difference(
             input[first + j],
-            pels::displaced(reference, width, height, r, c + j, y, x, bias),
+            plane::displaced(reference, next, by, bias),
         );
         j += 1;
     }
     cost
 }
 
-fn inside_half(
-    input: &[u16],
-    reference: &[u16],
-    width: usize,
-    height: usize,
-    r: usize,
-    c: usize,
-    y: usize,
-    x: usize,
-) -> u32
-    requires { ⌜ Planes (now input) (now reference) width height ⌝ }
-    requires { ⌜ BlockAt 8 width height r c y x ⌝ }
-    requires { ⌜ Inside 8 width c x 12 ⌝ }
-    ensures { λ s. ⌜ Is (blockCost 8 (now (input .entry)) (now (reference .entry)) width height r c (offset 12 y) (offset 12 x)) 16776960 s ⌝ }
+fn inside_half(input: &[u16], reference: &[u16], place: Place, by: Offset) -> u32
+    requires { ⌜ Planes (now input) (now reference) place ⌝ }
+    requires { ⌜ BlockAt 8 place by ⌝ }
+    requires { ⌜ Inside 8 place (by .x) 12 ⌝ }
+    ensures { λ s. ⌜ Is (blockCost 8 (now (input .entry)) (now (reference .entry)) place (offset 12 (by .y)) (offset 12 (by .x))) 16776960 s ⌝ }
 {
     let mut cost: u32 = 0;
     let mut i = 0;
     while i < HALF_BLOCK {
-        cost += half_row(input, reference, width, height, r + i, c, y, x);
+        let row = Place {
+            r: place.r + i,
+            ..place
+        };
+        cost += half_row(input, reference, row, by);
         i += 1;
     }
     cost
 }
 
-fn inside_int(
-    input: &[u16],
-    reference: &[u16],
-    width: usize,
-    height: usize,
-    r: usize,
-    c: usize,
-    y: usize,
-    x: usize,
-) -> u32
-    requires { ⌜ Planes (now input) (now reference) width height ⌝ }
-    requires { ⌜ BlockAt 16 width height r c y x ⌝ }
-    requires { ⌜ Inside 16 width c x 27 ⌝ }
-    ensures { λ s. ⌜ Is (blockCost 16 (now (input .entry)) (now (reference .entry)) width height r c (offset 27 y) (offset 27 x)) 16776960 s ⌝ }
+fn inside_int(input: &[u16], reference: &[u16], place: Place, by: Offset) -> u32
+    requires { ⌜ Planes (now input) (now reference) place ⌝ }
+    requires { ⌜ BlockAt 16 place by ⌝ }
+    requires { ⌜ Inside 16 place (by .x) 27 ⌝ }
+    ensures { λ s. ⌜ Is (blockCost 16 (now (input .entry)) (now (reference .entry)) place (offset 27 (by .y)) (offset 27 (by .x))) 16776960 s ⌝ }
 {
     let mut cost: u32 = 0;
     let mut i = 0;
     while i < BLOCK {
-        cost += int_row(input, reference, width, height, r + i, c, y, x);
+        let row = Place {
+            r: place.r + i,
+            ..place
+        };
+        cost += int_row(input, reference, row, by);
         i += 1;
     }
     cost
@@ -164,92 +136,52 @@ fn clamped_block(
     n: usize,
     input: &[u16],
     reference: &[u16],
-    width: usize,
-    height: usize,
-    r: usize,
-    c: usize,
-    y: usize,
-    x: usize,
+    place: Place,
+    by: Offset,
     bias: usize,
 ) -> u32
-    requires { ⌜ Planes (now input) (now reference) width height ⌝ }
-    requires { ⌜ BlockAt n width height r c y x ⌝ }
+    requires { ⌜ Planes (now input) (now reference) place ⌝ }
+    requires { ⌜ BlockAt n place by ⌝ }
     requires { ⌜ n ≤ 16 ⌝ }
-    ensures { λ s. ⌜ Is (blockCost n (now (input .entry)) (now (reference .entry)) width height r c (offset bias y) (offset bias x)) 16776960 s ⌝ }
+    ensures { λ s. ⌜ Is (blockCost n (now (input .entry)) (now (reference .entry)) place (offset bias (by .y)) (offset bias (by .x))) 16776960 s ⌝ }
 {
     let mut cost: u32 = 0;
     let mut i = 0;
     while i < n {
-        cost += clamped_row(n, input, reference, width, height, r + i, c, y, x, bias);
+        let row = Place {
+            r: place.r + i,
+            ..place
+        };
+        cost += clamped_row(n, input, reference, row, by, bias);
         i += 1;
     }
     cost
 }
 
-// The cost of the 8×8 block at row r, column c of two half planes, the offset plus 12 being (y, x).
-pub fn sad_half(
-    input: &[u16],
-    reference: &[u16],
-    width: usize,
-    height: usize,
-    r: usize,
-    c: usize,
-    y: usize,
-    x: usize,
-) -> u32
-    requires { ⌜ Planes (now input) (now reference) width height ⌝ }
-    requires { ⌜ BlockAt 8 width height r c y x ⌝ }
-    ensures { λ s. ⌜ Is (blockCost 8 (now (input .entry)) (now (reference .entry)) width height r c (offset 12 y) (offset 12 x)) 16776960 s ⌝ }
+// The cost of the 8×8 block at a place of two half planes, the offset biased by 12.
+pub fn sad_half(input: &[u16], reference: &[u16], place: Place, by: Offset) -> u32
+    requires { ⌜ Planes (now input) (now reference) place ⌝ }
+    requires { ⌜ BlockAt 8 place by ⌝ }
+    ensures { λ s. ⌜ Is (blockCost 8 (now (input .entry)) (now (reference .entry)) place (offset 12 (by .y)) (offset 12 (by .x))) 16776960 s ⌝ }
 {
-    if COARSE_BIAS <= c + x {
-        if c + x + HALF_BLOCK <= width + COARSE_BIAS {
-            return inside_half(input, reference, width, height, r, c, y, x);
+    if COARSE_BIAS <= place.c + by.x {
+        if place.c + by.x + HALF_BLOCK <= place.width + COARSE_BIAS {
+            return inside_half(input, reference, place, by);
         }
     }
-    clamped_block(
-        HALF_BLOCK,
-        input,
-        reference,
-        width,
-        height,
-        r,
-        c,
-        y,
-        x,
-        COARSE_BIAS,
-    )
+    clamped_block(HALF_BLOCK, input, reference, place, by, COARSE_BIAS)
 }
 
-// The cost of the 16×16 block at row r, column c of two planes, the offset plus 27 being (y, x).
-pub fn sad_int(
-    input: &[u16],
-    reference: &[u16],
-    width: usize,
-    height: usize,
-    r: usize,
-    c: usize,
-    y: usize,
-    x: usize,
-) -> u32
-    requires { ⌜ Planes (now input) (now reference) width height ⌝ }
-    requires { ⌜ BlockAt 16 width height r c y x ⌝ }
-    ensures { λ s. ⌜ Is (blockCost 16 (now (input .entry)) (now (reference .entry)) width height r c (offset 27 y) (offset 27 x)) 16776960 s ⌝ }
+// The cost of the 16×16 block at a place of two planes, the offset biased by 27.
+pub fn sad_int(input: &[u16], reference: &[u16], place: Place, by: Offset) -> u32
+    requires { ⌜ Planes (now input) (now reference) place ⌝ }
+    requires { ⌜ BlockAt 16 place by ⌝ }
+    ensures { λ s. ⌜ Is (blockCost 16 (now (input .entry)) (now (reference .entry)) place (offset 27 (by .y)) (offset 27 (by .x))) 16776960 s ⌝ }
 {
-    if FULL_BIAS <= c + x {
-        if c + x + BLOCK <= width + FULL_BIAS {
-            return inside_int(input, reference, width, height, r, c, y, x);
+    if FULL_BIAS <= place.c + by.x {
+        if place.c + by.x + BLOCK <= place.width + FULL_BIAS {
+            return inside_int(input, reference, place, by);
         }
     }
-    clamped_block(
-        BLOCK,
-        input,
-        reference,
-        width,
-        height,
-        r,
-        c,
-        y,
-        x,
-        FULL_BIAS,
-    )
+    clamped_block(BLOCK, input, reference, place, by, FULL_BIAS)
 }

@@ -2,8 +2,8 @@
 // Prints what the job reports, its header in hexadecimal and its blocks as the list program does; then
 // reads both back and says whether they agree with the report.
 ghost use Prim.Native.Nat.{_≤_, _<_};
-use job_outcome::Report;
-use job_task::Settings;
+use job::Report;
+use job::Settings;
 use libc::STDOUT_FILENO;
 
 const SIDE: usize = 64;

@@ -2,5 +2,6 @@ pub mod Signs
 pub mod Nearest
 pub mod Fixed
 pub mod Table
+pub mod Slots
 pub mod Symbols
 pub mod Bounds

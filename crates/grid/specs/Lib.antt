@@ -1,3 +1,5 @@
 pub mod Grid
 pub mod Nearest
+pub mod Slots
 pub mod Symbols
+pub mod Inner

@@ -1,13 +1,13 @@
 -- A codable number as a header carries it: its symbol, which is the ordinal plus 2 ^ absBits; and the place of a prior among the symbols.
 -- Document 01, 'Reading by the standard'; clauses 5.9.25 and 5.9.26.
 -- Assumes nothing.
-use Prim.Native.Nat.{ℕ, _+_, _*_, _/_, _^_, _≤_, _<_}
+use Prim.Native.Nat.{ℕ, _+_, _*_, _^_}
 use mathlib.Core.Bool.{Bool}
 use lib.Dec.{ltb, eqb}
 use lib.IntN.{ℤ, pos, natAbs, _+ℤ_, _-ℤ_}
 use lib.Signed.{shrZ}
 use Rattle.laws.specs.Refusal.{choose, either}
-use Rattle.grid.specs.Grid.{step, number, ordinalOf, centre, Row}
+use Rattle.grid.specs.Grid.{step, number, ordinalOf, absBits, precBits, centre}
 
 -- how many symbols a slot has: the S of document 01
 abbrev pub symbols : ℕ → ℕ
@@ -33,6 +33,10 @@ placeNumber abs prec slot z = shrZ z (step prec) -ℤ pos (lessOf prec slot) +�
 unfoldable pub placeOf : ℕ → ℕ → ℕ → ℤ → ℕ
 placeOf abs prec slot z = natAbs (placeNumber abs prec slot z)
 
+-- p of the slot of a type
+abbrev pub place : ℕ → ℕ → ℕ → ℤ → ℕ
+place gmType flag slot q = placeOf (absBits gmType flag slot) (precBits gmType flag slot) slot q
+
 -- how far a prior may be from the centre of its slot
 abbrev pub priorReach : ℕ → ℕ
 priorReach slot = choose (ltb slot 2) 4194304 8192
@@ -40,18 +44,3 @@ priorReach slot = choose (ltb slot 2) 4194304 8192
 -- row 8: a prior out of range
 abbrev pub priorOut : ℕ → ℤ → Bool
 priorOut slot z = ltb (priorReach slot) (natAbs (z -ℤ pos (centre slot)))
-
--- ---- what the code asks and answers
-
-pub record Symbol (abs prec c t : ℕ) : Type 0 where
-  pub row : Row abs prec
-  pub centred : c ≤ 65536
-  pub below : t < symbols abs
-
-pub record Prior (abs prec c : ℕ) (z : ℤ) : Type 0 where
-  pub row : Row abs prec
-  pub reach : natAbs (z -ℤ pos c) ≤ 2 ^ abs * step prec
-
--- the place, counted in steps from the least codable number: for a prior in range it is `placeOf`
-abbrev pub placeCode : ℕ → ℕ → ℕ → ℤ → ℕ
-placeCode abs prec c z = natAbs ((z -ℤ pos c) +ℤ pos (2 ^ abs * step prec)) / step prec

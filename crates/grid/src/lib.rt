@@ -4,18 +4,43 @@
 ghost use mathlib.Core.Path.{_≡_};
 ghost use Prim.Native.Nat.{_*_, _^_, _<_, _≤_};
 ghost use lib.IntN.{pos, natAbs, _-ℤ_, _+ℤ_, _*ℤ_};
-ghost use Rattle.grid.specs.Grid.{paramBits, centre, negative, step, nearestOrdinal, signed, quantize, quantized, Row, rejected, answer};
-ghost use Rattle.grid.specs.Symbols.{symbols, symbolOf, numberOf, placeCode, Symbol, Prior};
+ghost use Rattle.grid.specs.Grid.{paramBits, absBits, precBits, centre, negative, step, nearestOrdinal, signed, quantize, quantized, Row, rejected, answer};
+ghost use Rattle.grid.specs.Symbols.{symbols, symbolOf, numberOf};
+ghost use Rattle.grid.specs.Inner.{Symbol, Prior, placeCode, PriorIn, SymbolsIs, SymbolIs, SlotsIs};
 
 // Fraction bits of a model's numbers.
 const WARPEDMODEL_PREC_BITS: u32 = 16;
 
-const TRANSLATION: u8 = 1;
+// The types of a model.
+pub const IDENTITY: u8 = 0;
+
+pub const TRANSLATION: u8 = 1;
+
+pub const ROTZOOM: u8 = 2;
+
+pub const AFFINE: u8 = 3;
+
+// Rows of document 01's table.
+const NO_SUCH_CODE: u32 = 4;
+
+const NO_SUCH_SLOT: u32 = 5;
 
 // absBits and precBits of a slot.
 pub struct ParamBits {
     pub abs_bits: u32,
     pub prec_bits: u32,
+}
+
+// S, and the place of the prior.
+pub struct SlotSymbols {
+    pub mx: u32,
+    pub r: u32,
+}
+
+// The slots that a type carries, in the order of reading: the first `count` of `order`.
+pub struct SlotOrder {
+    pub count: usize,
+    pub order: [u8; 6],
 }
 
 // A row of the table of refusals (0: none), and the quantized number.
@@ -170,7 +195,7 @@ fn reach_of(abs_bits: u32, prec_bits: u32) -> u64
 }
 
 // The symbol of a number: its nearest ordinal plus 2 ^ absBits.
-pub fn symbol_of(abs_bits: u32, prec_bits: u32, round: u32, value: i32) -> u32
+fn symbol_among(abs_bits: u32, prec_bits: u32, round: u32, value: i32) -> u32
     requires { ⌜ Row «abs_bits» «prec_bits» ⌝ }
     ensures { λ r. ⌜ r ≡ symbolOf «abs_bits» «prec_bits» round value ⌝ }
 {
@@ -180,7 +205,7 @@ pub fn symbol_of(abs_bits: u32, prec_bits: u32, round: u32, value: i32) -> u32
 }
 
 // The place of a prior in range among a slot's symbols.
-pub fn place_of(abs_bits: u32, prec_bits: u32, round: u32, prior: i32) -> u32
+fn place_among(abs_bits: u32, prec_bits: u32, round: u32, prior: i32) -> u32
     requires { ⌜ Prior «abs_bits» «prec_bits» round prior ⌝ }
     ensures { λ r. ⌜ r ≡ placeCode «abs_bits» «prec_bits» round prior ⌝ }
 {
@@ -205,11 +230,59 @@ fn from_middle(abs_bits: u32, prec_bits: u32, symbol: u32) -> i64
 }
 
 // The number that a symbol stands for.
-pub fn number_of(abs_bits: u32, prec_bits: u32, round: u32, symbol: u32) -> i32
+fn number_among(abs_bits: u32, prec_bits: u32, round: u32, symbol: u32) -> i32
     requires { ⌜ Symbol «abs_bits» «prec_bits» round symbol ⌝ }
     ensures { λ r. ⌜ r ≡ numberOf «abs_bits» «prec_bits» round symbol ⌝ }
 {
     to_centre(from_middle(abs_bits, prec_bits, symbol), round)
+}
+
+// S of a slot, and where its prior stands.
+pub fn symbols_of(gm_type: u8, flag: u8, slot: u8, prior: i32) -> SlotSymbols
+    requires { ⌜ PriorIn slot prior ⌝ }
+    ensures { λ r. ⌜ SymbolsIs «gm_type» flag slot prior r ⌝ }
+{
+    let bits = global_param_bits(gm_type, flag, slot);
+    SlotSymbols {
+        mx: (2 * power_of_two(bits.abs_bits) + 1) as u32,
+        r: place_among(bits.abs_bits, bits.prec_bits, centre_of(slot), prior),
+    }
+}
+
+// The symbol of a slot's number.
+pub fn symbol_of(gm_type: u8, flag: u8, slot: u8, value: i32) -> u32
+    ensures { λ r. ⌜ SymbolIs «gm_type» flag slot value r ⌝ }
+{
+    let bits = global_param_bits(gm_type, flag, slot);
+    symbol_among(bits.abs_bits, bits.prec_bits, centre_of(slot), value)
+}
+
+// The number that a symbol of a slot stands for.
+pub fn number_of(gm_type: u8, flag: u8, slot: u8, symbol: u32) -> i32
+    requires { ⌜ symbol < symbols (absBits «gm_type» flag slot) ⌝ }
+    ensures { λ r. ⌜ r ≡ numberOf (absBits «gm_type» flag slot) (precBits «gm_type» flag slot) (centre slot) symbol ⌝ }
+{
+    let bits = global_param_bits(gm_type, flag, slot);
+    number_among(bits.abs_bits, bits.prec_bits, centre_of(slot), symbol)
+}
+
+pub fn slots_of(gm_type: u8) -> SlotOrder
+    ensures { λ r. ⌜ SlotsIs «gm_type» r ⌝ }
+{
+    if gm_type == IDENTITY {
+        let order = [0, 0, 0, 0, 0, 0];
+        return SlotOrder { count: 0, order };
+    }
+    if gm_type == TRANSLATION {
+        let order = [0, 1, 0, 0, 0, 0];
+        return SlotOrder { count: 2, order };
+    }
+    if gm_type == ROTZOOM {
+        let order = [2, 3, 0, 1, 0, 0];
+        return SlotOrder { count: 4, order };
+    }
+    let order = [2, 3, 4, 5, 0, 1];
+    SlotOrder { count: 6, order }
 }
 
 // The nearest codable number of a slot.
@@ -232,14 +305,14 @@ fn refused(number: u32) -> Quantized
 pub fn quantize_global_param(gm_type: u8, flag: u8, slot: u8, value: i32) -> Quantized
     ensures { λ r. ⌜ r ≡ answer «gm_type» flag slot value ⌝ }
 {
-    if 3 < gm_type {
-        return refused(4);
+    if AFFINE < gm_type {
+        return refused(NO_SUCH_CODE);
     }
     if 1 < flag {
-        return refused(4);
+        return refused(NO_SUCH_CODE);
     }
     if 5 < slot {
-        return refused(5);
+        return refused(NO_SUCH_SLOT);
     }
     Quantized {
         refusal: 0,

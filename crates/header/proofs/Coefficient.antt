@@ -11,10 +11,10 @@ use Rattle.bits.specs.Ns.{Taken}
 use Rattle.subexp.specs.Coefficient.{symbol, symbolBits}
 use Rattle.subexp.proofs.Coefficient.{symbol-read, symbol-within, symbolBits-are-bits, four-bits-at-least, twice-absBits-less-one-at-most}
 use Rattle.grid.specs.Grid.{absBits, precBits, centre, Codable}
-use Rattle.grid.specs.Symbols.{symbols, symbolOf, numberOf, priorOut}
+use Rattle.grid.specs.Symbols.{symbols, symbolOf, numberOf, place, priorOut}
 use Rattle.grid.proofs.Symbols.{symbol-below, symbol-stands, number-codable, row-place-below}
 use Rattle.grid.proofs.Table.{absBits-range}
-use Rattle.header.specs.Coefficient.{place, coefficient, coefficientBits}
+use Rattle.header.specs.Coefficient.{coefficient, coefficientBits}
 
 module _ (gmType flag slot : ℕ) where
   abs : ℕ

@@ -24,9 +24,10 @@ use Rattle.models.specs.Integers.{equal}
 use Rattle.models.specs.Models.{carries, filler, slotWrong, slotAt, modelWrong, modelAt, modelsWrong, priorAt, priorsOut, typeAt, typesOver}
 use Rattle.models.proofs.Integers.{same-equal}
 use Rattle.header.specs.Reading.{referenceRead, referencesRead, modelsRead}
-use Rattle.header.specs.Valid.{ValidModel, ValidPrior, sixOf}
-use Rattle.header.specs.Writing.{slotOf, referenceBits, referencesBits, headerBits, placed, bytesFor}
+use Rattle.header.specs.Inner.{ValidPrior, ModelReady, HeaderReady}
+use Rattle.header.specs.Writing.{slotOf, referenceBits, referencesBits, headerBits, bitsPlaced, bytesFor}
 use Rattle.header.proofs.Reference.{reference-back, reference-bits, at-most-141-bits}
+use Rattle.header.proofs.Valid.{ValidModel, sixOf}
 
 -- ---- what the refusals leave
 
@@ -59,6 +60,15 @@ valid-prior qs r h e =
       within = λ slot l.
           let m : (6 * r + slot) % 6 ≡ slot = omega arith in
           rw m at (each-fails (priorAt qs) (length qs) e (6 * r + slot) (omega arith));
+    }
+
+-- what a function of one model asks, from what one of all asks
+pub model-ready : (types : List ℕ) (ps qs : List ℤ) (r : ℕ) → HeaderReady types ps qs → r < 7 → ModelReady ps qs (6 * r)
+model-ready types ps qs r h l =
+    record {
+      numbers = omega (arith, h .all .numbers);
+      places = omega (arith, h .all .places);
+      priors = valid-prior qs r (omega (arith, h .all .places)) (h .within);
     }
 
 -- ---- seven references
@@ -113,9 +123,12 @@ module _ (flag : ℕ) (types : List ℕ) (ps qs : List ℤ) where
   unfolding headerBits
   header-bits = references-bits 7 0
 
-  -- 124 bytes suffice
+  -- 124 bytes suffice from bit 0 on, 125 from any bit of the first byte
   pub at-most-124-bytes : bytesFor 0 (length (headerBits types ps flag qs)) ≤ 124
   at-most-124-bytes = omega (arith, at-most-987-bits)
+
+  pub at-most-125-bytes : (start : ℕ) → start < 8 → bytesFor start (length (headerBits types ps flag qs)) ≤ 125
+  at-most-125-bytes start h = omega (arith, at-most-987-bits)
 
 -- the refusals of a writing call that don't hold
 pub record Writable (types : List ℕ) (ps : List ℤ) (flag : ℕ) (qs : List ℤ) : Type 0 where
@@ -152,11 +165,11 @@ module _ (types : List ℕ) (ps : List ℤ) (flag : ℕ) (qs : List ℤ) (w : Wr
 
   -- written from `start` on, then read there: the same models and the same count
   pub round-trip : (start : ℕ) (old : List ℕ) → bytesFor start (length (headerBits types ps flag qs)) ≤ length old
-      → modelsRead (placed start (headerBits types ps flag qs) old) start flag qs ≡ record { types = types; params = ps; bits = length (headerBits types ps flag qs) }
+      → modelsRead (bitsPlaced start (headerBits types ps flag qs) old) start flag qs ≡ record { types = types; params = ps; bits = length (headerBits types ps flag qs) }
   round-trip start old room =
       let xs : List ℕ = headerBits types ps flag qs in
       let pad : List ℕ = padBits (start + length xs) in
-      read-back (placed start xs old) start
-      (holds-front (bitAt (placed start xs old)) start xs pad
+      read-back (bitsPlaced start xs old) start
+      (holds-front (bitAt (bitsPlaced start xs old)) start xs pad
       (putBits-holds old start (xs ++ pad) (bits-append xs pad (header-bits flag types ps qs) (fieldBits-are-bits (padding (start + length xs)) 0))
       (omega (arith, length-append xs pad, length-fieldBits (padding (start + length xs)) 0))))

@@ -1,4 +1,4 @@
--- The worked values of document 01 that are marked *: the quantizations, the coefficients' codes and the header of 17 bits.
+-- The worked values of document 01 that are marked *: the quantizations, the coefficients' codes and the header of 17 bits; and four of our own.
 -- Assumes nothing.
 use Prim.Native.Nat.{ℕ}
 use mathlib.Core.List.{List, [], _∷_}
@@ -13,7 +13,7 @@ use Rattle.subexp.specs.Ladder.{subexpBits}
 use Rattle.subexp.specs.Recenter.{codeOf}
 use Rattle.models.specs.Models.{typesOver, modelsWrong, modelWrong, slotWrong, filler, priorsOut}
 use Rattle.header.specs.Coefficient.{coefficientBits}
-use Rattle.header.specs.Writing.{headerBits, referenceBits, pairBits, writeRefusal, written, headerAfter}
+use Rattle.header.specs.Writing.{headerBits, referenceBits, modelBits, writeRefusal, written, headerAfter}
 
 -- six identities
 abbrev identities : List ℤ
@@ -56,12 +56,18 @@ pub record Worked : Type 0 where
   pub far-prior : coefficientBits 1 1 0 (pos 4186112) (pos 4194304) ≡ 0 ∷ 0 ∷ 0 ∷ 1 ∷ []
   -- slot 3, prior 0, ordinal 4096
   pub last-of-slot-3 : coefficientBits 3 1 3 (pos 8192) (pos 0) ≡ replicate 23 1
+  -- two that document 01 doesn't list, chosen so that the prior isn't on the grid and so that the slot's centre is 65536:
+  -- high TRANSLATION, prior 4096, which is halfway to ordinal 1 and rounds down to 0; slots 2 and 5, whose prior 65536 stands at ordinal 0
+  pub between-two : coefficientBits 1 1 0 (pos 8192) (pos 4096) ≡ 0 ∷ 0 ∷ 1 ∷ 0 ∷ []
+  pub below-nought : coefficientBits 1 1 0 (pos 0) (negsuc 0) ≡ 0 ∷ 0 ∷ 1 ∷ 0 ∷ []
+  pub centred-2 : coefficientBits 3 1 2 (pos 65538) (pos 65536) ≡ 0 ∷ 0 ∷ 1 ∷ 0 ∷ []
+  pub centred-5 : coefficientBits 3 1 5 (pos 65536) (pos 65536) ≡ 0 ∷ 0 ∷ 0 ∷ 0 ∷ []
   -- high, prior identity: 17 bits, A4 20 00
-  pub header-bits : written types params 1 prior 3 ≡ record { refusal = 0; bits = 17 }
-  pub header-bytes : headerAfter types params 1 prior (255 ∷ 255 ∷ 255 ∷ []) ≡ 0xA4 ∷ 0x20 ∷ 0x00 ∷ []
+  pub header-bits : written 0 types params 1 prior 3 ≡ record { refusal = 0; bits = 17 }
+  pub header-bytes : headerAfter 0 types params 1 prior (255 ∷ 255 ∷ 255 ∷ []) ≡ 0xA4 ∷ 0x20 ∷ 0x00 ∷ []
 
 pub worked : Worked
-unfolding quantize nearestOrdinal symbolOf placeOf putBit bitLength nsBits subexpBits codeOf typesOver modelsWrong modelWrong slotWrong filler priorsOut coefficientBits headerBits referenceBits pairBits writeRefusal written headerAfter
+unfolding quantize nearestOrdinal symbolOf placeOf putBit bitLength nsBits subexpBits codeOf typesOver modelsWrong modelWrong slotWrong filler priorsOut coefficientBits headerBits referenceBits modelBits writeRefusal written headerAfter
 worked =
     record {
       centre = refl;
@@ -79,6 +85,10 @@ worked =
       ordinal-512 = refl;
       far-prior = refl;
       last-of-slot-3 = refl;
+      between-two = refl;
+      below-nought = refl;
+      centred-2 = refl;
+      centred-5 = refl;
       header-bits = refl;
       header-bytes = refl;
     }

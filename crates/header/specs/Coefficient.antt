@@ -5,16 +5,12 @@ use mathlib.Core.List.{List}
 use lib.IntN.{ℤ}
 use Rattle.subexp.specs.Coefficient.{symbol, symbolBits}
 use Rattle.grid.specs.Grid.{absBits, precBits, centre}
-use Rattle.grid.specs.Symbols.{symbols, symbolOf, numberOf, placeOf}
+use Rattle.grid.specs.Symbols.{symbols, symbolOf, numberOf, place}
 
 -- a number read, and how many bits were taken
 pub record ReadNumber : Type 0 where
   pub value : ℤ
   pub bits : ℕ
-
--- the place of the prior q among the slot's symbols
-abbrev pub place : ℕ → ℕ → ℕ → ℤ → ℕ
-place gmType flag slot q = placeOf (absBits gmType flag slot) (precBits gmType flag slot) slot q
 
 -- the bits of the number z
 unfoldable pub coefficientBits : ℕ → ℕ → ℕ → ℤ → ℤ → List ℕ

@@ -1,5 +1,5 @@
 pub mod Coefficient
 pub mod Writing
 pub mod Reading
-pub mod Contracts
-pub mod Valid
+pub mod Count
+pub mod Inner

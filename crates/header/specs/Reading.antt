@@ -3,17 +3,26 @@
 use Prim.Native.Nat.{ℕ, zero, suc, _+_, _*_}
 use mathlib.Core.List.{List, [], _∷_, _++_}
 use lib.Dec.{eqb}
-use lib.IntN.{ℤ, pos, negℤ}
+use lib.IntN.{ℤ, pos}
+use lib.ListN.{getD}
 use Rattle.laws.specs.Refusal.{choose}
 use Rattle.bits.specs.Bits.{bitAt}
+use Rattle.grid.specs.Slots.{slotsOf}
+use Rattle.models.specs.Models.{carries, filler}
 use Rattle.header.specs.Coefficient.{ReadNumber, coefficient}
 use Rattle.header.specs.Writing.{slotOf}
 
--- the slots that a type carries, in the order of reading: 2, 3, for AFFINE 4, 5, then 0, 1
-abbrev pub slotsOf : ℕ → List ℕ
-slotsOf gmType =
-    choose (eqb gmType 0) []
-    (choose (eqb gmType 1) (0 ∷ 1 ∷ []) (choose (eqb gmType 2) (2 ∷ 3 ∷ 0 ∷ 1 ∷ []) (2 ∷ 3 ∷ 4 ∷ 5 ∷ 0 ∷ 1 ∷ [])))
+-- is_global, is_rot_zoom, is_translation at position j
+abbrev pub typeRead : (ℕ → ℕ) → ℕ → ℕ
+typeRead g j = choose (eqb (g j) 0) 0 (choose (eqb (g (j + 1)) 1) 2 (choose (eqb (g (j + 2)) 1) 1 3))
+
+abbrev pub typeLength : ℕ → ℕ
+typeLength gmType = choose (eqb gmType 0) 1 (choose (eqb gmType 2) 2 3)
+
+-- numbers in the order of reading, and how many bits were taken
+pub record ReadNumbers : Type 0 where
+  pub values : List ℤ
+  pub bits : ℕ
 
 -- a type, six numbers, and how many bits were taken
 pub record ReadModel : Type 0 where
@@ -21,57 +30,46 @@ pub record ReadModel : Type 0 where
   pub six : List ℤ
   pub bits : ℕ
 
--- two slots, one after the other
-pub record ReadPair : Type 0 where
-  pub first : ℤ
-  pub second : ℤ
-  pub bits : ℕ
+-- ---- six numbers from those that were read
+
+-- where a slot stands in a list of slots
+abbrev pub placeIn : ℕ → List ℕ → ℕ
+placeIn slot [] = 0
+placeIn slot (s ∷ slots) = choose (eqb s slot) 0 (suc (placeIn slot slots))
+
+module _ (gmType : ℕ) (values : List ℤ) where
+  -- the number read for a slot
+  abbrev pub numberAt : ℕ → ℤ
+  numberAt slot = getD values (placeIn slot (slotsOf gmType)) (pos 0)
+
+  -- a slot that the type doesn't carry is filled
+  abbrev pub slotFilled : ℕ → ℤ
+  slotFilled slot = choose (carries gmType slot) (numberAt slot) (filler gmType slot (numberAt 2) (numberAt 3))
+
+  unfoldable pub sixFilled : List ℤ
+  sixFilled = slotFilled 0 ∷ slotFilled 1 ∷ slotFilled 2 ∷ slotFilled 3 ∷ slotFilled 4 ∷ slotFilled 5 ∷ []
+
+-- ---- references
 
 module _ (g : ℕ → ℕ) (flag : ℕ) (qs : List ℤ) where
-  unfoldable pub pairRead : ℕ → ℕ → ℕ → ℕ → ReadPair
-  pairRead gmType first slot j =
+  -- the coefficients of several slots, one behind the other, from position j on
+  abbrev pub slotsRead : ℕ → ℕ → List ℕ → ℕ → ReadNumbers
+  slotsRead gmType first [] j = record { values = []; bits = 0 }
+  slotsRead gmType first (slot ∷ slots) j =
       let a : ReadNumber = coefficient g j gmType flag slot (slotOf qs first slot) in
-      let b : ReadNumber = coefficient g (j + a .bits) gmType flag (slot + 1) (slotOf qs first (slot + 1)) in
-      record { first = a .value; second = b .value; bits = a .bits + b .bits }
+      let rest : ReadNumbers = slotsRead gmType first slots (j + a .bits) in
+      record { values = a .value ∷ rest .values; bits = a .bits + rest .bits }
 
-  -- is_global, is_rot_zoom, is_translation
-  abbrev pub typeRead : ℕ → ℕ
-  typeRead j = choose (eqb (g j) 0) 0 (choose (eqb (g (j + 1)) 1) 2 (choose (eqb (g (j + 2)) 1) 1 3))
-
-  abbrev pub typeLength : ℕ → ℕ
-  typeLength gmType = choose (eqb gmType 0) 1 (choose (eqb gmType 2) 2 3)
-
-  -- a model of each type, its coefficients from position j on; the slots that it doesn't carry are filled
-  abbrev pub identityRead : ReadModel
-  identityRead = record { gmType = 0; six = pos 0 ∷ pos 0 ∷ pos 65536 ∷ pos 0 ∷ pos 0 ∷ pos 65536 ∷ []; bits = 0 }
-
-  unfoldable pub translationRead : ℕ → ℕ → ReadModel
-  translationRead first j =
-      let t : ReadPair = pairRead 1 first 0 j in
-      record { gmType = 1; six = t .first ∷ t .second ∷ pos 65536 ∷ pos 0 ∷ pos 0 ∷ pos 65536 ∷ []; bits = t .bits }
-
-  unfoldable pub rotzoomRead : ℕ → ℕ → ReadModel
-  rotzoomRead first j =
-      let a : ReadPair = pairRead 2 first 2 j in
-      let t : ReadPair = pairRead 2 first 0 (j + a .bits) in
-      record { gmType = 2; six = t .first ∷ t .second ∷ a .first ∷ a .second ∷ negℤ (a .second) ∷ a .first ∷ []; bits = a .bits + t .bits }
-
-  unfoldable pub affineRead : ℕ → ℕ → ReadModel
-  affineRead first j =
-      let a : ReadPair = pairRead 3 first 2 j in
-      let b : ReadPair = pairRead 3 first 4 (j + a .bits) in
-      let t : ReadPair = pairRead 3 first 0 (j + a .bits + b .bits) in
-      record { gmType = 3; six = t .first ∷ t .second ∷ a .first ∷ a .second ∷ b .first ∷ b .second ∷ []; bits = a .bits + b .bits + t .bits }
-
-  abbrev pub modelRead : ℕ → ℕ → ℕ → ReadModel
+  -- those that the type carries
+  unfoldable pub modelRead : ℕ → ℕ → ℕ → ReadModel
   modelRead gmType first j =
-      choose (eqb gmType 0) identityRead
-      (choose (eqb gmType 1) (translationRead first j) (choose (eqb gmType 2) (rotzoomRead first j) (affineRead first j)))
+      let t : ReadNumbers = slotsRead gmType first (slotsOf gmType) j in
+      record { gmType = gmType; six = sixFilled gmType (t .values); bits = t .bits }
 
   -- one reference: the type bits, then the coefficients
   unfoldable pub referenceRead : ℕ → ℕ → ReadModel
   referenceRead first j =
-      let gmType : ℕ = typeRead j in
+      let gmType : ℕ = typeRead g j in
       let m : ReadModel = modelRead gmType first (j + typeLength gmType) in
       record { gmType = gmType; six = m .six; bits = typeLength gmType + m .bits }
 

@@ -7,9 +7,11 @@ use mathlib.Core.List.{List, [], _∷_, _++_}
 use lib.Dec.{ltb, eqb}
 use lib.IntN.{ℤ, pos}
 use lib.ListN.{length, getD}
-use Rattle.laws.specs.Refusal.{Row, row, choose, either, judge}
+use Rattle.laws.specs.Call.{answered, left}
+use Rattle.laws.specs.Refusal.{Row, row, choose, either, judge, orElse}
 use Rattle.bits.specs.Bits.{putBits}
 use Rattle.bits.specs.Fields.{padBits}
+use Rattle.grid.specs.Slots.{slotsOf}
 use Rattle.models.specs.Models.{typesOver, modelsWrong, priorsOut}
 use Rattle.header.specs.Coefficient.{coefficientBits}
 use Rattle.header.specs.declared.Written.{Written}
@@ -23,31 +25,27 @@ typeBits gmType =
 abbrev pub slotOf : List ℤ → ℕ → ℕ → ℤ
 slotOf ps first slot = getD ps (first + slot) (pos 0)
 
-module _ (flag : ℕ) (ps qs : List ℤ) where
-  -- slots `slot` and `slot + 1`
-  unfoldable pub pairBits : ℕ → ℕ → ℕ → List ℕ
-  pairBits gmType first slot =
-      coefficientBits gmType flag slot (slotOf ps first slot) (slotOf qs first slot)
-      ++ coefficientBits gmType flag (slot + 1) (slotOf ps first (slot + 1)) (slotOf qs first (slot + 1))
+module _ (flag : ℕ) (ps qs : List ℤ) (gmType first : ℕ) where
+  -- one slot
+  abbrev pub slotBits : ℕ → List ℕ
+  slotBits slot = coefficientBits gmType flag slot (slotOf ps first slot) (slotOf qs first slot)
 
-  abbrev pub affineBits : ℕ → ℕ → List ℕ
-  affineBits gmType first = pairBits gmType first 2 ++ (pairBits gmType first 4 ++ pairBits gmType first 0)
+  -- several, one behind the other
+  abbrev pub slotsBits : List ℕ → List ℕ
+  slotsBits [] = []
+  slotsBits (slot ∷ slots) = slotBits slot ++ slotsBits slots
 
-  -- slots 2, 3, for AFFINE 4, 5, then 0, 1
-  abbrev pub modelBits : ℕ → ℕ → List ℕ
-  modelBits gmType first =
-      choose (eqb gmType 0) []
-      (choose (eqb gmType 1) (pairBits gmType first 0)
-      (choose (eqb gmType 2) (pairBits gmType first 2 ++ pairBits gmType first 0)
-      (affineBits gmType first)))
+  -- those that the type carries
+  unfoldable pub modelBits : List ℕ
+  modelBits = slotsBits (slotsOf gmType)
 
-  unfoldable pub referenceBits : ℕ → ℕ → List ℕ
-  referenceBits gmType first = typeBits gmType ++ modelBits gmType first
+  unfoldable pub referenceBits : List ℕ
+  referenceBits = typeBits gmType ++ modelBits
 
-  -- n references from r on
-  abbrev pub referencesBits : List ℕ → ℕ → ℕ → List ℕ
-  referencesBits types zero r = []
-  referencesBits types (suc n) r = referenceBits (getD types r 0) (6 * r) ++ referencesBits types n (r + 1)
+-- n references from r on
+abbrev pub referencesBits : ℕ → List ℤ → List ℤ → List ℕ → ℕ → ℕ → List ℕ
+referencesBits flag ps qs types zero r = []
+referencesBits flag ps qs types (suc n) r = referenceBits flag ps qs (getD types r 0) (6 * r) ++ referencesBits flag ps qs types n (r + 1)
 
 -- the seven references
 unfoldable pub headerBits : List ℕ → List ℤ → ℕ → List ℤ → List ℕ
@@ -64,34 +62,33 @@ abbrev pub bytesFor : ℕ → ℕ → ℕ
 bytesFor start n = (start + n + 7) / 8
 
 -- the bits from `start` on, and zeros up to the end of the last byte
-abbrev pub placed : ℕ → List ℕ → List ℕ → List ℕ
-placed start bits old = putBits old start (bits ++ padBits (start + length bits))
+abbrev pub bitsPlaced : ℕ → List ℕ → List ℕ → List ℕ
+bitsPlaced start bits old = putBits old start (bits ++ padBits (start + length bits))
 
-abbrev pub tooShort : List ℕ → List ℤ → ℕ → List ℤ → ℕ → Bool
-tooShort types ps flag qs room = ltb room (bytesFor 0 (length (headerBits types ps flag qs)))
+abbrev pub tooShort : ℕ → List ℕ → List ℤ → ℕ → List ℤ → ℕ → Bool
+tooShort start types ps flag qs room = ltb room (bytesFor start (length (headerBits types ps flag qs)))
 
-abbrev pub writeRows : List ℕ → List ℤ → ℕ → List ℤ → ℕ → List Row
-writeRows types ps flag qs room =
-    row 2 (lengthsWrong (length types) (length ps) (length qs))
-    ∷ row 4 (typesOver types)
-    ∷ row 4 (ltb 1 flag)
-    ∷ row 7 (modelsWrong types flag ps)
-    ∷ row 8 (priorsOut qs)
-    ∷ row 3 (tooShort types ps flag qs room)
-    ∷ []
+-- row 2, then row 4 for the types and for the flag
+abbrev pub codeRows : List ℕ → List ℤ → ℕ → List ℤ → List Row
+codeRows types ps flag qs =
+    row 2 (lengthsWrong (length types) (length ps) (length qs)) ∷ row 4 (typesOver types) ∷ row 4 (ltb 1 flag) ∷ []
 
-unfoldable pub writeRefusal : List ℕ → List ℤ → ℕ → List ℤ → ℕ → ℕ
-writeRefusal types ps flag qs room = judge (writeRows types ps flag qs room)
+-- row 7 for the models, row 8 for the priors, row 3 for the room
+abbrev pub writeRows : ℕ → List ℕ → List ℤ → ℕ → List ℤ → ℕ → List Row
+writeRows start types ps flag qs room =
+    row 7 (modelsWrong types flag ps) ∷ row 8 (priorsOut qs) ∷ row 3 (tooShort start types ps flag qs room) ∷ []
 
-unfoldable pub written : List ℕ → List ℤ → ℕ → List ℤ → ℕ → Written
-written types ps flag qs room =
-    choose (eqb (writeRefusal types ps flag qs room) 0)
-    (record { refusal = 0; bits = length (headerBits types ps flag qs) })
-    (record { refusal = writeRefusal types ps flag qs room; bits = 0 })
+unfoldable pub writeRefusal : ℕ → List ℕ → List ℤ → ℕ → List ℤ → ℕ → ℕ
+writeRefusal start types ps flag qs room = orElse (judge (codeRows types ps flag qs)) (judge (writeRows start types ps flag qs room))
+
+abbrev pub notWritten : ℕ → Written
+notWritten n = record { refusal = n; bits = 0 }
+
+unfoldable pub written : ℕ → List ℕ → List ℤ → ℕ → List ℤ → ℕ → Written
+written start types ps flag qs room =
+    answered notWritten (writeRefusal start types ps flag qs room) (record { refusal = 0; bits = length (headerBits types ps flag qs) })
 
 -- the lent bytes at exit
-unfoldable pub headerAfter : List ℕ → List ℤ → ℕ → List ℤ → List ℕ → List ℕ
-headerAfter types ps flag qs header =
-    choose (eqb (writeRefusal types ps flag qs (length header)) 0)
-    (placed 0 (headerBits types ps flag qs) header)
-    header
+unfoldable pub headerAfter : ℕ → List ℕ → List ℤ → ℕ → List ℤ → List ℕ → List ℕ
+headerAfter start types ps flag qs header =
+    left (writeRefusal start types ps flag qs (length header)) (bitsPlaced start (headerBits types ps flag qs) header) header

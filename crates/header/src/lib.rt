@@ -3,29 +3,41 @@
 // and 5.9.25 of the standard; `encode_inter_global_motion` and `write_global_param` of
 // encoder/frame_obu.rs. `specs/Reading` also states what the standard reads.
 ghost use mathlib.Core.Path.{_≡_};
-ghost use mathlib.Core.List.{_++_};
-ghost use Prim.Native.Nat.{_+_, _*_, _^_, _≤_, _<_};
+ghost use Prim.Native.Nat.{_+_, _≤_, _<_};
 ghost use lib.ListN.{length};
+ghost use Rattle.laws.specs.Refusal.{judge};
 ghost use Rattle.bits.specs.Inner.{Room, Wrote};
+ghost use Rattle.grid.specs.Inner.{PriorIn};
 ghost use Rattle.header.specs.Coefficient.{coefficientBits};
-ghost use Rattle.header.specs.Contracts.{PriorIn, SymbolsIs, SymbolIs, ModelReady, HeaderReady, TypeFieldIs};
-ghost use Rattle.header.specs.Writing.{slotOf, typeBits, pairBits, affineBits, modelBits, referenceBits, headerBits, lengthsWrong, bytesFor, tooShort, placed, writeRefusal, written, headerAfter};
+ghost use Rattle.header.specs.Count.{slotCount, modelCount, headerCount};
+ghost use Rattle.header.specs.Inner.{ModelReady, Seven, HeaderReady, TypeFieldIs};
+ghost use Rattle.header.specs.Writing.{slotBits, typeBits, modelBits, referenceBits, headerBits, lengthsWrong, bytesFor, tooShort, bitsPlaced, codeRows, writeRows, writeRefusal, written, headerAfter};
+use bits::BITS_OF_A_BYTE;
 use bits::BitCursor;
+use grid::IDENTITY;
+use grid::ROTZOOM;
+use grid::TRANSLATION;
 
-const REFERENCES: usize = 7;
+pub const REFERENCES: usize = 7;
 
-const SLOTS: usize = 6;
+pub const SLOTS: usize = 6;
 
-const NUMBERS: usize = 42;
+// Six numbers for each of seven references.
+pub const NUMBERS: usize = 42;
 
-// 987 bits at most.
-const MOST_BYTES: usize = 124;
+// 987 bits at most, from any bit of the first byte on.
+const MOST_BYTES: usize = 125;
 
-const IDENTITY: u8 = 0;
+// Rows of document 01's table.
+const WRONG_LENGTH: u32 = 2;
 
-const TRANSLATION: u8 = 1;
+const TOO_SHORT: u32 = 3;
 
-const ROTZOOM: u8 = 2;
+const NO_SUCH_CODE: u32 = 4;
+
+const MODEL_WRONG: u32 = 7;
+
+const PRIOR_OUT: u32 = 8;
 
 // A row of the table of refusals (0: none), and the bits written.
 #[repr(C)]
@@ -34,37 +46,13 @@ pub struct Written {
     pub bits: usize,
 }
 
-// S, and the place of the prior.
-pub struct Symbols {
-    pub mx: u32,
-    pub r: u32,
-}
-
-pub fn symbols_of(gm_type: u8, flag: u8, slot: u8, prior: i32) -> Symbols
-    requires { ⌜ PriorIn slot prior ⌝ }
-    ensures { λ r. ⌜ SymbolsIs «gm_type» flag slot prior r ⌝ }
-{
-    let bits = grid::global_param_bits(gm_type, flag, slot);
-    Symbols {
-        mx: 2 * bits::power(bits.abs_bits) + 1,
-        r: grid::place_of(bits.abs_bits, bits.prec_bits, grid::centre_of(slot), prior),
-    }
-}
-
-fn symbol_of(gm_type: u8, flag: u8, slot: u8, value: i32) -> u32
-    ensures { λ r. ⌜ SymbolIs «gm_type» flag slot value r ⌝ }
-{
-    let bits = grid::global_param_bits(gm_type, flag, slot);
-    grid::symbol_of(bits.abs_bits, bits.prec_bits, grid::centre_of(slot), value)
-}
-
 // How many bits a coefficient takes.
 pub fn global_param_length(gm_type: u8, flag: u8, slot: u8, value: i32, prior: i32) -> u32
     requires { ⌜ PriorIn slot prior ⌝ }
     ensures { λ r. ⌜ (r ≡ length (coefficientBits «gm_type» flag slot value prior)) × (r ≤ 64) ⌝ }
 {
-    let s = symbols_of(gm_type, flag, slot, prior);
-    subexp::unsigned_subexp_length(s.mx, s.r, symbol_of(gm_type, flag, slot, value))
+    let s = grid::symbols_of(gm_type, flag, slot, prior);
+    subexp::unsigned_subexp_length(s.mx, s.r, grid::symbol_of(gm_type, flag, slot, value))
 }
 
 fn write_global_param(
@@ -79,8 +67,8 @@ fn write_global_param(
     requires { ⌜ PriorIn slot prior × Room (now header) (cursor .at) (length (coefficientBits «gm_type» flag slot value prior)) ⌝ }
     ensures { λ r. ⌜ Wrote (now (header .entry)) (cursor .at) (coefficientBits «gm_type» flag slot value prior) (now (header .exit)) (r .at) ⌝ }
 {
-    let s = symbols_of(gm_type, flag, slot, prior);
-    let t = symbol_of(gm_type, flag, slot, value);
+    let s = grid::symbols_of(gm_type, flag, slot, prior);
+    let t = grid::symbol_of(gm_type, flag, slot, value);
     subexp::encode_unsigned_subexp_with_ref(cursor, header, s.mx, s.r, t)
 }
 
@@ -124,64 +112,12 @@ fn write_slot(
     first: usize,
     slot: u8,
 ) -> BitCursor
-    requires { ⌜ ModelReady (now params) (now prior) first × (slot < 6) × Room (now header) (cursor .at) (length (coefficientBits «gm_type» flag slot (slotOf (now params) first slot) (slotOf (now prior) first slot))) ⌝ }
-    ensures { λ r. ⌜ Wrote (now (header .entry)) (cursor .at) (coefficientBits «gm_type» flag slot (slotOf (now (params .entry)) first slot) (slotOf (now (prior .entry)) first slot)) (now (header .exit)) (r .at) ⌝ }
+    requires { ⌜ ModelReady (now params) (now prior) first × (slot < 6) × Room (now header) (cursor .at) (length (slotBits flag (now params) (now prior) «gm_type» first slot)) ⌝ }
+    ensures { λ r. ⌜ Wrote (now (header .entry)) (cursor .at) (slotBits flag (now (params .entry)) (now (prior .entry)) «gm_type» first slot) (now (header .exit)) (r .at) ⌝ }
 {
     let value = params[first + slot as usize];
     let from = prior[first + slot as usize];
     write_global_param(cursor, header, gm_type, flag, slot, value, from)
-}
-
-fn write_pair(
-    cursor: BitCursor,
-    header: &mut [u8],
-    gm_type: u8,
-    flag: u8,
-    params: &[i32],
-    prior: &[i32],
-    first: usize,
-    slot: u8,
-) -> BitCursor
-    requires { ⌜ ModelReady (now params) (now prior) first × (slot < 5) × Room (now header) (cursor .at) (length (pairBits flag (now params) (now prior) «gm_type» first slot)) ⌝ }
-    ensures { λ r. ⌜ Wrote (now (header .entry)) (cursor .at) (pairBits flag (now (params .entry)) (now (prior .entry)) «gm_type» first slot) (now (header .exit)) (r .at) ⌝ }
-{
-    let next = write_slot(cursor, header, gm_type, flag, params, prior, first, slot);
-    write_slot(next, header, gm_type, flag, params, prior, first, slot + 1)
-}
-
-// Two pairs of slots, one after the other.
-fn write_pairs(
-    cursor: BitCursor,
-    header: &mut [u8],
-    gm_type: u8,
-    flag: u8,
-    params: &[i32],
-    prior: &[i32],
-    first: usize,
-    slot: u8,
-) -> BitCursor
-    requires { ⌜ ModelReady (now params) (now prior) first × (slot < 5) × Room (now header) (cursor .at) (length (pairBits flag (now params) (now prior) «gm_type» first slot ++ pairBits flag (now params) (now prior) «gm_type» first 0)) ⌝ }
-    ensures { λ r. ⌜ Wrote (now (header .entry)) (cursor .at) (pairBits flag (now (params .entry)) (now (prior .entry)) «gm_type» first slot ++ pairBits flag (now (params .entry)) (now (prior .entry)) «gm_type» first 0) (now (header .exit)) (r .at) ⌝ }
-{
-    let next = write_pair(cursor, header, gm_type, flag, params, prior, first, slot);
-    write_pair(next, header, gm_type, flag, params, prior, first, 0)
-}
-
-// Slots 2, 3, then 4, 5, then 0, 1.
-fn write_affine(
-    cursor: BitCursor,
-    header: &mut [u8],
-    gm_type: u8,
-    flag: u8,
-    params: &[i32],
-    prior: &[i32],
-    first: usize,
-) -> BitCursor
-    requires { ⌜ ModelReady (now params) (now prior) first × Room (now header) (cursor .at) (length (affineBits flag (now params) (now prior) «gm_type» first)) ⌝ }
-    ensures { λ r. ⌜ Wrote (now (header .entry)) (cursor .at) (affineBits flag (now (params .entry)) (now (prior .entry)) «gm_type» first) (now (header .exit)) (r .at) ⌝ }
-{
-    let next = write_pair(cursor, header, gm_type, flag, params, prior, first, 2);
-    write_pairs(next, header, gm_type, flag, params, prior, first, 4)
 }
 
 // The coefficients of the model whose six numbers begin at `first`, in the standard's order.
@@ -197,16 +133,16 @@ fn write_model(
     requires { ⌜ ModelReady (now params) (now prior) first × Room (now header) (cursor .at) (length (modelBits flag (now params) (now prior) «gm_type» first)) ⌝ }
     ensures { λ r. ⌜ Wrote (now (header .entry)) (cursor .at) (modelBits flag (now (params .entry)) (now (prior .entry)) «gm_type» first) (now (header .exit)) (r .at) ⌝ }
 {
-    if gm_type == IDENTITY {
-        return cursor;
+    let slots = grid::slots_of(gm_type);
+    let order = slots.order;
+    let count = slots.count;
+    let mut next = cursor;
+    let mut i = 0usize;
+    while i < count {
+        next = write_slot(next, header, gm_type, flag, params, prior, first, order[i]);
+        i += 1;
     }
-    if gm_type == TRANSLATION {
-        return write_pair(cursor, header, gm_type, flag, params, prior, first, 0);
-    }
-    if gm_type == ROTZOOM {
-        return write_pairs(cursor, header, gm_type, flag, params, prior, first, 2);
-    }
-    write_affine(cursor, header, gm_type, flag, params, prior, first)
+    next
 }
 
 // One reference: its type bits, then its coefficients.
@@ -247,14 +183,46 @@ fn write_references(
     next
 }
 
-// How many bits the references take: they are written where there is always room.
-fn header_length(types: &[u8], flag: u8, params: &[i32], prior: &[i32]) -> usize
-    requires { ⌜ HeaderReady (now types) (now params) (now prior) ⌝ }
-    ensures { λ r. ⌜ r ≡ length (headerBits (now (types .entry)) (now (params .entry)) flag (now (prior .entry))) ⌝ }
+// How many bits the slot of that model takes.
+fn slot_length(gm_type: u8, flag: u8, params: &[i32], prior: &[i32], first: usize, slot: u8) -> u32
+    requires { ⌜ ModelReady (now params) (now prior) first × (slot < 6) ⌝ }
+    ensures { λ r. ⌜ (r ≡ slotCount flag (now (params .entry)) (now (prior .entry)) «gm_type» first slot) × (r ≤ 64) ⌝ }
 {
-    let mut bytes = [0u8; 124];
-    let end = write_references(BitCursor::new(0), &mut bytes, types, flag, params, prior);
-    end.at
+    let value = params[first + slot as usize];
+    let from = prior[first + slot as usize];
+    global_param_length(gm_type, flag, slot, value, from)
+}
+
+// How many bits a reference takes.
+fn reference_length(gm_type: u8, flag: u8, params: &[i32], prior: &[i32], first: usize) -> usize
+    requires { ⌜ ModelReady (now params) (now prior) first ⌝ }
+    ensures { λ r. ⌜ (r ≡ modelCount flag (now (params .entry)) (now (prior .entry)) «gm_type» first) × (r ≤ 387) ⌝ }
+{
+    let slots = grid::slots_of(gm_type);
+    let order = slots.order;
+    let count = slots.count;
+    let field = type_field(gm_type);
+    let mut n = field.n as usize;
+    let mut i = 0usize;
+    while i < count {
+        n += slot_length(gm_type, flag, params, prior, first, order[i]) as usize;
+        i += 1;
+    }
+    n
+}
+
+// How many bits the seven references take.
+fn header_length(types: &[u8], params: &[i32], flag: u8, prior: &[i32]) -> usize
+    requires { ⌜ HeaderReady (now types) (now params) (now prior) ⌝ }
+    ensures { λ r. ⌜ r ≡ headerCount (now (types .entry)) (now (params .entry)) flag (now (prior .entry)) ⌝ }
+{
+    let mut n = 0usize;
+    let mut r = 0usize;
+    while r < REFERENCES {
+        n += reference_length(types[r], flag, params, prior, SLOTS * r);
+        r += 1;
+    }
+    n
 }
 
 fn lengths_wrong(types: usize, params: usize, prior: usize) -> bool
@@ -269,48 +237,96 @@ fn lengths_wrong(types: usize, params: usize, prior: usize) -> bool
     prior != NUMBERS
 }
 
-// Fewer bytes than the header's bits take.
-fn too_short(types: &[u8], flag: u8, params: &[i32], prior: &[i32], room: usize) -> bool
-    requires { ⌜ HeaderReady (now types) (now params) (now prior) ⌝ }
-    ensures { λ r. ⌜ r ≡ tooShort (now (types .entry)) (now (params .entry)) flag (now (prior .entry)) room ⌝ }
+// Fewer bytes than the header's bits take from bit `start` on.
+fn too_short(
+    start: usize,
+    types: &[u8],
+    params: &[i32],
+    flag: u8,
+    prior: &[i32],
+    room: usize,
+) -> bool
+    requires { ⌜ HeaderReady (now types) (now params) (now prior) × (start < 8) ⌝ }
+    ensures { λ r. ⌜ r ≡ tooShort start (now (types .entry)) (now (params .entry)) flag (now (prior .entry)) room ⌝ }
 {
     if MOST_BYTES <= room {
         return false;
     }
-    room < (header_length(types, flag, params, prior) + 7) / 8
+    room < (start + header_length(types, params, flag, prior) + 7) / BITS_OF_A_BYTE
 }
 
-fn refusal_of(types: &[u8], params: &[i32], flag: u8, prior: &[i32], room: usize) -> u32
-    ensures { λ r. ⌜ r ≡ writeRefusal (now (types .entry)) (now (params .entry)) flag (now (prior .entry)) room ⌝ }
+// Lengths, types and flag.
+fn code_refusal(types: &[u8], params: &[i32], flag: u8, prior: &[i32]) -> u32
+    ensures { λ r. ⌜ r ≡ judge (codeRows (now (types .entry)) (now (params .entry)) flag (now (prior .entry))) ⌝ }
 {
     if lengths_wrong(types.len(), params.len(), prior.len()) {
-        return 2;
+        return WRONG_LENGTH;
     }
     if models::types_over(types) {
-        return 4;
+        return NO_SUCH_CODE;
     }
     if 1 < flag {
-        return 4;
-    }
-    if models::models_wrong(types, flag, params) {
-        return 7;
-    }
-    if models::priors_out(prior) {
-        return 8;
-    }
-    if too_short(types, flag, params, prior, room) {
-        return 3;
+        return NO_SUCH_CODE;
     }
     0
 }
 
-// The bits, then zeros up to the end of the last byte; how many bits they are without the zeros.
-fn write_header(types: &[u8], params: &[i32], flag: u8, prior: &[i32], header: &mut [u8]) -> usize
-    requires { ⌜ HeaderReady (now types) (now params) (now prior) × (bytesFor 0 (length (headerBits (now types) (now params) flag (now prior))) ≤ length (now header)) ⌝ }
-    ensures { λ r. ⌜ (r ≡ length (headerBits (now (types .entry)) (now (params .entry)) flag (now (prior .entry)))) × (now (header .exit) ≡ placed 0 (headerBits (now (types .entry)) (now (params .entry)) flag (now (prior .entry))) (now (header .entry))) ⌝ }
+// Models, priors and room.
+fn write_refusal(
+    start: usize,
+    types: &[u8],
+    params: &[i32],
+    flag: u8,
+    prior: &[i32],
+    room: usize,
+) -> u32
+    requires { ⌜ Seven (now types) (now params) (now prior) × (start < 8) ⌝ }
+    ensures { λ r. ⌜ r ≡ judge (writeRows start (now (types .entry)) (now (params .entry)) flag (now (prior .entry)) room) ⌝ }
 {
-    let end = write_references(BitCursor::new(0), header, types, flag, params, prior);
-    let bits = end.at;
+    if models::models_wrong(types, flag, params) {
+        return MODEL_WRONG;
+    }
+    if models::priors_out(prior) {
+        return PRIOR_OUT;
+    }
+    if too_short(start, types, params, flag, prior, room) {
+        return TOO_SHORT;
+    }
+    0
+}
+
+fn refusal_of(
+    start: usize,
+    types: &[u8],
+    params: &[i32],
+    flag: u8,
+    prior: &[i32],
+    room: usize,
+) -> u32
+    requires { ⌜ start < 8 ⌝ }
+    ensures { λ r. ⌜ r ≡ writeRefusal start (now (types .entry)) (now (params .entry)) flag (now (prior .entry)) room ⌝ }
+{
+    let first = code_refusal(types, params, flag, prior);
+    if first != 0 {
+        return first;
+    }
+    write_refusal(start, types, params, flag, prior, room)
+}
+
+// The bits from bit `start` on, then zeros up to the end of the last byte; how many bits they are without the zeros.
+fn write_header(
+    start: usize,
+    types: &[u8],
+    params: &[i32],
+    flag: u8,
+    prior: &[i32],
+    header: &mut [u8],
+) -> usize
+    requires { ⌜ HeaderReady (now types) (now params) (now prior) × (start < 8) × (bytesFor start (length (headerBits (now types) (now params) flag (now prior))) ≤ length (now header)) ⌝ }
+    ensures { λ r. ⌜ (r ≡ length (headerBits (now (types .entry)) (now (params .entry)) flag (now (prior .entry)))) × (now (header .exit) ≡ bitsPlaced start (headerBits (now (types .entry)) (now (params .entry)) flag (now (prior .entry))) (now (header .entry))) ⌝ }
+{
+    let end = write_references(BitCursor::new(start), header, types, flag, params, prior);
+    let bits = end.at - start;
     end.byte_align(header);
     bits
 }
@@ -323,15 +339,15 @@ pub fn encode_inter_global_motion(
     prior: &[i32],
     header: &mut [u8],
 ) -> Written
-    ensures { λ r. ⌜ r ≡ written (now (types .entry)) (now (params .entry)) flag (now (prior .entry)) (length (now (header .entry))) ⌝ }
-    ensures { λ r. ⌜ now (header .exit) ≡ headerAfter (now (types .entry)) (now (params .entry)) flag (now (prior .entry)) (now (header .entry)) ⌝ }
+    ensures { λ r. ⌜ r ≡ written 0 (now (types .entry)) (now (params .entry)) flag (now (prior .entry)) (length (now (header .entry))) ⌝ }
+    ensures { λ r. ⌜ now (header .exit) ≡ headerAfter 0 (now (types .entry)) (now (params .entry)) flag (now (prior .entry)) (now (header .entry)) ⌝ }
 {
-    let refusal = refusal_of(types, params, flag, prior, header.len());
+    let refusal = refusal_of(0, types, params, flag, prior, header.len());
     if refusal != 0 {
         return Written { refusal, bits: 0 };
     }
     Written {
         refusal: 0,
-        bits: write_header(types, params, flag, prior, header),
+        bits: write_header(0, types, params, flag, prior, header),
     }
 }

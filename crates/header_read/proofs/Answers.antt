@@ -1,55 +1,48 @@
 -- The call's answer by the table's rows: each refusal in its turn, and the models read from the byte of the position on.
 -- Assumes nothing.
 use Prim.Native.Nat.{ℕ, _+_, _*_, _-_, _/_, _%_, _≤_, _<_}
-use mathlib.Core.Bool.{true, false}
-use mathlib.Core.List.{List, [], _∷_}
+use mathlib.Core.List.{List}
 use mathlib.Core.Logic.{⊎-elim}
-use mathlib.Core.Path.{_≡_, subst}
+use mathlib.Core.Path.{_≡_, ap, sym, subst, _∙_}
 use native.Mathlib.Omega.{arith}
-use borrow.Author.Tests.{lt-ltb, le-ltb, eq-eqb, ne-eqb}
-use lib.Dec.{ltb}
+use borrow.Author.Tests.{lt-ltb, le-ltb, eq-eqb}
 use lib.IntN.{ℤ}
 use lib.ListN.{length, drop}
-use Rattle.laws.specs.Refusal.{row}
-use Rattle.laws.proofs.Cases.{outcome, lt-or-le}
-use Rattle.laws.proofs.Refusal.{judge-hit}
+use Rattle.laws.specs.Call.{answered}
+use Rattle.laws.specs.Refusal.{judge, orElse}
+use Rattle.laws.proofs.Call.{answered-refused}
+use Rattle.laws.proofs.Cases.{lt-or-le}
+use Rattle.laws.proofs.Refusal.{or-else-refused, or-else-none, quiet, length-is}
 use Rattle.bits.specs.Bits.{bitAt}
-use Rattle.models.specs.Models.{priorsOut}
 use Rattle.header.specs.Reading.{ReadModels, referencesRead, modelsRead}
-use Rattle.header_read.specs.Called.{readRefusal, noModels, answerOf, within, models}
-use Rattle.header_read.specs.Contracts.{PriorsReady, SevenIs}
+use Rattle.header_read.specs.Called.{priorRows, endRows, readRefusal, noModels, theModels, models}
+use Rattle.header_read.specs.Inner.{answerOf, within, PriorsReady, SevenIs}
 use Rattle.header_read.specs.declared.Seven.{Seven}
 use Rattle.header_read.proofs.References.{models-some}
 use Rattle.header_read.proofs.Shift.{read-from-byte}
 
+-- what the first group of rows lets pass
+pub priors-ready : (flag : ℕ) (qs : List ℤ) → judge (priorRows flag qs) ≡ 0 → PriorsReady qs
+priors-ready flag qs e =
+    let q = quiet (priorRows flag qs) tt e in
+    record { places = length-is (length qs) 42 (q .0); within = q .1 .1 .0 }
+
 module _ (header : List ℕ) (at flag : ℕ) (qs : List ℤ) where
-  pub wrong-length : (length qs ≡ 42 → ⊥) → noModels 2 ≡ models header at flag qs
+  -- the first group of rows
+  pub refused : (n : ℕ) → n ≡ judge (priorRows flag qs) → (n ≡ 0 → ⊥) → noModels n ≡ models header at flag qs
   unfolding models readRefusal
-  wrong-length n = rw (ne-eqb (length qs) 42 n)
+  refused n e some =
+      let t : ReadModels = modelsRead header at flag qs in
+      let r : judge (priorRows flag qs) ≡ orElse (judge (priorRows flag qs)) (judge (endRows header at t)) = or-else-refused (judge (priorRows flag qs)) (judge (endRows header at t)) (λ z. some (e ∙ z)) in
+      ap noModels (e ∙ r) ∙ sym (answered-refused noModels (orElse (judge (priorRows flag qs)) (judge (endRows header at t))) (theModels t) (λ z. some (e ∙ r ∙ z)))
 
-  pub no-such-code : length qs ≡ 42 → 1 < flag → noModels 4 ≡ models header at flag qs
+  pub read-within : judge (priorRows flag qs) ≡ 0 → within header at (modelsRead header at flag qs) ≡ models header at flag qs
   unfolding models readRefusal
-  no-such-code e f = rw (eq-eqb (length qs) 42 e, lt-ltb 1 flag f)
-
-  -- whichever slot it is, carried or not
-  refused-8 : length qs ≡ 42 → flag ≤ 1 → priorsOut qs ≡ true → readRefusal header at flag qs ≡ 8
-  unfolding readRefusal
-  refused-8 e f o =
-      rw (eq-eqb (length qs) 42 e, le-ltb 1 flag f)
-      (judge-hit 8 (priorsOut qs) (row 9 (ltb (8 * length header) (at + modelsRead header at flag qs .bits)) ∷ []) o)
-
-  pub prior-out : length qs ≡ 42 → flag ≤ 1 → priorsOut qs ≡ true → noModels 8 ≡ models header at flag qs
-  unfolding models
-  prior-out e f o = rw (refused-8 e f o)
+  read-within e =
+      ap (λ (n : ℕ). answered noModels n (theModels (modelsRead header at flag qs))) (or-else-none (judge (priorRows flag qs)) (judge (endRows header at (modelsRead header at flag qs))) e)
 
   pub read-or-ended : flag ≤ 1 → PriorsReady qs → within header at (modelsRead header at flag qs) ≡ models header at flag qs
-  unfolding models readRefusal
-  read-or-ended f p =
-      rw (eq-eqb (length qs) 42 (p .places), le-ltb 1 flag f, p .within)
-      (⊎-elim
-      (λ (e : ltb (8 * length header) (at + modelsRead header at flag qs .bits) ≡ true). rw e)
-      (λ (e : ltb (8 * length header) (at + modelsRead header at flag qs .bits) ≡ false). rw e)
-      (outcome (ltb (8 * length header) (at + modelsRead header at flag qs .bits))))
+  read-or-ended f p = read-within (rw (eq-eqb (length qs) 42 (p .places), le-ltb 1 flag f, p .within))
 
   -- no byte of the position
   pub ended : length header ≤ at / 8 → noModels 9 ≡ within header at (modelsRead header at flag qs)

@@ -11,11 +11,11 @@ use Rattle.bits.proofs.Held.{Holds}
 use Rattle.subexp.specs.Coefficient.{symbol, symbolBits}
 use Rattle.subexp.proofs.Coefficient.{symbol-within, symbol-again, symbol-all}
 use Rattle.grid.specs.Grid.{absBits, precBits, centre, step}
-use Rattle.grid.specs.Symbols.{symbols, symbolOf, priorOut}
+use Rattle.grid.specs.Symbols.{symbols, symbolOf, place, priorOut}
 use Rattle.grid.proofs.Bounds.{symbol-distance-small}
 use Rattle.grid.proofs.Symbols.{number-symbol, row-place-below}
 use Rattle.grid.proofs.Table.{table-row, centre-le}
-use Rattle.header.specs.Coefficient.{place, coefficient, coefficientBits}
+use Rattle.header.specs.Coefficient.{coefficient, coefficientBits}
 use Rattle.header.proofs.Coefficient.{at-most-23-bits}
 
 module _ (g : ℕ → ℕ) (bits : (i : ℕ) → g i < 2) (j gmType flag slot : ℕ) (q : ℤ) (prior : priorOut slot q ≡ false) where

@@ -12,8 +12,8 @@ use lib.Seq.{getD-take, take-at}
 use Rattle.laws.proofs.Cases.{lt-or-le}
 use Rattle.bits.specs.Bits.{bitAt}
 use Rattle.header.specs.Reading.{ReadModels, modelsRead}
-use Rattle.header_read.specs.Called.{noModels, within, models}
-use Rattle.header_read.specs.Contracts.{PriorsReady}
+use Rattle.header_read.specs.Called.{noModels, models}
+use Rattle.header_read.specs.Inner.{within, PriorsReady}
 use Rattle.header_read.proofs.Answers.{read-or-ended}
 use Rattle.header_read.proofs.Shift.{read-same}
 

@@ -1,5 +1,6 @@
 pub mod Coefficient
 pub mod Composed
+pub mod Slots
 pub mod References
 pub mod Rewritten
 pub mod Valid

@@ -1,7 +1,6 @@
 -- What is read of the seven references so far, and what is left to read, are all that is to be read: the loop's invariant and its steps.
 -- Assumes nothing.
 use Prim.Native.Nat.{ℕ, suc, _+_, _*_, _-_, _≤_, _<_}
-use mathlib.Core.Bool.{Bool, true, false}
 use mathlib.Core.List.{List, [], _∷_, _++_, append-nil, append-assoc}
 use mathlib.Core.Path.{_≡_, refl, sym, subst, _∙_}
 use native.Mathlib.Nat.{add-assoc}
@@ -11,39 +10,28 @@ use lib.Dec.{eqb, lit≤}
 use lib.IntN.{ℤ}
 use lib.ListN.{length, take, drop, set, length-append, length-set}
 use lib.Seq.{take-at, take-all, take-suc-set, length-take-le}
-use Rattle.laws.specs.Refusal.{choose}
 use Rattle.laws.specs.Placed.{placed}
 use Rattle.laws.proofs.Placed.{placed-length}
 use Rattle.bits.specs.Bits.{bitAt}
-use Rattle.header.specs.Reading.{ReadModel, identityRead, translationRead, rotzoomRead, affineRead, typeRead, typeLength, modelRead, referenceRead, referencesRead, modelsRead}
-use Rattle.header_read.specs.Contracts.{NextIs, SevenIs}
+use Rattle.grid.proofs.Slots.{chosen}
+use Rattle.header.specs.Reading.{ReadModel, sixFilled, typeRead, typeLength, modelRead, referenceRead, referencesRead, modelsRead}
+use Rattle.header_read.specs.Inner.{NextIs, SevenIs}
 use Rattle.header_read.specs.declared.Seven.{Seven}
-
-chosen : {A : Type 0} (P : A → Type 0) (b : Bool) (x y : A) → P x → P y → P (choose b x y)
-chosen P true x y p q = p
-chosen P false x y p q = q
 
 module _ (g : ℕ → ℕ) (flag : ℕ) (qs : List ℤ) where
   -- six numbers, whatever the type
-  model-six : (gmType first j : ℕ) → length (modelRead g flag qs gmType first j .six) ≡ 6
-  unfolding translationRead rotzoomRead affineRead
-  model-six gmType first j =
-      chosen (λ m. length (m .six) ≡ 6) (eqb gmType 0) (identityRead g flag qs) _ refl
-      (chosen (λ m. length (m .six) ≡ 6) (eqb gmType 1) (translationRead g flag qs first j) _ refl
-      (chosen (λ m. length (m .six) ≡ 6) (eqb gmType 2) (rotzoomRead g flag qs first j) (affineRead g flag qs first j) refl refl))
-
   pub reference-six : (first j : ℕ) → length (referenceRead g flag qs first j .six) ≡ 6
-  unfolding referenceRead
-  reference-six first j = model-six (typeRead g flag qs j) first (j + typeLength g flag qs (typeRead g flag qs j))
+  unfolding referenceRead modelRead sixFilled
+  reference-six first j = refl
 
-  type-some : (gmType : ℕ) → 1 ≤ typeLength g flag qs gmType
+  type-some : (gmType : ℕ) → 1 ≤ typeLength gmType
   type-some gmType =
       chosen (λ n. 1 ≤ n) (eqb gmType 0) 1 _ (lit≤ tt) (chosen (λ n. 1 ≤ n) (eqb gmType 2) 2 3 (lit≤ tt) (lit≤ tt))
 
   -- a reference takes at least one bit
   pub some-bits : (first j : ℕ) → 1 ≤ referenceRead g flag qs first j .bits
   unfolding referenceRead
-  some-bits first j = omega (arith, type-some (typeRead g flag qs j))
+  some-bits first j = omega (arith, type-some (typeRead g j))
 
   -- r references are read into `types` and `params`, up to position j
   pub record SoFar (at : ℕ) (types : List ℕ) (params : List ℤ) (j r : ℕ) : Type 0 where

@@ -1,10 +1,9 @@
 -- What was read, written again, gives the bits that were read, all of them and no more: a coefficient, a model, a reference, a header.
 -- Assumes nothing.
 use Prim.Native.Nat.{ℕ, zero, suc, _+_, _*_, _≤_, _<_}
-use mathlib.Core.List.{List, _∷_, _++_}
+use mathlib.Core.List.{List, [], _∷_, _++_}
 use mathlib.Core.Logic.{⊎-elim}
 use mathlib.Core.Path.{_≡_, refl, ap, sym, subst, _∙_}
-use native.Mathlib.Nat.{add-assoc}
 use native.Mathlib.Omega.{arith}
 use borrow.Author.Tests.{eq-eqb, ne-eqb}
 use lib.Dec.{lit<, lit≤}
@@ -15,10 +14,13 @@ use Rattle.laws.proofs.Cases.{eq-or-ne}
 use Rattle.bits.specs.Bits.{bitAt}
 use Rattle.bits.proofs.Held.{Holds}
 use Rattle.bits.proofs.Buffer.{bitAt-lt, holds-join}
+use Rattle.grid.specs.Slots.{slotsOf}
+use Rattle.grid.proofs.Slots.{Known, slots-known}
 use Rattle.header.specs.Coefficient.{coefficient, coefficientBits}
-use Rattle.header.specs.Reading.{ReadModel, pairRead, typeRead, typeLength, translationRead, rotzoomRead, affineRead, modelRead, referenceRead, referencesRead, modelsRead}
-use Rattle.header.specs.Valid.{ValidPrior}
-use Rattle.header.specs.Writing.{slotOf, typeBits, pairBits, modelBits, referenceBits, referencesBits, headerBits}
+use Rattle.header.specs.Reading.{ReadModel, typeRead, typeLength, sixFilled, slotsRead, modelRead, referenceRead, referencesRead, modelsRead}
+use Rattle.header.specs.Inner.{ValidPrior}
+use Rattle.header.specs.Writing.{slotOf, typeBits, slotsBits, modelBits, referenceBits, referencesBits, headerBits}
+use Rattle.header.proofs.Reference.{numbersOf, type-count}
 use Rattle.header_read.proofs.Coefficient.{coefficient-again, coefficient-all}
 use Rattle.header_read.proofs.References.{reference-six}
 
@@ -49,8 +51,8 @@ module _ (g : ℕ → ℕ) (bits : (i : ℕ) → g i < 2) (flag : ℕ) (qs : Lis
   bit-none i n = omega (arith, bits i)
 
   pub record TypeAgain (j : ℕ) : Type 0 where
-    pub known : typeRead g flag qs j ≤ 3
-    pub holds : Holds g j (typeBits (typeRead g flag qs j))
+    pub known : typeRead g j ≤ 3
+    pub holds : Holds g j (typeBits (typeRead g j))
 
   pub type-again : (j : ℕ) → TypeAgain j
   type-again j =
@@ -80,13 +82,6 @@ module _ (g : ℕ → ℕ) (bits : (i : ℕ) → g i < 2) (flag : ℕ) (qs : Lis
       (eq-or-ne (g (j + 1)) 1))
       (eq-or-ne (g j) 0)
 
-  pub type-count : (gmType : ℕ) → gmType ≤ 3 → length (typeBits gmType) ≡ typeLength g flag qs gmType
-  type-count zero l = refl
-  type-count (suc zero) l = refl
-  type-count (suc (suc zero)) l = refl
-  type-count (suc (suc (suc zero))) l = refl
-  type-count (suc (suc (suc (suc n)))) l = absurd (omega arith)
-
   -- ---- a reference, whose six numbers stand in ps
 
   module _ (ps : List ℤ) (first : ℕ) (priors : ValidPrior qs first) where
@@ -99,51 +94,38 @@ module _ (g : ℕ → ℕ) (bits : (i : ℕ) → g i < 2) (flag : ℕ) (qs : Lis
           count = coefficient-all g bits j gmType flag slot (slotOf qs first slot) (priors .within slot l);
         })
 
-    pair-again : (gmType slot j : ℕ) → slot + 1 < 6
-        → slotOf ps first slot ≡ pairRead g flag qs gmType first slot j .first → slotOf ps first (slot + 1) ≡ pairRead g flag qs gmType first slot j .second
-        → Again g j (pairBits flag ps qs gmType first slot) (pairRead g flag qs gmType first slot j .bits)
-    unfolding pairRead pairBits
-    pair-again gmType slot j l e f =
-        let n : ℕ = coefficient g j gmType flag slot (slotOf qs first slot) .bits in
-        again-both g j _ _ n _ (slot-again gmType slot j (omega arith) e) (slot-again gmType (slot + 1) (j + n) l f)
+    -- the numbers read are those of ps
+    slots-again : (gmType : ℕ) (ss : List ℕ) (j : ℕ) → Known ss → slotsRead g flag qs gmType first ss j .values ≡ numbersOf ps first ss
+        → Again g j (slotsBits flag ps qs gmType first ss) (slotsRead g flag qs gmType first ss j .bits)
+    slots-again gmType [] j k e = record { holds = tt; count = refl }
+    slots-again gmType (s ∷ ss) j k e =
+        let n : ℕ = coefficient g j gmType flag s (slotOf qs first s) .bits in
+        again-both g j _ _ n _
+        (slot-again gmType s j (k .0) (ap (λ (l : List ℤ). getD l 0 (pos 0)) (sym e)))
+        (slots-again gmType ss (j + n) (k .1) (ap (λ (l : List ℤ). drop 1 l) e))
 
     -- the six numbers of ps are those of the model read
-    Reads : ReadModel → Type 0
+    abbrev pub Reads : ReadModel → Type 0
     Reads m = (slot : ℕ) → slot < 6 → slotOf ps first slot ≡ getD (m .six) slot (pos 0)
 
-    translation-again : (j : ℕ) → Reads (translationRead g flag qs first j) → Again g j (modelBits flag ps qs 1 first) (translationRead g flag qs first j .bits)
-    unfolding Reads translationRead
-    translation-again j e = pair-again 1 0 j (lit< tt) (e 0 (lit< tt)) (e 1 (lit< tt))
-
-    rotzoom-again : (j : ℕ) → Reads (rotzoomRead g flag qs first j) → Again g j (modelBits flag ps qs 2 first) (rotzoomRead g flag qs first j .bits)
-    unfolding Reads rotzoomRead
-    rotzoom-again j e =
-        let n : ℕ = pairRead g flag qs 2 first 2 j .bits in
-        again-both g j _ _ n _ (pair-again 2 2 j (lit< tt) (e 2 (lit< tt)) (e 3 (lit< tt))) (pair-again 2 0 (j + n) (lit< tt) (e 0 (lit< tt)) (e 1 (lit< tt)))
-
-    affine-again : (j : ℕ) → Reads (affineRead g flag qs first j) → Again g j (modelBits flag ps qs 3 first) (affineRead g flag qs first j .bits)
-    unfolding Reads affineRead
-    affine-again j e =
-        let n : ℕ = pairRead g flag qs 3 first 2 j .bits in
-        let m : ℕ = pairRead g flag qs 3 first 4 (j + n) .bits in
-        let k : ℕ = pairRead g flag qs 3 first 0 (j + n + m) .bits in
-        rw (add-assoc n m k)
-        (again-both g j _ _ n (m + k) (pair-again 3 2 j (lit< tt) (e 2 (lit< tt)) (e 3 (lit< tt)))
-        (again-both g (j + n) _ _ m k (pair-again 3 4 (j + n) (lit< tt) (e 4 (lit< tt)) (e 5 (lit< tt))) (pair-again 3 0 (j + n + m) (lit< tt) (e 0 (lit< tt)) (e 1 (lit< tt)))))
+    pub numbers-read : (gmType j : ℕ) → gmType ≤ 3 → Reads (modelRead g flag qs gmType first j) → slotsRead g flag qs gmType first (slotsOf gmType) j .values ≡ numbersOf ps first (slotsOf gmType)
+    unfolding modelRead sixFilled
+    numbers-read zero j l e = refl
+    numbers-read (suc zero) j l e = rw (e 0 (lit< tt), e 1 (lit< tt))
+    numbers-read (suc (suc zero)) j l e = rw (e 2 (lit< tt), e 3 (lit< tt), e 0 (lit< tt), e 1 (lit< tt))
+    numbers-read (suc (suc (suc zero))) j l e = rw (e 2 (lit< tt), e 3 (lit< tt), e 4 (lit< tt), e 5 (lit< tt), e 0 (lit< tt), e 1 (lit< tt))
+    numbers-read (suc (suc (suc (suc n)))) j l e = absurd (omega arith)
 
     model-again : (gmType j : ℕ) → gmType ≤ 3 → Reads (modelRead g flag qs gmType first j) → Again g j (modelBits flag ps qs gmType first) (modelRead g flag qs gmType first j .bits)
-    model-again zero j l e = record { holds = tt; count = refl }
-    model-again (suc zero) j l e = translation-again j e
-    model-again (suc (suc zero)) j l e = rotzoom-again j e
-    model-again (suc (suc (suc zero))) j l e = affine-again j e
-    model-again (suc (suc (suc (suc n)))) j l e = absurd (omega arith)
+    unfolding modelBits modelRead
+    model-again gmType j l e = slots-again gmType (slotsOf gmType) j (slots-known gmType) (numbers-read gmType j l e)
 
     pub reference-again : (j : ℕ) → take 6 (drop first ps) ≡ referenceRead g flag qs first j .six
-        → Again g j (referenceBits flag ps qs (typeRead g flag qs j) first) (referenceRead g flag qs first j .bits)
-    unfolding Reads referenceRead referenceBits
+        → Again g j (referenceBits flag ps qs (typeRead g j) first) (referenceRead g flag qs first j .bits)
+    unfolding referenceRead referenceBits
     reference-again j e =
-        let gmType : ℕ = typeRead g flag qs j in
-        let n : ℕ = typeLength g flag qs gmType in
+        let gmType : ℕ = typeRead g j in
+        let n : ℕ = typeLength gmType in
         again-both g j (typeBits gmType) _ n _
         (record { holds = type-again j .holds; count = type-count gmType (type-again j .known) })
         (model-again gmType (j + n) (type-again j .known) (slot-read ps _ first e))
@@ -219,7 +201,7 @@ module _ (g : ℕ → ℕ) (bits : (i : ℕ) → g i < 2) (flag : ℕ) (qs : Lis
         }
 
   -- the type of a reference read
-  pub gm-type : (first j : ℕ) → referenceRead g flag qs first j .gmType ≡ typeRead g flag qs j
+  pub gm-type : (first j : ℕ) → referenceRead g flag qs first j .gmType ≡ typeRead g j
   unfolding referenceRead
   gm-type first j = refl
 
@@ -228,7 +210,7 @@ module _ (g : ℕ → ℕ) (bits : (i : ℕ) → g i < 2) (flag : ℕ) (qs : Lis
     references-again types ps zero r j s = record { holds = tt; count = refl }
     references-again types ps (suc n) r j s =
         let m : ReadModel = referenceRead g flag qs (6 * r) j in
-        let t : getD types r 0 ≡ typeRead g flag qs j = stands-type types ps n r j s ∙ gm-type (6 * r) j in
+        let t : getD types r 0 ≡ typeRead g j = stands-type types ps n r j s ∙ gm-type (6 * r) j in
         again-both g j (referenceBits flag ps qs (getD types r 0) (6 * r)) (referencesBits flag ps qs types n (r + 1)) (m .bits) _
         (rw t (reference-again ps (6 * r) (priors r (omega (arith, s .within))) j (stands-six types ps n r j s)))
         (references-again types ps n (r + 1) (j + m .bits) (stands-later types ps n r j s))

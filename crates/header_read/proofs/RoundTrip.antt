@@ -14,10 +14,13 @@ use Rattle.bits.specs.Fields.{padBits}
 use Rattle.bits.proofs.Buffer.{holds-join, length-putBits}
 use Rattle.bits.proofs.Byte.{parts}
 use Rattle.header.specs.Reading.{ReadModels, modelsRead}
-use Rattle.header.specs.Writing.{headerBits, placed, bytesFor}
+use Rattle.header.specs.Count.{headerCount}
+use Rattle.header.specs.Writing.{headerBits, bitsPlaced, bytesFor, writeRefusal, written, headerAfter}
+use Rattle.header.proofs.Accepted.{accepted, answer-written, bytes-written}
+use Rattle.header.proofs.Count.{header-count}
 use Rattle.header.proofs.RoundTrip.{Writable, round-trip}
-use Rattle.header_read.specs.Called.{noModels, within, models}
-use Rattle.header_read.specs.Contracts.{PriorsReady}
+use Rattle.header_read.specs.Called.{noModels, models}
+use Rattle.header_read.specs.Inner.{within, PriorsReady}
 use Rattle.header_read.proofs.Answers.{read-or-ended}
 use Rattle.header_read.proofs.Cut.{cut}
 use Rattle.header_read.proofs.Rewritten.{Again, rewritten}
@@ -29,21 +32,31 @@ module _ (types : List ℕ) (ps : List ℤ) (flag : ℕ) (qs : List ℤ) (w : Wr
   ready : PriorsReady qs
   ready = record { places = w .priors; within = w .within }
 
-  pub written-read : models (placed start (headerBits types ps flag qs) old) start flag qs ≡ record { refusal = 0; types = types; params = ps; bits = length (headerBits types ps flag qs) }
+  pub written-read : models (bitsPlaced start (headerBits types ps flag qs) old) start flag qs ≡ record { refusal = 0; types = types; params = ps; bits = length (headerBits types ps flag qs) }
   written-read =
       let bs : List ℕ = headerBits types ps flag qs in
-      let bytes : List ℕ = placed start bs old in
+      let bytes : List ℕ = bitsPlaced start bs old in
       let long : length bytes ≡ length old = length-putBits old start (bs ++ padBits (start + length bs)) in
       let e : modelsRead bytes start flag qs ≡ record { types = types; params = ps; bits = length bs } = round-trip types ps flag qs w start old room in
       sym (read-or-ended bytes start flag qs f ready)
       ∙ ap (within bytes start) e
-      ∙ rw (le-ltb (8 * length (placed start (headerBits types ps flag qs) old)) (start + length (headerBits types ps flag qs)) (omega (arith, long)))
+      ∙ rw (le-ltb (8 * length (bitsPlaced start (headerBits types ps flag qs) old)) (start + length (headerBits types ps flag qs)) (omega (arith, long)))
 
   -- cut short of its bytes
-  pub written-cut : (n : ℕ) → n < bytesFor start (length (headerBits types ps flag qs)) → models (take n (placed start (headerBits types ps flag qs) old)) start flag qs ≡ noModels 9
+  pub written-cut : (n : ℕ) → n < bytesFor start (length (headerBits types ps flag qs)) → models (take n (bitsPlaced start (headerBits types ps flag qs) old)) start flag qs ≡ noModels 9
   written-cut n h =
-      let e : modelsRead (placed start (headerBits types ps flag qs) old) start flag qs .bits ≡ length (headerBits types ps flag qs) = ap (λ (t : ReadModels). t .bits) (round-trip types ps flag qs w start old room) in
-      cut (placed start (headerBits types ps flag qs) old) start flag qs ready n f (omega (arith, e))
+      let e : modelsRead (bitsPlaced start (headerBits types ps flag qs) old) start flag qs .bits ≡ length (headerBits types ps flag qs) = ap (λ (t : ReadModels). t .bits) (round-trip types ps flag qs w start old room) in
+      cut (bitsPlaced start (headerBits types ps flag qs) old) start flag qs ready n f (omega (arith, e))
+
+-- an accepted writing from `start` on is read there: the models written, as many bits as were written, and these are counted
+module _ (start : ℕ) (types : List ℕ) (ps : List ℤ) (flag : ℕ) (qs : List ℤ) (old : List ℕ) (e : writeRefusal start types ps flag qs (length old) ≡ 0) where
+  pub accepted-read : models (headerAfter start types ps flag qs old) start flag qs ≡ record { refusal = 0; types = types; params = ps; bits = length (headerBits types ps flag qs) }
+  accepted-read =
+      let a = accepted types ps flag qs start (length old) e in
+      ap (λ (l : List ℕ). models l start flag qs) (bytes-written types ps flag qs start old e) ∙ written-read types ps flag qs (a .writable) (a .flagged) start old (a .roomy)
+
+  pub bits-counted : written start types ps flag qs (length old) ≡ record { refusal = 0; bits = headerCount types ps flag qs }
+  bits-counted = answer-written types ps flag qs start (length old) e ∙ ap (λ (n : ℕ). record { refusal = 0; bits = n }) (header-count types ps flag qs)
 
 -- ---- read, then written
 
@@ -62,7 +75,7 @@ putBits-again l j (b ∷ bs) h = rw (putBit-again l j b (h .0)) (putBits-again l
 -- where the bits behind the header are the zeros that the writer puts there, the same bytes
 pub read-written : (header : List ℕ) (at flag : ℕ) (qs : List ℤ) → PriorsReady qs
     → Holds (bitAt header) (at + modelsRead header at flag qs .bits) (padBits (at + modelsRead header at flag qs .bits))
-    → placed at (headerBits (modelsRead header at flag qs .types) (modelsRead header at flag qs .params) flag qs) header ≡ header
+    → bitsPlaced at (headerBits (modelsRead header at flag qs .types) (modelsRead header at flag qs .params) flag qs) header ≡ header
 read-written header at flag qs p h =
     let t : ReadModels = modelsRead header at flag qs in
     let bs : List ℕ = headerBits (t .types) (t .params) flag qs in

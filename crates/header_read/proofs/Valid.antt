@@ -2,11 +2,11 @@
 -- Assumes nothing.
 use Prim.Native.Nat.{ℕ, zero, suc, _+_, _*_, _≤_, _<_}
 use mathlib.Core.Bool.{true, false}
-use mathlib.Core.List.{List}
+use mathlib.Core.List.{List, [], _∷_}
 use mathlib.Core.Logic.{⊎-elim}
 use mathlib.Core.Path.{_≡_, ap, sym, subst, _∙_}
 use native.Mathlib.Omega.{arith}
-use borrow.Author.Tests.{le-ltb, eq-eqb}
+use borrow.Author.Tests.{le-ltb}
 use lib.Dec.{lit<, lit≤}
 use lib.IntN.{ℤ, pos, negℤ}
 use lib.ListN.{length, getD, take, drop}
@@ -16,15 +16,20 @@ use Rattle.bits.specs.Bits.{bitAt}
 use Rattle.bits.proofs.Buffer.{bitAt-lt}
 use Rattle.grid.specs.Grid.{absBits, precBits, centre, Codable, quantized}
 use Rattle.grid.proofs.Table.{row-own}
+use Rattle.grid.specs.Slots.{slotsOf}
+use Rattle.grid.proofs.Slots.{Known, slots-known}
 use Rattle.models.specs.Models.{carries, filler, slotWrong, slotAt, modelWrong, modelAt, modelsWrong, priorsOut, typeAt, typesOver}
 use Rattle.models.proofs.Integers.{equal-same}
 use Rattle.header.specs.Coefficient.{coefficient}
-use Rattle.header.specs.Reading.{ReadModel, pairRead, typeRead, typeLength, identityRead, translationRead, rotzoomRead, affineRead, modelRead, referenceRead, modelsRead}
-use Rattle.header.specs.Valid.{ValidModel, ValidPrior}
+use Rattle.header.specs.Reading.{typeRead, typeLength, sixFilled, slotsRead, modelRead, referenceRead, modelsRead}
+use Rattle.header.specs.Inner.{ValidPrior}
 use Rattle.header.specs.Writing.{slotOf, headerBits, bytesFor, writeRefusal}
 use Rattle.header.proofs.Coefficient.{coefficient-codable}
+use Rattle.header.proofs.Accepted as writing
+use Rattle.header.proofs.Reference.{numbersOf, OnGrid}
 use Rattle.header.proofs.RoundTrip.{Writable, valid-prior}
-use Rattle.header_read.proofs.Rewritten.{slot-read, type-again, Stands, stands-type, stands-six, stands-later, gm-type, stands, seven-types, params-42}
+use Rattle.header.proofs.Valid.{ValidModel}
+use Rattle.header_read.proofs.Rewritten.{slot-read, numbers-read, Reads, type-again, Stands, stands-type, stands-six, stands-later, gm-type, stands, seven-types, params-42}
 
 -- a fact of each slot of six
 six-slots : (P : ℕ → Type 0) → P 0 → P 1 → P 2 → P 3 → P 4 → P 5 → (slot : ℕ) → slot < 6 → P slot
@@ -43,84 +48,53 @@ true-false : {A : Type 0} → true ≡ false → A
 true-false {A} e = absurd (let z : _≡_ {A = ℕ} 0 1 = cc in omega arith)
 
 module _ (g : ℕ → ℕ) (bits : (i : ℕ) → g i < 2) (flag : ℕ) (qs ps : List ℤ) (first : ℕ) (priors : ValidPrior qs first) where
-  first-codable : (gmType slot j : ℕ) → slot + 1 < 6 → (z : ℤ) → z ≡ pairRead g flag qs gmType first slot j .first → Codable (absBits gmType flag slot) (precBits gmType flag slot) (centre slot) z
-  unfolding pairRead
-  first-codable gmType slot j l z e =
-      subst (Codable (absBits gmType flag slot) (precBits gmType flag slot) (centre slot)) (sym e)
-      (coefficient-codable gmType flag slot g bits j (slotOf qs first slot) (priors .within slot (omega arith)))
+  -- the numbers read are on their slots' grids
+  slots-codable : (gmType : ℕ) (ss : List ℕ) (j : ℕ) → Known ss → slotsRead g flag qs gmType first ss j .values ≡ numbersOf ps first ss → OnGrid gmType flag ps first ss
+  slots-codable gmType [] j k e = tt
+  slots-codable gmType (s ∷ ss) j k e = (
+    subst (Codable (absBits gmType flag s) (precBits gmType flag s) (centre s)) (ap (λ (l : List ℤ). getD l 0 (pos 0)) e) (coefficient-codable gmType flag s g bits j (slotOf qs first s) (priors .within s (k .0))),
+    slots-codable gmType ss (j + coefficient g j gmType flag s (slotOf qs first s) .bits) (k .1) (ap (λ (l : List ℤ). drop 1 l) e),
+  )
 
-  second-codable : (gmType slot j : ℕ) → slot + 1 < 6 → (z : ℤ) → z ≡ pairRead g flag qs gmType first slot j .second → Codable (absBits gmType flag (slot + 1)) (precBits gmType flag (slot + 1)) (centre (slot + 1)) z
-  unfolding pairRead
-  second-codable gmType slot j l z e =
-      subst (Codable (absBits gmType flag (slot + 1)) (precBits gmType flag (slot + 1)) (centre (slot + 1))) (sym e)
-      (coefficient-codable gmType flag (slot + 1) g bits (j + coefficient g j gmType flag slot (slotOf qs first slot) .bits) (slotOf qs first (slot + 1)) (priors .within (slot + 1) l))
+  -- a slot that is filled holds what fills it
+  Filled : ℕ → ℕ → Type 0
+  Filled gmType slot = carries gmType slot ≡ false → slotOf ps first slot ≡ filler gmType slot (slotOf ps first 2) (slotOf ps first 3)
 
-  Reads : ReadModel → Type 0
-  Reads m = (slot : ℕ) → slot < 6 → slotOf ps first slot ≡ getD (m .six) slot (pos 0)
+  Carried : ℕ → ℕ → Type 0
+  Carried gmType slot = carries gmType slot ≡ true → Codable (absBits gmType flag slot) (precBits gmType flag slot) (centre slot) (slotOf ps first slot)
 
-  identity-valid : Reads (identityRead g flag qs) → ValidModel 0 flag ps first
-  unfolding Reads filler
-  identity-valid e =
+  carried : (gmType : ℕ) → gmType ≤ 3 → OnGrid gmType flag ps first (slotsOf gmType) → (slot : ℕ) → slot < 6 → Carried gmType slot
+  unfolding Carried
+  carried zero l o = λ slot h c. false-true c
+  carried (suc zero) l o = six-slots (Carried 1) (λ c. o .0) (λ c. o .1 .0) false-true false-true false-true false-true
+  carried (suc (suc zero)) l o = six-slots (Carried 2) (λ c. o .1 .1 .0) (λ c. o .1 .1 .1 .0) (λ c. o .0) (λ c. o .1 .0) false-true false-true
+  carried (suc (suc (suc zero))) l o =
+      six-slots (Carried 3) (λ c. o .1 .1 .1 .1 .0) (λ c. o .1 .1 .1 .1 .1 .0) (λ c. o .0) (λ c. o .1 .0) (λ c. o .1 .1 .0) (λ c. o .1 .1 .1 .0)
+  carried (suc (suc (suc (suc n)))) l o = absurd (omega arith)
+
+  filled : (gmType j : ℕ) → gmType ≤ 3 → Reads g bits flag qs ps first priors (modelRead g flag qs gmType first j) → (slot : ℕ) → slot < 6 → Filled gmType slot
+  unfolding Filled filler modelRead sixFilled
+  filled zero j l e = six-slots (Filled 0) (λ c. e 0 (lit< tt)) (λ c. e 1 (lit< tt)) (λ c. e 2 (lit< tt)) (λ c. e 3 (lit< tt)) (λ c. e 4 (lit< tt)) (λ c. e 5 (lit< tt))
+  filled (suc zero) j l e = six-slots (Filled 1) true-false true-false (λ c. e 2 (lit< tt)) (λ c. e 3 (lit< tt)) (λ c. e 4 (lit< tt)) (λ c. e 5 (lit< tt))
+  filled (suc (suc zero)) j l e =
+      six-slots (Filled 2) true-false true-false true-false true-false (λ c. e 4 (lit< tt) ∙ ap negℤ (sym (e 3 (lit< tt)))) (λ c. e 5 (lit< tt) ∙ sym (e 2 (lit< tt)))
+  filled (suc (suc (suc zero))) j l e = λ slot h c. true-false c
+  filled (suc (suc (suc (suc n)))) j l e = absurd (omega arith)
+
+  model-valid : (gmType j : ℕ) → gmType ≤ 3 → Reads g bits flag qs ps first priors (modelRead g flag qs gmType first j) → ValidModel gmType flag ps first
+  unfolding Filled Carried
+  model-valid gmType j l e =
       record {
-        known = lit≤ tt;
-        carried = λ slot l c. false-true c;
-        filled = six-slots (λ (slot : ℕ). carries 0 slot ≡ false → slotOf ps first slot ≡ filler 0 slot (slotOf ps first 2) (slotOf ps first 3))
-            (λ c. e 0 (lit< tt)) (λ c. e 1 (lit< tt)) (λ c. e 2 (lit< tt)) (λ c. e 3 (lit< tt)) (λ c. e 4 (lit< tt)) (λ c. e 5 (lit< tt));
+        known = l;
+        carried = carried gmType l (slots-codable gmType (slotsOf gmType) j (slots-known gmType) (numbers-read g bits flag qs ps first priors gmType j l e));
+        filled = filled gmType j l e;
       }
-
-  translation-valid : (j : ℕ) → Reads (translationRead g flag qs first j) → ValidModel 1 flag ps first
-  unfolding Reads filler translationRead
-  translation-valid j e =
-      record {
-        known = lit≤ tt;
-        carried = six-slots (λ (slot : ℕ). carries 1 slot ≡ true → Codable (absBits 1 flag slot) (precBits 1 flag slot) (centre slot) (slotOf ps first slot))
-            (λ c. first-codable 1 0 j (lit< tt) (slotOf ps first 0) (e 0 (lit< tt))) (λ c. second-codable 1 0 j (lit< tt) (slotOf ps first 1) (e 1 (lit< tt)))
-            (λ c. false-true c) (λ c. false-true c) (λ c. false-true c) (λ c. false-true c);
-        filled = six-slots (λ (slot : ℕ). carries 1 slot ≡ false → slotOf ps first slot ≡ filler 1 slot (slotOf ps first 2) (slotOf ps first 3))
-            (λ c. true-false c) (λ c. true-false c) (λ c. e 2 (lit< tt)) (λ c. e 3 (lit< tt)) (λ c. e 4 (lit< tt)) (λ c. e 5 (lit< tt));
-      }
-
-  rotzoom-valid : (j : ℕ) → Reads (rotzoomRead g flag qs first j) → ValidModel 2 flag ps first
-  unfolding Reads filler rotzoomRead
-  rotzoom-valid j e =
-      let k : ℕ = j + pairRead g flag qs 2 first 2 j .bits in
-      record {
-        known = lit≤ tt;
-        carried = six-slots (λ (slot : ℕ). carries 2 slot ≡ true → Codable (absBits 2 flag slot) (precBits 2 flag slot) (centre slot) (slotOf ps first slot))
-            (λ c. first-codable 2 0 k (lit< tt) (slotOf ps first 0) (e 0 (lit< tt))) (λ c. second-codable 2 0 k (lit< tt) (slotOf ps first 1) (e 1 (lit< tt)))
-            (λ c. first-codable 2 2 j (lit< tt) (slotOf ps first 2) (e 2 (lit< tt))) (λ c. second-codable 2 2 j (lit< tt) (slotOf ps first 3) (e 3 (lit< tt)))
-            (λ c. false-true c) (λ c. false-true c);
-        filled = six-slots (λ (slot : ℕ). carries 2 slot ≡ false → slotOf ps first slot ≡ filler 2 slot (slotOf ps first 2) (slotOf ps first 3))
-            (λ c. true-false c) (λ c. true-false c) (λ c. true-false c) (λ c. true-false c)
-            (λ c. e 4 (lit< tt) ∙ ap negℤ (sym (e 3 (lit< tt)))) (λ c. e 5 (lit< tt) ∙ sym (e 2 (lit< tt)));
-      }
-
-  affine-valid : (j : ℕ) → Reads (affineRead g flag qs first j) → ValidModel 3 flag ps first
-  unfolding Reads affineRead
-  affine-valid j e =
-      let k : ℕ = j + pairRead g flag qs 3 first 2 j .bits in
-      let l : ℕ = k + pairRead g flag qs 3 first 4 k .bits in
-      record {
-        known = lit≤ tt;
-        carried = six-slots (λ (slot : ℕ). carries 3 slot ≡ true → Codable (absBits 3 flag slot) (precBits 3 flag slot) (centre slot) (slotOf ps first slot))
-            (λ c. first-codable 3 0 l (lit< tt) (slotOf ps first 0) (e 0 (lit< tt))) (λ c. second-codable 3 0 l (lit< tt) (slotOf ps first 1) (e 1 (lit< tt)))
-            (λ c. first-codable 3 2 j (lit< tt) (slotOf ps first 2) (e 2 (lit< tt))) (λ c. second-codable 3 2 j (lit< tt) (slotOf ps first 3) (e 3 (lit< tt)))
-            (λ c. first-codable 3 4 k (lit< tt) (slotOf ps first 4) (e 4 (lit< tt))) (λ c. second-codable 3 4 k (lit< tt) (slotOf ps first 5) (e 5 (lit< tt)));
-        filled = λ slot l c. true-false c;
-      }
-
-  model-valid : (gmType j : ℕ) → gmType ≤ 3 → Reads (modelRead g flag qs gmType first j) → ValidModel gmType flag ps first
-  model-valid zero j l e = identity-valid e
-  model-valid (suc zero) j l e = translation-valid j e
-  model-valid (suc (suc zero)) j l e = rotzoom-valid j e
-  model-valid (suc (suc (suc zero))) j l e = affine-valid j e
-  model-valid (suc (suc (suc (suc n)))) j l e = absurd (omega arith)
 
   -- a reference read, whose six numbers stand in ps
-  pub reference-valid : (j : ℕ) → take 6 (drop first ps) ≡ referenceRead g flag qs first j .six → ValidModel (typeRead g flag qs j) flag ps first
-  unfolding Reads referenceRead
+  pub reference-valid : (j : ℕ) → take 6 (drop first ps) ≡ referenceRead g flag qs first j .six → ValidModel (typeRead g j) flag ps first
+  unfolding referenceRead
   reference-valid j e =
-      model-valid (typeRead g flag qs j) (j + typeLength g flag qs (typeRead g flag qs j)) (type-again g bits flag qs j .known) (slot-read ps _ first e)
+      model-valid (typeRead g j) (j + typeLength (typeRead g j)) (type-again g bits flag qs j .known) (slot-read ps _ first e)
 
 module _ (g : ℕ → ℕ) (bits : (i : ℕ) → g i < 2) (flag : ℕ) (qs : List ℤ) (priors : (r : ℕ) → r < 7 → ValidPrior qs (6 * r)) (types : List ℕ) (ps : List ℤ) where
   -- reference k of those that stand in `types` and `ps` from r on
@@ -129,7 +103,7 @@ module _ (g : ℕ → ℕ) (bits : (i : ℕ) → g i < 2) (flag : ℕ) (qs : Lis
   references-valid (suc n) r j s k h l =
       ⊎-elim
       (λ (e : k ≡ r).
-      let t : getD types r 0 ≡ typeRead g flag qs j = stands-type g bits flag qs types ps n r j s ∙ gm-type g bits flag qs (6 * r) j in
+      let t : getD types r 0 ≡ typeRead g j = stands-type g bits flag qs types ps n r j s ∙ gm-type g bits flag qs (6 * r) j in
       rw (e, t) (reference-valid g bits flag qs ps (6 * r) (priors r (omega (arith, s .within))) j (stands-six g bits flag qs types ps n r j s)))
       (λ (e : k ≡ r → ⊥). references-valid n (r + 1) (j + referenceRead g flag qs (6 * r) j .bits) (stands-later g bits flag qs types ps n r j s) k (omega arith) (omega arith))
       (eq-or-ne k r)
@@ -177,17 +151,7 @@ module _ (header : List ℕ) (at flag : ℕ) (qs : List ℤ) (long : length qs �
       }
 
   -- a writing call with room for it refuses nothing
-  pub not-refused : flag ≤ 1 → (room : ℕ) → bytesFor 0 (length (headerBits (modelsRead header at flag qs .types) (modelsRead header at flag qs .params) flag qs)) ≤ room
-      → writeRefusal (modelsRead header at flag qs .types) (modelsRead header at flag qs .params) flag qs room ≡ 0
-  unfolding writeRefusal
-  not-refused f room h =
-      rw (
-        eq-eqb (length (modelsRead header at flag qs .types)) 7 (writable .seven),
-        eq-eqb (length (modelsRead header at flag qs .params)) 42 (writable .models),
-        eq-eqb (length qs) 42 long,
-        writable .known,
-        le-ltb 1 flag f,
-        writable .right,
-        within,
-        le-ltb room (bytesFor 0 (length (headerBits (modelsRead header at flag qs .types) (modelsRead header at flag qs .params) flag qs))) h,
-      )
+  pub not-refused : flag ≤ 1 → (start room : ℕ) → bytesFor start (length (headerBits (modelsRead header at flag qs .types) (modelsRead header at flag qs .params) flag qs)) ≤ room
+      → writeRefusal start (modelsRead header at flag qs .types) (modelsRead header at flag qs .params) flag qs room ≡ 0
+  not-refused f start room h =
+      writing.not-refused (modelsRead header at flag qs .types) (modelsRead header at flag qs .params) flag qs start room (record { writable = writable; flagged = f; roomy = h })

@@ -8,9 +8,9 @@ use Rattle.bits.specs.Ns.{bitLength, ns}
 use Rattle.subexp.specs.Ladder.{subexp}
 use Rattle.subexp.specs.Recenter.{symbolOf}
 use Rattle.grid.specs.Symbols.{placeOf}
-use Rattle.models.specs.Models.{priorsOut}
+use Rattle.models.specs.Models.{filler, priorsOut}
 use Rattle.header.specs.Coefficient.{coefficient}
-use Rattle.header.specs.Reading.{pairRead, translationRead, rotzoomRead, affineRead, referenceRead, modelsRead}
+use Rattle.header.specs.Reading.{sixFilled, modelRead, referenceRead, modelsRead}
 use Rattle.header_read.specs.Called.{readRefusal, noModels, models}
 
 abbrev identities : List ℤ
@@ -40,5 +40,5 @@ pub record Worked : Type 0 where
   pub prior-slot-3 : models [] 0 1 priorOut ≡ noModels 8
 
 pub worked : Worked
-unfolding bitAt bitLength ns subexp symbolOf placeOf priorsOut coefficient pairRead translationRead rotzoomRead affineRead referenceRead modelsRead readRefusal models
+unfolding bitAt bitLength ns subexp symbolOf placeOf priorsOut filler coefficient sixFilled modelRead referenceRead modelsRead readRefusal models
 worked = record { seventeen-bits = refl; ends-a-byte-early = refl; empty-header = refl; short-prior = refl; no-such-flag = refl; prior-slot-3 = refl }

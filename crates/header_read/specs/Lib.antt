@@ -1,3 +1,2 @@
 pub mod Called
-pub mod Contracts
-pub mod Count
+pub mod Inner

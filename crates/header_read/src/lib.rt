@@ -6,25 +6,22 @@ ghost use mathlib.Core.Path.{_≡_};
 ghost use Prim.Native.Nat.{_+_, _*_, _^_, _≤_, _<_};
 ghost use lib.IntN.{natAbs, negℤ};
 ghost use Rattle.laws.specs.Placed.{placed};
+ghost use lib.ListN.{length};
 ghost use Rattle.bits.specs.Bits.{bitAt};
-ghost use Rattle.grid.specs.Grid.{absBits, precBits, centre};
-ghost use Rattle.grid.specs.Symbols.{symbols, numberOf};
+ghost use Rattle.grid.specs.Inner.{PriorIn};
+ghost use Rattle.grid.specs.Slots.{slotsOf};
+ghost use Rattle.laws.specs.Refusal.{judge};
 ghost use Rattle.header.specs.Coefficient.{coefficient};
-ghost use Rattle.header.specs.Contracts.{PriorIn};
-ghost use Rattle.header.specs.Reading.{pairRead, translationRead, rotzoomRead, affineRead, modelRead, referenceRead, referencesRead, modelsRead};
+ghost use Rattle.header.specs.Reading.{slotsRead, sixFilled, modelRead, referenceRead, referencesRead, modelsRead};
 ghost use Rattle.header.specs.Writing.{slotOf};
-ghost use Rattle.header_read.specs.Called.{noModels, answerOf, within, models};
-ghost use Rattle.header_read.specs.Contracts.{Ready, AllReady, PriorsReady, ParamIs, PairIs, TypeIs, ModelIs, NextIs, SevenIs};
+ghost use Rattle.header_read.specs.Called.{priorRows, noModels, models};
+ghost use Rattle.header_read.specs.Inner.{answerOf, within, Ready, AllReady, PriorsReady, ParamIs, AllSmall, NumbersAre, TypeIs, ModelIs, NextIs, SevenIs};
 use bits::BITS_OF_A_BYTE;
 use bits::BitCursor;
-
-const IDENTITY: u8 = 0;
-
-const TRANSLATION: u8 = 1;
-
-const ROTZOOM: u8 = 2;
-
-const AFFINE: u8 = 3;
+use grid::AFFINE;
+use grid::IDENTITY;
+use grid::ROTZOOM;
+use grid::TRANSLATION;
 
 // The whole of a number at 16 fraction bits: slots 2 and 5 of the identity.
 const WHOLE: i32 = 65536;
@@ -56,10 +53,9 @@ struct Param {
     next: BitCursor,
 }
 
-// The numbers of two slots, and the cursor behind them.
-struct Pair {
-    first: i32,
-    second: i32,
+// The numbers of a type's slots in the order of reading, and the cursor behind them.
+struct Numbers {
+    values: [i32; 6],
     next: BitCursor,
 }
 
@@ -83,15 +79,6 @@ struct Seven {
     next: BitCursor,
 }
 
-// The number that a symbol of a slot stands for.
-fn number_of(gm_type: u8, flag: u8, slot: u8, symbol: u32) -> i32
-    requires { ⌜ symbol < symbols (absBits «gm_type» flag slot) ⌝ }
-    ensures { λ r. ⌜ r ≡ numberOf (absBits «gm_type» flag slot) (precBits «gm_type» flag slot) (centre slot) symbol ⌝ }
-{
-    let bits = grid::global_param_bits(gm_type, flag, slot);
-    grid::number_of(bits.abs_bits, bits.prec_bits, grid::centre_of(slot), symbol)
-}
-
 // read_global_param of clause 5.9.25.
 fn read_global_param(
     cursor: BitCursor,
@@ -104,11 +91,11 @@ fn read_global_param(
     requires { ⌜ PriorIn slot prior × (cursor .at + 64 < 2 ^ 64) ⌝ }
     ensures { λ r. ⌜ ParamIs r (coefficient (bitAt (now (header .entry))) (cursor .at) «gm_type» flag slot prior) (cursor .at) ⌝ }
 {
-    let s = header::symbols_of(gm_type, flag, slot, prior);
+    let s = grid::symbols_of(gm_type, flag, slot, prior);
     let read = subexp::decode_unsigned_subexp_with_ref(cursor, header, s.mx, s.r);
     let next = read.next;
     Param {
-        value: number_of(gm_type, flag, slot, read.value),
+        value: grid::number_of(gm_type, flag, slot, read.value),
         next,
     }
 }
@@ -130,27 +117,32 @@ fn read_slot(
     read_global_param(cursor, header, gm_type, flag, slot, from)
 }
 
-// Slots `slot` and `slot + 1`.
-fn read_pair(
+// The slots that a type carries, in their order.
+fn read_slots(
     cursor: BitCursor,
     header: &[u8],
     gm_type: u8,
     flag: u8,
     prior: &[i32],
     first: usize,
-    slot: u8,
-) -> Pair
-    requires { ⌜ Ready (now prior) first (cursor .at) 128 × (slot < 5) ⌝ }
-    ensures { λ r. ⌜ PairIs r (pairRead (bitAt (now (header .entry))) flag (now (prior .entry)) «gm_type» first slot (cursor .at)) (cursor .at) ⌝ }
+) -> Numbers
+    requires { ⌜ Ready (now prior) first (cursor .at) 256 ⌝ }
+    ensures { λ r. ⌜ NumbersAre r (slotsRead (bitAt (now (header .entry))) flag (now (prior .entry)) «gm_type» first (slotsOf «gm_type») (cursor .at)) (cursor .at) (length (slotsOf «gm_type»)) ⌝ }
 {
-    let a = read_slot(cursor, header, gm_type, flag, prior, first, slot);
-    let b = read_slot(a.next, header, gm_type, flag, prior, first, slot + 1);
-    let next = b.next;
-    Pair {
-        first: a.value,
-        second: b.value,
-        next,
+    let slots = grid::slots_of(gm_type);
+    let order = slots.order;
+    let count = slots.count;
+    let mut values = [0i32; 6];
+    let mut next = cursor;
+    let mut i = 0usize;
+    while i < count {
+        let read = read_slot(next, header, gm_type, flag, prior, first, order[i]);
+        let value = read.value;
+        values[i] = value;
+        next = read.next;
+        i += 1;
     }
+    Numbers { values, next }
 }
 
 // is_global, is_rot_zoom, is_translation of clause 5.9.24.
@@ -196,62 +188,39 @@ fn opposite(value: i32) -> i32
     0 - value
 }
 
-// Slots 0 and 1.
-fn read_translation(
-    cursor: BitCursor,
-    header: &[u8],
-    flag: u8,
-    prior: &[i32],
-    first: usize,
-) -> Model
-    requires { ⌜ Ready (now prior) first (cursor .at) 256 ⌝ }
-    ensures { λ r. ⌜ ModelIs r (translationRead (bitAt (now (header .entry))) flag (now (prior .entry)) first (cursor .at)) (cursor .at) 138 ⌝ }
+// Six numbers from those that were read: the slots that the type doesn't carry are filled.
+fn six_filled(gm_type: u8, values: [i32; 6]) -> [i32; 6]
+    requires { ⌜ AllSmall values ⌝ }
+    ensures { λ r. ⌜ r ≡ sixFilled «gm_type» values ⌝ }
 {
-    let t = read_pair(cursor, header, TRANSLATION, flag, prior, first, 0);
-    let six = [t.first, t.second, WHOLE, 0, 0, WHOLE];
-    let next = t.next;
-    Model {
-        gm_type: TRANSLATION,
-        six,
-        next,
+    if gm_type == IDENTITY {
+        return [0, 0, WHOLE, 0, 0, WHOLE];
     }
+    if gm_type == TRANSLATION {
+        return [values[0], values[1], WHOLE, 0, 0, WHOLE];
+    }
+    if gm_type == ROTZOOM {
+        let turned = opposite(values[1]);
+        return [
+            values[2],
+            values[3],
+            values[0],
+            values[1],
+            turned,
+            values[0],
+        ];
+    }
+    [
+        values[4],
+        values[5],
+        values[0],
+        values[1],
+        values[2],
+        values[3],
+    ]
 }
 
-// Slots 2, 3, then 0, 1; 4 and 5 follow from 3 and 2.
-fn read_rotzoom(cursor: BitCursor, header: &[u8], flag: u8, prior: &[i32], first: usize) -> Model
-    requires { ⌜ Ready (now prior) first (cursor .at) 256 ⌝ }
-    ensures { λ r. ⌜ ModelIs r (rotzoomRead (bitAt (now (header .entry))) flag (now (prior .entry)) first (cursor .at)) (cursor .at) 138 ⌝ }
-{
-    let a = read_pair(cursor, header, ROTZOOM, flag, prior, first, 2);
-    let t = read_pair(a.next, header, ROTZOOM, flag, prior, first, 0);
-    let turned = opposite(a.second);
-    let six = [t.first, t.second, a.first, a.second, turned, a.first];
-    let next = t.next;
-    Model {
-        gm_type: ROTZOOM,
-        six,
-        next,
-    }
-}
-
-// Slots 2, 3, then 4, 5, then 0, 1.
-fn read_affine(cursor: BitCursor, header: &[u8], flag: u8, prior: &[i32], first: usize) -> Model
-    requires { ⌜ Ready (now prior) first (cursor .at) 256 ⌝ }
-    ensures { λ r. ⌜ ModelIs r (affineRead (bitAt (now (header .entry))) flag (now (prior .entry)) first (cursor .at)) (cursor .at) 138 ⌝ }
-{
-    let a = read_pair(cursor, header, AFFINE, flag, prior, first, 2);
-    let b = read_pair(a.next, header, AFFINE, flag, prior, first, 4);
-    let t = read_pair(b.next, header, AFFINE, flag, prior, first, 0);
-    let six = [t.first, t.second, a.first, a.second, b.first, b.second];
-    let next = t.next;
-    Model {
-        gm_type: AFFINE,
-        six,
-        next,
-    }
-}
-
-// The coefficients of a type; the slots that it doesn't carry are filled.
+// The coefficients of a type.
 fn read_model(
     cursor: BitCursor,
     header: &[u8],
@@ -263,21 +232,11 @@ fn read_model(
     requires { ⌜ Ready (now prior) first (cursor .at) 256 ⌝ }
     ensures { λ r. ⌜ ModelIs r (modelRead (bitAt (now (header .entry))) flag (now (prior .entry)) «gm_type» first (cursor .at)) (cursor .at) 138 ⌝ }
 {
-    if gm_type == IDENTITY {
-        let six = [0, 0, WHOLE, 0, 0, WHOLE];
-        return Model {
-            gm_type: IDENTITY,
-            six,
-            next: cursor,
-        };
-    }
-    if gm_type == TRANSLATION {
-        return read_translation(cursor, header, flag, prior, first);
-    }
-    if gm_type == ROTZOOM {
-        return read_rotzoom(cursor, header, flag, prior, first);
-    }
-    read_affine(cursor, header, flag, prior, first)
+    let read = read_slots(cursor, header, gm_type, flag, prior, first);
+    let values = read.values;
+    let next = read.next;
+    let six = six_filled(gm_type, values);
+    Model { gm_type, six, next }
 }
 
 // One reference: the type bits, then the coefficients.
@@ -398,18 +357,29 @@ fn read_from(header: &[u8], at: usize, flag: u8, prior: &[i32]) -> Models
     answer(seven, start, bytes)
 }
 
+// Length, flag and priors.
+fn prior_refusal(flag: u8, prior: &[i32]) -> u32
+    ensures { λ r. ⌜ r ≡ judge (priorRows flag (now (prior .entry))) ⌝ }
+{
+    if prior.len() != NUMBERS {
+        return WRONG_LENGTH;
+    }
+    if 1 < flag {
+        return NO_SUCH_CODE;
+    }
+    if models::priors_out(prior) {
+        return PRIOR_OUT;
+    }
+    0
+}
+
 // global_motion_params of clause 5.9.24 for a frame that isn't intra, from bit `at` of the bytes on.
 pub fn read_global_motion_params(header: &[u8], at: usize, flag: u8, prior: &[i32]) -> Models
     ensures { λ r. ⌜ r ≡ models (now (header .entry)) at flag (now (prior .entry)) ⌝ }
 {
-    if prior.len() != NUMBERS {
-        return no_models(WRONG_LENGTH);
-    }
-    if 1 < flag {
-        return no_models(NO_SUCH_CODE);
-    }
-    if models::priors_out(prior) {
-        return no_models(PRIOR_OUT);
+    let refusal = prior_refusal(flag, prior);
+    if refusal != 0 {
+        return no_models(refusal);
     }
     read_from(header, at, flag, prior)
 }

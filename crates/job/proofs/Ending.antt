@@ -1,9 +1,9 @@
--- The steps of a job, one after the other, make its outcome: refused before the search, refused by the fit, or accepted.
+-- The steps of a job, one after the other, make its outcome: refused before the search, refused after it, or accepted.
 -- Assumes nothing.
 use Prim.Native.Nat.{ℕ, _≤_}
 use mathlib.Core.Bool.{Bool, true, false}
 use mathlib.Core.List.{List, [], _∷_}
-use mathlib.Core.Logic.{_⊎_, ⊎-elim}
+use mathlib.Core.Logic.{⊎-elim}
 use mathlib.Core.Path.{_≡_, refl, sym, ap, _∙_}
 use native.Mathlib.Omega.{arith}
 use borrow.Author.Tests.{ne-eqb, lt-ltb}
@@ -13,30 +13,29 @@ use lib.ListN.{length, take, length-take}
 use Rattle.laws.specs.Buffer.{onto}
 use Rattle.laws.specs.Refusal.{choose}
 use Rattle.laws.proofs.Buffer.{onto-front}
+use Rattle.laws.proofs.Call.{answered-accepted, answered-refused, left-accepted}
 use Rattle.laws.proofs.Cases.{eq-or-ne}
 use Rattle.search.specs.declared.Searched.{Searched}
 use Rattle.search.specs.Refusal as search
-use Rattle.fit.specs.Fitted.{refusalOf}
 use Rattle.block.specs.Frame.{blocksLeft, frameBytes, storeRefusal}
-use Rattle.block.proofs.Answers.{written-accepted}
-use Rattle.header.specs.Writing.{written, headerAfter, placed}
+use Rattle.header.specs.Writing.{written, bitsPlaced}
 use Rattle.job_task.specs.declared.Settings.{Settings}
-use Rattle.job_task.specs.Task.{Task, Lent, lend, roomOf, searchTask, searchLent}
+use Rattle.job_task.specs.Task.{Task, Lent, lend, searchTask, searchLent}
 use Rattle.job_task.specs.Rows.{early}
-use Rattle.job_task.specs.Ready.{Sound, Ready}
+use Rattle.job_task.proofs.Ready.{Ready}
 use Rattle.job_task.proofs.Accepted.{ready}
 use Rattle.job_model.specs.declared.Modelled.{Modelled}
-use Rattle.job_model.specs.Modelled.{Modelling, modelled, modelledAs, notModelled}
-use Rattle.job_model.proofs.FitOfType.{refusal-or-six}
+use Rattle.job_model.specs.Modelled.{modelled, modelledAs, notModelled}
+use Rattle.job_model.specs.Inner.{Modelling}
 use Rattle.job_outcome.specs.declared.Report.{Report}
-use Rattle.job_outcome.specs.Outcome.{Ended, ended, samples, words, types, models, bits, fitIn, refusal, refused, accepted, searched, leftBySearch, leftByJob, outcome}
+use Rattle.job_outcome.specs.Outcome.{Ended, ended, samples, words, bits, late, refused, accepted, outcome}
 use Rattle.job_outcome.specs.Done.{Done}
 use Rattle.job_outcome.proofs.Demand3.{done}
-use Rattle.job_outcome.proofs.Table.{before, not-six, late-fit, late-unfit}
+use Rattle.job_outcome.proofs.Stages.{refused-early, refused-late, ends-accepted}
 use Rattle.job_outcome.proofs.Samples.{words-length, words-few}
 use Rattle.job_outcome.proofs.Blocks.{stored}
 use Rattle.job_outcome.proofs.Written.{bits-written, header-written}
-use Rattle.job.specs.Finished.{reportOf, modelOf, finished, blocksFinished, headerFinished}
+use Rattle.job.specs.Inner.{Finished, finish, reportOf, writtenOut, finished}
 
 -- ---- the search of a job that is ready
 
@@ -74,124 +73,83 @@ module _ (j : Task) (l : Lent) (r : Ready j l) {found : Searched} {left : search
   pub found-there : found .samples ≤ length (left .words)
   found-there = omega (arith, found-count, length-take (found .samples) (left .words))
 
-  pub found-modelling : Modelling (j .settings .«gm_type») (j .settings .reference) (j .settings .flag) (j .types) (j .models) (take (found .samples) (left .words))
+  pub found-modelling : Modelling (j .settings) (j .types) (j .models) (take (found .samples) (left .words))
   found-modelling =
       let s = r .sound in
-      record {
-        least = s .fits .least;
-        most = s .fits .most;
-        flagged = s .flagged;
-        stands = s .stands;
-        six = s .six;
-        numbers = s .numbers;
-        few = rw found-words (words-few j s);
-      }
+      record { range = s .range; six = s .six; numbers = s .numbers; few = rw found-words (words-few j s) }
 
--- ---- the three ways to end
+-- ---- what follows from the words, by the model's refusal
 
-module _ (j : Task) (l : Lent) where
-  pub ended-refused : (n : ℕ) → n ≡ early j (roomOf l) → (n ≡ 0 → ⊥) → ended (refused n) l ≡ outcome j l
-  unfolding outcome
-  ended-refused n e z =
-      let f : refusal j l ≡ n = before j l (λ q. z (e ∙ q)) ∙ sym e in
-      let six : n ≡ 6 → ⊥ = λ q. not-six j l (sym e ∙ q) in
-      rw (f, ne-eqb n 0 z, ne-eqb n 6 six)
-
-  module _ (quiet : early j (roomOf l) ≡ 0) where
-    ended-unfit : (refusalOf (fitIn j) ≡ 0 → ⊥) → outcome j l ≡ ended (refused 6) (leftBySearch j l)
-    unfolding outcome
-    ended-unfit z = rw (late-unfit j l quiet z)
-
-    ended-accepted : refusalOf (fitIn j) ≡ 0 → outcome j l ≡ ended (accepted j) (leftByJob j l)
-    unfolding outcome
-    ended-accepted z = rw (late-fit j l quiet z)
-
--- ---- the model that the fit gives, or none
+pub finish-same : {r r' : Report} {b b' h h' : List ℕ} → r ≡ r' → b ≡ b' → h ≡ h' → finish r b h ≡ finish r' b' h'
+finish-same p q s = rw (p, q, s)
 
 module _ (j : Task) where
   abbrev model : Modelled
-  model = modelOf (j .settings) (j .types) (j .models) (words j)
+  model = modelled (j .settings) (j .types) (j .models) (words j)
 
-  with-fit : refusalOf (fitIn j) ≡ 0 → model ≡ modelledAs (j .settings .«gm_type») (j .settings .reference) (j .settings .flag) (j .types) (j .models) (words j)
+  abbrev whole : Modelled
+  whole = modelledAs (j .settings) (j .types) (j .models) (words j)
+
+  with-model : late j ≡ 0 → model ≡ whole
   unfolding modelled
-  with-fit z = rw z
+  with-model z = answered-accepted notModelled (late j) whole z
 
-  with-none : (s : Sound j) → (refusalOf (fitIn j) ≡ 0 → ⊥) → model ≡ notModelled 6
+  with-none : (late j ≡ 0 → ⊥) → model ≡ notModelled (late j)
   unfolding modelled
-  with-none s z =
-      let e : refusalOf (fitIn j) ≡ 6 = ⊎-elim (λ (q : refusalOf (fitIn j) ≡ 0). absurd (z q)) (λ (q : refusalOf (fitIn j) ≡ 6). q) (refusal-or-six (j .settings .«gm_type») (words j) (s .fits .least) (s .fits .most)) in
-      rw e
+  with-none h = answered-refused notModelled (late j) whole h
 
--- ---- and what follows from it
+  abbrev finishedOf : Lent → Finished
+  finishedOf l = finished (j .settings) (j .types) (j .models) (j .prior) (words j) (l .blocks) (l .header)
 
-module _ (j : Task) (l : Lent) (r : Ready j l) where
-  module _ (z : refusalOf (fitIn j) ≡ 0) where
-    accepted-report : finished (j .settings) (j .types) (j .models) (j .prior) (words j) (length (l .header)) ≡ accepted j
+  finished-refused : (l : Lent) → (late j ≡ 0 → ⊥) → finishedOf l ≡ finish (refused (late j)) (l .blocks) (l .header)
+  unfolding finished
+  finished-refused l h = rw (with-none h, ne-eqb (late j) 0 h)
+
+  module _ (l : Lent) (r : Ready j l) (z : late j ≡ 0) where
+    report-is : reportOf whole (written 0 (whole .types) (whole .models) (j .settings .flag) (j .prior) (length (l .header)) .bits) (length (words j)) ≡ accepted j
+    report-is =
+        rw (bits-written j (r .sound) z (l .header) (r .header-room))
+        (ap (λ (n : ℕ). reportOf whole (length (bits j)) n) (words-length j))
+
+    blocks-are : blocksLeft (j .settings .frame) (words j) (l .blocks) ≡ onto (frameBytes (j .settings .frame) (words j)) (l .blocks)
+    blocks-are =
+        let n = length (l .blocks) in
+        left-accepted (storeRefusal (words j) n) (onto (frameBytes (j .settings .frame) (words j)) (l .blocks)) (l .blocks) (stored j (r .sound) n (r .blocks-room))
+
+    finished-accepted : finishedOf l ≡ finish (accepted j) (onto (frameBytes (j .settings .frame) (words j)) (l .blocks)) (bitsPlaced 0 (bits j) (l .header))
     unfolding finished
-    accepted-report =
-        rw (with-fit j z, bits-written j (r .sound) z (l .header) (r .header-room))
-        (ap (λ (n : ℕ). reportOf (modelledAs (j .settings .«gm_type») (j .settings .reference) (j .settings .flag) (j .types) (j .models) (words j)) (length (bits j)) n) (words-length j))
+    finished-accepted = rw (with-model z) (finish-same report-is blocks-are (header-written j (r .sound) z (l .header) (r .header-room)))
 
-    accepted-blocks : blocksFinished (j .settings) (j .types) (j .models) (words j) (l .blocks) ≡ onto (frameBytes (j .settings .frame) (words j)) (l .blocks)
-    unfolding blocksFinished
-    accepted-blocks =
-        rw (with-fit j z)
-        (written-accepted (storeRefusal (words j) (length (l .blocks))) (frameBytes (j .settings .frame) (words j)) (l .blocks) (stored j (r .sound) (length (l .blocks)) (r .blocks-room)))
+-- ---- the outcome
 
-    accepted-header : headerFinished (j .settings) (j .types) (j .models) (j .prior) (words j) (l .header) ≡ placed 0 (bits j) (l .header)
-    unfolding headerFinished
-    accepted-header = rw (with-fit j z) (header-written j (r .sound) z (l .header) (r .header-room))
+-- the report and the five buffers, from what the search left and what followed
+abbrev endedBy : search.Lent → Finished → Ended
+endedBy left f = ended (f .report) (lend (left .inputHalf) (left .refHalf) (left .words) (f .blocks) (f .header))
 
-  module _ (z : refusalOf (fitIn j) ≡ 0 → ⊥) where
-    unfit-report : finished (j .settings) (j .types) (j .models) (j .prior) (words j) (length (l .header)) ≡ refused 6
-    unfolding finished
-    unfit-report = rw (with-none j (r .sound) z)
-
-    unfit-blocks : blocksFinished (j .settings) (j .types) (j .models) (words j) (l .blocks) ≡ l .blocks
-    unfolding blocksFinished
-    unfit-blocks = rw (with-none j (r .sound) z)
-
-    unfit-header : headerFinished (j .settings) (j .types) (j .models) (j .prior) (words j) (l .header) ≡ l .header
-    unfolding headerFinished
-    unfit-header = rw (with-none j (r .sound) z)
-
-module _ (j : Task) (l : Lent) (quiet : early j (roomOf l) ≡ 0) {found : Searched} {left : search.Lent} (d : search.Done (searchTask j) (searchLent l) found left) where
-  -- the report and the buffers by any words are the outcome where the words are the job's
-  by-words : (ws : List ℕ) → ws ≡ words j → {report : Report} → report ≡ finished (j .settings) (j .types) (j .models) (j .prior) ws (length (l .header)) →
-      {blocks : List ℕ} → blocks ≡ blocksFinished (j .settings) (j .types) (j .models) ws (l .blocks) →
-      {header : List ℕ} → header ≡ headerFinished (j .settings) (j .types) (j .models) (j .prior) ws (l .header) →
-      ended report (lend (left .input-half) (left .ref-half) (left .words) blocks header) ≡ outcome j l
-  by-words ws e er eb eh =
-      let r = ready j l quiet in
+module _ (j : Task) (l : Lent) (quiet : early j l ≡ 0) {found : Searched} {left : search.Lent} (d : search.Done (searchTask j) (searchLent l) found left) where
+  by-words : endedBy left (finishedOf j l) ≡ outcome j l
+  by-words =
       ⊎-elim
-      (λ (z : refusalOf (fitIn j) ≡ 0).
-      rw (er, eb, eh, e, d .buffers, accepted-report j l r z, accepted-blocks j l r z, accepted-header j l r z) (sym (ended-accepted j l quiet z)))
-      (λ (z : refusalOf (fitIn j) ≡ 0 → ⊥).
-      rw (er, eb, eh, e, d .buffers, unfit-report j l r z, unfit-blocks j l r z, unfit-header j l r z) (sym (ended-unfit j l quiet z)))
-      (eq-or-ne (refusalOf (fitIn j)) 0)
+      (λ (z : late j ≡ 0). rw (d .buffers, finished-accepted j l (ready j l quiet) z) (sym (ends-accepted j l quiet z)))
+      (λ (h : late j ≡ 0 → ⊥). rw (d .buffers, finished-refused j l h) (sym (refused-late j l quiet h)))
+      (eq-or-ne (late j) 0)
 
-  pub ended-found : {report : Report} → report ≡ finished (j .settings) (j .types) (j .models) (j .prior) (take (found .samples) (left .words)) (length (l .header)) →
-      {blocks : List ℕ} → blocks ≡ blocksFinished (j .settings) (j .types) (j .models) (take (found .samples) (left .words)) (l .blocks) →
-      {header : List ℕ} → header ≡ headerFinished (j .settings) (j .types) (j .models) (j .prior) (take (found .samples) (left .words)) (l .header) →
-      ended report (lend (left .input-half) (left .ref-half) (left .words) blocks header) ≡ outcome j l
-  ended-found er eb eh = by-words (take (found .samples) (left .words)) (found-words j l (ready j l quiet) d) er eb eh
+  pub ended-found : {f : Finished} → f ≡ finished (j .settings) (j .types) (j .models) (j .prior) (take (found .samples) (left .words)) (l .blocks) (l .header)
+      → endedBy left f ≡ outcome j l
+  ended-found e =
+      let s = j .settings in
+      ap (endedBy left) (e ∙ ap (λ (ws : List ℕ). finished s (j .types) (j .models) (j .prior) ws (l .blocks) (l .header)) (found-words j l (ready j l quiet) d)) ∙ by-words
 
 -- ---- the code's two ways through `finish`, and the call's refusal
 
-module _ (s : Settings) (ts : List ℕ) (ms qs : List ℤ) (ws blocks header : List ℕ) {m : Modelled} (e : m ≡ modelOf s ts ms ws) where
-  pub finish-refused : (m .refusal ≡ 0 → ⊥) → {report : Report} → report ≡ refused (m .refusal)
-      → (report ≡ finished s ts ms qs ws (length header)) × ((blocks ≡ blocksFinished s ts ms ws blocks) × (header ≡ headerFinished s ts ms qs ws header))
-  unfolding finished blocksFinished headerFinished
-  finish-refused z q = (rw (← e, ne-eqb (m .refusal) 0 z) q, (rw (← e, ne-eqb (m .refusal) 0 z), rw (← e, ne-eqb (m .refusal) 0 z)))
+module _ (s : Settings) (ts : List ℕ) (ms qs : List ℤ) (ws blocks header : List ℕ) {m : Modelled} (e : m ≡ modelled s ts ms ws) where
+  pub finish-refused : (m .refusal ≡ 0 → ⊥) → {report : Report} → report ≡ refused (m .refusal) → finish report blocks header ≡ finished s ts ms qs ws blocks header
+  unfolding finished
+  finish-refused h q = rw (← e, ne-eqb (m .refusal) 0 h) (ap (λ (r : Report). finish r blocks header) q)
 
-  pub finish-written : m .refusal ≡ 0 → {report : Report} → report ≡ reportOf m (written (m .types) (m .models) (s .flag) qs (length header) .bits) (length ws)
-      → {b h : List ℕ} → b ≡ blocksLeft (s .frame) ws blocks → h ≡ headerAfter (m .types) (m .models) (s .flag) qs header
-      → (report ≡ finished s ts ms qs ws (length header)) × ((b ≡ blocksFinished s ts ms ws blocks) × (h ≡ headerFinished s ts ms qs ws header))
-  unfolding finished blocksFinished headerFinished
-  finish-written z q eb eh = (rw (← e, z) q, (rw (← e, z) eb, rw (← e, z) eh))
+  pub finish-written : m .refusal ≡ 0 → {f : Finished} → f ≡ writtenOut m s qs ws blocks header → f ≡ finished s ts ms qs ws blocks header
+  unfolding finished
+  finish-written z q = rw (← e, z) q
 
-pub done-refused : (j : Task) (l : Lent) {n : ℕ} → n ≡ early j (roomOf l) → (n ≡ 0 → ⊥) → {report : Report} → report ≡ refused n → Done j l (ended report l)
-done-refused j l {n} e z q = done j l _ (ap (λ (r : Report). ended r l) q ∙ ended-refused j l n e z)
-
-pub done-run : (j : Task) (l : Lent) {o : Ended} → o ≡ outcome j l → Done j l o
-done-run j l {o} e = done j l o e
+pub done-refused : (j : Task) (l : Lent) {n : ℕ} → n ≡ early j l → (n ≡ 0 → ⊥) → {report : Report} → report ≡ refused n → Done j l (ended report l)
+done-refused j l e h q = done j l (ap (λ (r : Report). ended r l) (q ∙ ap refused e) ∙ sym (refused-early j l (λ z. h (e ∙ z))))

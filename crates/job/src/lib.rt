@@ -3,18 +3,16 @@
 // each sample, the six other types and models, and the prior; lent are two half planes, words, blocks
 // and header. It calls the public calls alone; its rows are in the crate `job_task`.
 use job_model::Modelled;
-use job_outcome::Report;
-use job_task::Settings;
+pub use job_outcome::Report;
+pub use job_task::Settings;
+use job_task::Sizes;
 ghost use mathlib.Core.Path.{_≡_};
-ghost use lib.ListN.{length};
-ghost use Rattle.block.specs.Frame.{blocksLeft};
-ghost use Rattle.header.specs.Writing.{written, headerAfter};
-ghost use Rattle.job_task.specs.Task.{task, lend, roomOf};
+ghost use Rattle.job_task.specs.Task.{task, lend};
 ghost use Rattle.job_task.specs.Rows.{early};
-ghost use Rattle.job_model.specs.Modelled.{Modelling};
+ghost use Rattle.job_model.specs.Inner.{Modelling};
 ghost use Rattle.job_outcome.specs.Outcome.{refused, ended, outcome};
 ghost use Rattle.job_outcome.specs.Done.{Done};
-ghost use Rattle.job.specs.Finished.{reportOf, finished, blocksFinished, headerFinished};
+ghost use Rattle.job.specs.Inner as inner;
 
 fn refused(number: u32) -> Report
     ensures { λ r. ⌜ r ≡ refused number ⌝ }
@@ -40,9 +38,8 @@ fn write_out(
     blocks: &mut [u8],
     header: &mut [u8],
 ) -> Report
-    ensures { λ r. ⌜ r ≡ reportOf m (written (m .types) (m .models) (settings .flag) (now (prior .entry)) (length (now (header .entry))) .bits) (length (now (words .entry))) ⌝ }
-    ensures { λ _. ⌜ now (blocks .exit) ≡ blocksLeft (settings .frame) (now (words .entry)) (now (blocks .entry)) ⌝ }
-    ensures { λ _. ⌜ now (header .exit) ≡ headerAfter (m .types) (m .models) (settings .flag) (now (prior .entry)) (now (header .entry)) ⌝ }
+    ensures { λ r. ⌜ inner.finish r (now (blocks .exit)) (now (header .exit)) ≡
+        inner.writtenOut m settings (now (prior .entry)) (now (words .entry)) (now (blocks .entry)) (now (header .entry)) ⌝ }
 {
     let types = m.types;
     let models = m.models;
@@ -58,7 +55,7 @@ fn write_out(
     }
 }
 
-// The model of the words; a refused fit writes no block and no header.
+// The model of the words; a refused one writes no block and no header.
 fn finish(
     settings: Settings,
     types: &[u8],
@@ -68,26 +65,18 @@ fn finish(
     blocks: &mut [u8],
     header: &mut [u8],
 ) -> Report
-    requires { ⌜ Modelling (settings .«gm_type») (settings .reference) (settings .flag) (now types) (now models) (now words) ⌝ }
-    ensures { λ r. ⌜ r ≡ finished settings (now (types .entry)) (now (models .entry)) (now (prior .entry)) (now (words .entry)) (length (now (header .entry))) ⌝ }
-    ensures { λ _. ⌜ now (blocks .exit) ≡ blocksFinished settings (now (types .entry)) (now (models .entry)) (now (words .entry)) (now (blocks .entry)) ⌝ }
-    ensures { λ _. ⌜ now (header .exit) ≡ headerFinished settings (now (types .entry)) (now (models .entry)) (now (prior .entry)) (now (words .entry)) (now (header .entry)) ⌝ }
+    requires { ⌜ Modelling settings (now types) (now models) (now words) ⌝ }
+    ensures { λ r. ⌜ inner.finish r (now (blocks .exit)) (now (header .exit)) ≡
+        inner.finished settings (now (types .entry)) (now (models .entry)) (now (prior .entry)) (now (words .entry)) (now (blocks .entry)) (now (header .entry)) ⌝ }
 {
-    let m = job_model::models_of(
-        settings.gm_type,
-        settings.reference,
-        settings.flag,
-        types,
-        models,
-        words,
-    );
+    let m = job_model::models_of(settings, types, models, words);
     if m.refusal != 0 {
         return refused(m.refusal);
     }
     write_out(m, settings, prior, words, &mut *blocks, &mut *header)
 }
 
-// A job that no row before the fit refuses.
+// A job that no row before the search refuses.
 fn run(
     input: &[u16],
     reference: &[u16],
@@ -104,8 +93,12 @@ fn run(
     blocks: &mut [u8],
     header: &mut [u8],
 ) -> Report
-    requires { ⌜ early (task (now input) (now reference) width height settings (now classes) (now types) (now models) (now prior)) (roomOf (lend (now «input_half») (now «ref_half») (now words) (now blocks) (now header))) ≡ 0 ⌝ }
-    ensures { λ r. ⌜ ended r (lend (now («input_half» .exit)) (now («ref_half» .exit)) (now (words .exit)) (now (blocks .exit)) (now (header .exit))) ≡ outcome (task (now (input .entry)) (now (reference .entry)) width height settings (now (classes .entry)) (now (types .entry)) (now (models .entry)) (now (prior .entry))) (lend (now («input_half» .entry)) (now («ref_half» .entry)) (now (words .entry)) (now (blocks .entry)) (now (header .entry))) ⌝ }
+    requires { ⌜ early
+        (task (now input) (now reference) width height settings (now classes) (now types) (now models) (now prior))
+        (lend (now «input_half») (now «ref_half») (now words) (now blocks) (now header)) ≡ 0 ⌝ }
+    ensures { λ r. ⌜ ended r (lend (now («input_half» .exit)) (now («ref_half» .exit)) (now (words .exit)) (now (blocks .exit)) (now (header .exit))) ≡ outcome
+        (task (now (input .entry)) (now (reference .entry)) width height settings (now (classes .entry)) (now (types .entry)) (now (models .entry)) (now (prior .entry)))
+        (lend (now («input_half» .entry)) (now («ref_half» .entry)) (now (words .entry)) (now (blocks .entry)) (now (header .entry))) ⌝ }
 {
     let found = search::collect_motion_samples(
         input,
@@ -144,24 +137,23 @@ pub fn job(
     blocks: &mut [u8],
     header: &mut [u8],
 ) -> Report
-    ensures { λ r. ⌜ Done (task (now (input .entry)) (now (reference .entry)) width height settings (now (classes .entry)) (now (types .entry)) (now (models .entry)) (now (prior .entry))) (lend (now («input_half» .entry)) (now («ref_half» .entry)) (now (words .entry)) (now (blocks .entry)) (now (header .entry))) (ended r (lend (now («input_half» .exit)) (now («ref_half» .exit)) (now (words .exit)) (now (blocks .exit)) (now (header .exit)))) ⌝ }
+    ensures { λ r. ⌜ Done
+        (task (now (input .entry)) (now (reference .entry)) width height settings (now (classes .entry)) (now (types .entry)) (now (models .entry)) (now (prior .entry)))
+        (lend (now («input_half» .entry)) (now («ref_half» .entry)) (now (words .entry)) (now (blocks .entry)) (now (header .entry)))
+        (ended r (lend (now («input_half» .exit)) (now («ref_half» .exit)) (now (words .exit)) (now (blocks .exit)) (now (header .exit)))) ⌝ }
 {
-    let refusal = job_task::refusal_of(
-        input,
-        reference,
+    let sizes = Sizes {
         width,
         height,
-        settings,
-        classes,
-        types,
-        models,
-        prior,
-        input_half.len(),
-        ref_half.len(),
-        words.len(),
-        blocks.len(),
-        header.len(),
-    );
+        input: input.len(),
+        reference: reference.len(),
+        input_half: input_half.len(),
+        ref_half: ref_half.len(),
+        words: words.len(),
+        blocks: blocks.len(),
+        header: header.len(),
+    };
+    let refusal = job_task::refusal_of(sizes, settings, classes, types, models, prior);
     if refusal != 0 {
         return refused(refusal);
     }

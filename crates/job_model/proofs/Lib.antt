@@ -1,2 +1,3 @@
+pub mod Inserted
 pub mod FitOfType
 pub mod Composed

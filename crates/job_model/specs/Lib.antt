@@ -1,1 +1,3 @@
+pub mod Assemble
 pub mod Modelled
+pub mod Inner

@@ -1,10 +1,14 @@
-// The model of a job (document 01, 'Job', 'Fits and score', row 6): the type, the reference, the flag,
-// the six other types and models and the sample words go in; the seven types and models, as stored,
-// and the score of the fitted one come out.
+// The model of a job (document 01, 'Job', 'Fits and score', row 6): the settings, the six other types
+// and models and the sample words go in; the seven types and models, as stored, and the score of the
+// fitted one come out.
 use fit::Fitted;
+use job_task::Settings;
 ghost use mathlib.Core.Path.{_≡_};
 ghost use Rattle.fit.specs.Fitted.{refusalOf};
-ghost use Rattle.job_model.specs.Modelled.{Modelling, WithFit, modelled, modelledAs, notModelled};
+ghost use Rattle.job_model.specs.Modelled.{modelled, modelledAs, notModelled};
+ghost use Rattle.job_model.specs.Inner.{Modelling, WithFit};
+
+pub mod assemble; // assemble.rt: seven models from six others and one
 
 // A row of the table of refusals (0: none), the seven types and models in rising order of reference,
 // and the score.
@@ -54,22 +58,20 @@ fn not_modelled(number: u32) -> Modelled
 // The score is that of the model with x first; stored it is row first.
 fn with_model(
     fitted: Fitted,
-    gm_type: u8,
-    reference: u8,
-    flag: u8,
+    settings: Settings,
     types: &[u8],
     models: &[i32],
     words: &[u32],
 ) -> Modelled
-    requires { ⌜ WithFit fitted «gm_type» reference flag (now types) (now models) (now words) ⌝ }
-    ensures { λ r. ⌜ r ≡ modelledAs «gm_type» reference flag (now (types .entry)) (now (models .entry)) (now (words .entry)) ⌝ }
+    requires { ⌜ WithFit fitted settings (now types) (now models) (now words) ⌝ }
+    ensures { λ r. ⌜ r ≡ modelledAs settings (now (types .entry)) (now (models .entry)) (now (words .entry)) ⌝ }
 {
-    let q = quantize::quantize_model(fitted, flag, words);
+    let q = quantize::quantize_model(fitted, settings.flag, words);
     let own = q.params;
-    let stored = quantize::row_first(gm_type, own);
+    let stored = quantize::row_first(settings.gm_type, own);
     let score = score::mean_sq_residual(own, words);
-    let seven = assemble::types_with(types, reference, gm_type);
-    let all = assemble::models_with(models, reference, stored);
+    let seven = assemble::types_with(types, settings.reference, settings.gm_type);
+    let all = assemble::models_with(models, settings.reference, stored);
     Modelled {
         refusal: 0,
         types: seven,
@@ -78,21 +80,14 @@ fn with_model(
     }
 }
 
-pub fn models_of(
-    gm_type: u8,
-    reference: u8,
-    flag: u8,
-    types: &[u8],
-    models: &[i32],
-    words: &[u32],
-) -> Modelled
-    requires { ⌜ Modelling «gm_type» reference flag (now types) (now models) (now words) ⌝ }
-    ensures { λ r. ⌜ r ≡ modelled «gm_type» reference flag (now (types .entry)) (now (models .entry)) (now (words .entry)) ⌝ }
+pub fn models_of(settings: Settings, types: &[u8], models: &[i32], words: &[u32]) -> Modelled
+    requires { ⌜ Modelling settings (now types) (now models) (now words) ⌝ }
+    ensures { λ r. ⌜ r ≡ modelled settings (now (types .entry)) (now (models .entry)) (now (words .entry)) ⌝ }
 {
-    let fitted = fit::fit_model(gm_type, words);
+    let fitted = fit::fit_model(settings.gm_type, words);
     let refusal = refusal_of(fitted);
     if refusal != 0 {
         return not_modelled(refusal);
     }
-    with_model(fitted, gm_type, reference, flag, types, models, words)
+    with_model(fitted, settings, types, models, words)
 }

@@ -1,4 +1,4 @@
--- The job's own blocks, read back: the frame, every block's frame number, and each sample.
+-- The job's own blocks, read back: the frame, every block alone, and each sample; what is read is what was stored.
 -- Assumes nothing.
 use Prim.Native.Nat.{ℕ, _+_, _*_, _≤_, _<_}
 use mathlib.Core.Bool.{true}
@@ -12,15 +12,17 @@ use Rattle.laws.specs.Buffer.{onto}
 use Rattle.laws.specs.Refusal.{choose}
 use Rattle.laws.proofs.Buffer.{onto-front}
 use Rattle.sample.specs.Storable.{storable}
-use Rattle.form1.specs.Block.{mostSamples}
+use Rattle.sample.specs.Word.{mostSamples}
+use Rattle.layout.specs.Form.{blockBytes, blocksOf, countAt}
+use Rattle.form1.specs.Block.{form1}
 use Rattle.block.specs.declared.FrameRead.{FrameRead}
 use Rattle.block.specs.declared.BlockRead.{BlockRead}
-use Rattle.block.specs.Frame.{blocksOf, frameBytes, storeRefusal, readFrame, wordsLeft, samplesFrom, totalIn, readAlone}
+use Rattle.block.specs.Frame.{frameBytes, storeRefusal, readFrame, wordsLeft, samplesFrom, totalIn, readAlone}
 use Rattle.block.proofs.Answers.{storing}
 use Rattle.block.proofs.RoundTrip.{frame-length, alone-read, total-back, samples-back}
 use Rattle.block.proofs.Carried.{carried, read-stored, words-stored}
 use Rattle.job_task.specs.Task.{Task}
-use Rattle.job_task.specs.Ready.{Sound}
+use Rattle.job_task.proofs.Ready.{Sound}
 use Rattle.job_outcome.specs.Outcome.{Ended, samples, words}
 use Rattle.job_outcome.specs.Demand3.{ownBlocks, wordsRead, BlocksRead}
 use Rattle.job_outcome.proofs.Samples.{words-length, words-few, words-storable, sample-is}
@@ -40,17 +42,17 @@ samples-of frame (w ∷ ws) few order =
     sym (ap (λ (b : List ℕ). samplesFrom (totalIn b) b) e ∙ ap (λ (n : ℕ). samplesFrom n all) (sym (ap totalIn e) ∙ total-back frame (w ∷ ws) [] few order some))
     ∙ samples-back frame (w ∷ ws) [] few order some
 
-module _ (j : Task) (s : Sound j) (room : ℕ) (enough : 512 * blocksOf (samples j) ≤ room) where
+module _ (j : Task) (s : Sound j) (room : ℕ) (enough : blockBytes * blocksOf form1 (samples j) ≤ room) where
   -- storing them is never refused
   pub stored : storeRefusal (words j) room ≡ 0
   stored = sym (storing (words j) room (words-few j s) (words-storable j s) (rw (words-length j) enough))
 
-module _ (j : Task) (s : Sound j) (o : Ended) (old : List ℕ) (enough : 512 * blocksOf (samples j) ≤ length old)
+module _ (j : Task) (s : Sound j) (o : Ended) (old : List ℕ) (enough : blockBytes * blocksOf form1 (samples j) ≤ length old)
     (left : o .left .blocks ≡ onto (frameBytes (j .settings .frame) (words j)) old) (count : o .report .samples ≡ samples j) where
   bytes-are : ownBlocks j o ≡ frameBytes (j .settings .frame) (words j)
   bytes-are =
       let all = frameBytes (j .settings .frame) (words j) in
-      let n : length all ≡ 512 * blocksOf (samples j) = frame-length (j .settings .frame) (words j) ∙ ap (λ (n : ℕ). 512 * blocksOf n) (words-length j) in
+      let n : length all ≡ blockBytes * blocksOf form1 (samples j) = frame-length (j .settings .frame) (words j) ∙ ap (λ (n : ℕ). blockBytes * blocksOf form1 n) (words-length j) in
       rw (left, ← n) (onto-front all old)
 
   read : (room : ℕ) → samples j ≤ room
@@ -67,12 +69,14 @@ module _ (j : Task) (s : Sound j) (o : Ended) (old : List ℕ) (enough : 512 * b
       ∙ (ap (λ (n : ℕ). samplesFrom n (frameBytes (j .settings .frame) (words j))) (sym (words-length j))
       ∙ samples-of (j .settings .frame) (words j) (words-few j s) (words-storable j s)))
 
-  every : (k : ℕ) → k < blocksOf (samples j) → readAlone (drop (512 * k) (ownBlocks j o)) .frame ≡ j .settings .frame
+  every : (k : ℕ) → k < blocksOf form1 (samples j)
+      → readAlone (drop (blockBytes * k) (ownBlocks j o)) ≡ record { refusal = 0; frame = j .settings .frame; ordinal = k; count = countAt form1 (samples j) k }
   every k l =
       let all = frameBytes (j .settings .frame) (words j) in
-      let below : k < blocksOf (length (words j)) = rw (words-length j) l in
-      ap (λ (b : List ℕ). readAlone (drop (512 * k) b) .frame) (bytes-are ∙ sym (append-nil all))
-      ∙ ap (λ (r : BlockRead). r .frame) (alone-read (j .settings .frame) (words j) [] (words-few j s) (words-storable j s) k below)
+      let below : k < blocksOf form1 (length (words j)) = rw (words-length j) l in
+      let counted : ℕ → BlockRead = λ n. record { refusal = 0; frame = j .settings .frame; ordinal = k; count = countAt form1 n k } in
+      ap (λ (b : List ℕ). readAlone (drop (blockBytes * k) b)) (bytes-are ∙ sym (append-nil all))
+      ∙ (alone-read (j .settings .frame) (words j) [] (words-few j s) (words-storable j s) k below ∙ ap counted (words-length j))
 
   kept : (buffer : List ℕ) → samples j ≤ length buffer → wordsLeft (ownBlocks j o) buffer ≡ onto (wordsRead j o) buffer
   kept buffer h =

@@ -1,10 +1,10 @@
-pub mod Table
+pub mod Stages
 pub mod Samples
 pub mod Blocks
 pub mod OwnModel
 pub mod Seven
-pub mod Count
 pub mod Written
 pub mod Refused
 pub mod Six
 pub mod Demand3
+pub mod HeaderRead

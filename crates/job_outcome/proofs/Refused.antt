@@ -1,78 +1,77 @@
--- What a refused job leaves, and which rows a job never meets.
+-- What a refused job reports and leaves, and which rows a job never meets.
 -- Assumes nothing.
 use mathlib.Core.Bool.{false}
-use mathlib.Core.List.{[], _∷_}
 use mathlib.Core.Logic.{⊎-elim}
-use mathlib.Core.Path.{_≡_, refl}
+use mathlib.Core.Path.{_≡_, refl, sym, ap, _∙_}
 use native.Mathlib.Omega.{arith}
-use borrow.Author.Tests.{ne-eqb}
 use lib.ListN.{length}
-use Rattle.laws.specs.Refusal.{row}
-use Rattle.laws.proofs.Refusal.{quiet}
-use Rattle.laws.proofs.Cases.{eq-or-ne}
-use Rattle.search.specs.Refusal as search
+use Rattle.laws.proofs.Refusal.{or-else-refused, or-else-none}
 use Rattle.block.specs.Frame.{storeRefusal}
 use Rattle.models.specs.Models.{modelWrong, modelsWrong}
 use Rattle.job_model.specs.Modelled.{stored}
-use Rattle.job_task.specs.Task.{Task, Lent, roomOf, searchTask, searchLent}
-use Rattle.job_task.specs.Rows.{rowsThen, tooLittle}
-use Rattle.job_task.proofs.Accepted.{ready}
-use Rattle.job_outcome.specs.Outcome.{words, types, models, unfit, refusal, refused, outcome}
-use Rattle.job_outcome.proofs.Table.{never, silent, accepted-early, accepted-fit}
+use Rattle.job_model.proofs.FitOfType.{refusal-or-six}
+use Rattle.job_task.specs.Task.{Task, Lent, sizesOf}
+use Rattle.job_task.specs.Rows.{tooLittle, early}
+use Rattle.job_task.proofs.Accepted.{all-quiet, quiet-all, ready}
+use Rattle.job_outcome.specs.Outcome.{Ended, words, ownType, fitWords, types, models, late, refusal, refused, searched, outcome}
+use Rattle.job_outcome.proofs.Stages.{refused-early, refused-late, ends-accepted, by-stages, early-never-twelve, refused-in-second}
 use Rattle.job_outcome.proofs.Blocks as blocks
 use Rattle.job_outcome.proofs.Written.{writable, fitted-right}
 
--- ---- what a refusal leaves
-
 -- half planes and words as the search leaves them; blocks and header as they were
 pub record AsSearched (j : Task) (l : Lent) (left : Lent) : Type 0 where
-  pub input-half : left .inputHalf ≡ search.leaves (searchTask j) (searchLent l) .input-half
-  pub ref-half : left .refHalf ≡ search.leaves (searchTask j) (searchLent l) .ref-half
-  pub words : left .words ≡ search.leaves (searchTask j) (searchLent l) .words
+  pub half-planes : (left .inputHalf ≡ searched j l .inputHalf) × (left .refHalf ≡ searched j l .refHalf)
+  pub words : left .words ≡ searched j l .words
   pub blocks : left .blocks ≡ l .blocks
   pub header : left .header ≡ l .header
 
 module _ (j : Task) (l : Lent) where
-  pub six-leaves : refusal j l ≡ 6 → AsSearched j l (outcome j l .left)
-  unfolding outcome
-  six-leaves e = rw e (record { input-half = refl; ref-half = refl; words = refl; blocks = refl; header = refl })
+  -- ---- what a refusal leaves
 
-  pub others-leave : (refusal j l ≡ 0 → ⊥) → (refusal j l ≡ 6 → ⊥) → outcome j l .left ≡ l
-  unfolding outcome
-  others-leave z s = rw (ne-eqb (refusal j l) 0 z, ne-eqb (refusal j l) 6 s)
+  -- before the search: all as it was
+  pub early-leaves : (early j l ≡ 0 → ⊥) → outcome j l .left ≡ l
+  early-leaves h = ap (λ (o : Ended). o .left) (refused-early j l h)
+
+  -- after it, whatever the number
+  pub late-leaves : early j l ≡ 0 → (late j ≡ 0 → ⊥) → AsSearched j l (outcome j l .left)
+  late-leaves quiet h = rw (refused-late j l quiet h) (record { half-planes = (refl, refl); words = refl; blocks = refl; header = refl })
 
   -- a refusal reports its number and zeros
   pub refusal-reports : (refusal j l ≡ 0 → ⊥) → outcome j l .report ≡ refused (refusal j l)
-  unfolding outcome
   refusal-reports z =
-      rw (ne-eqb (refusal j l) 0 z)
-      (⊎-elim (λ (s : refusal j l ≡ 6). rw s) (λ (s : refusal j l ≡ 6 → ⊥). rw (ne-eqb (refusal j l) 6 s)) (eq-or-ne (refusal j l) 6))
+      by-stages j l (λ (o : Ended). o .report ≡ refused (refusal j l)) (λ h. ap refused (or-else-refused (early j l) (late j) h))
+      (λ quiet h. ap refused (or-else-none (early j l) (late j) quiet))
+      (λ quiet e. absurd (z (sym (or-else-none (early j l) (late j) quiet) ∙ e)))
 
   -- ---- which rows never hold
 
   pub never-twelve : refusal j l ≡ 12 → ⊥
-  unfolding refusal
-  never-twelve e = never 12 (rowsThen j (roomOf l) (row 6 (unfit j) ∷ [])) tt (omega arith) e
+  never-twelve e =
+      let q = refused-in-second j l 12 (early-never-twelve j l) e in
+      let r = ready j l (q .0) .sound .range in
+      ⊎-elim (λ (z : late j ≡ 0). omega (arith, q .1)) (λ (z : late j ≡ 6). omega (arith, q .1)) (refusal-or-six (ownType j) (fitWords j) (r .some-type) (r .last-type))
 
-  -- storing refuses nothing, 12 neither, and no model of an accepted job is wrong, the fitted one neither
-  pub storing-accepted : refusal j l ≡ 0 → storeRefusal (words j) (length (l .blocks)) ≡ 0
-  storing-accepted e = let r = ready j l (accepted-early j l e) in blocks.stored j (r .sound) (length (l .blocks)) (r .blocks-room)
+  module _ (quiet : early j l ≡ 0) where
+    -- storing refuses nothing, 12 neither
+    pub storing-accepted : storeRefusal (words j) (length (l .blocks)) ≡ 0
+    storing-accepted = let r = ready j l quiet in blocks.stored j (r .sound) (length (l .blocks)) (r .blocks-room)
 
-  pub models-never-seven : refusal j l ≡ 0 → modelsWrong (types j) (j .settings .flag) (models j) ≡ false
-  models-never-seven e = writable j (ready j l (accepted-early j l e) .sound) (accepted-fit j l e) .right
+    -- no model of a job is wrong, the fitted one neither
+    pub models-never-seven : late j ≡ 0 → modelsWrong (types j) (j .settings .flag) (models j) ≡ false
+    models-never-seven fits = writable j (ready j l quiet .sound) fits .right
 
-  pub fitted-never-seven : refusal j l ≡ 0 → modelWrong (j .settings .«gm_type») (j .settings .flag) (stored (j .settings .«gm_type») (j .settings .flag) (words j)) 0 ≡ false
-  fitted-never-seven e = fitted-right j (ready j l (accepted-early j l e) .sound) (accepted-fit j l e)
+    pub fitted-never-seven : late j ≡ 0 → modelWrong (ownType j) (j .settings .flag) (stored (j .settings) (words j)) 0 ≡ false
+    fitted-never-seven fits = fitted-right j (ready j l quiet .sound) fits
 
-  -- ---- other buffers
+    -- ---- other buffers
 
-  module _ (e : refusal j l ≡ 0) (other : Lent) (enough : tooLittle (j .width) (j .height) (roomOf other) ≡ false) where
-    pub accepted-again : refusal j other ≡ 0
-    unfolding refusal
-    accepted-again =
-        let q = quiet (rowsThen j (roomOf l) (row 6 (unfit j) ∷ [])) tt e in
-        silent (rowsThen j (roomOf other) (row 6 (unfit j) ∷ [])) (q .0, (q .1 .0, (q .1 .1 .0, (q .1 .1 .1 .0, (q .1 .1 .1 .1 .0, (q .1 .1 .1 .1 .1 .0, (enough, (q .1 .1 .1 .1 .1 .1 .1 .0, tt))))))))
+    module _ (other : Lent) (enough : tooLittle (sizesOf j other) ≡ false) where
+      pub early-again : early j other ≡ 0
+      early-again =
+          let q = all-quiet (sizesOf j l) (j .settings) (j .classes) (j .types) (j .models) (j .prior) quiet in
+          quiet-all (sizesOf j other) (j .settings) (j .classes) (j .types) (j .models) (j .prior)
+          (record { sizes = q .sizes; codes = q .codes; handed = q .handed; room = rw enough })
 
-    pub same-report : outcome j other .report ≡ outcome j l .report
-    unfolding outcome
-    same-report = rw (accepted-again, e)
+      pub same-report : late j ≡ 0 → outcome j other .report ≡ outcome j l .report
+      same-report fits =
+          ap (λ (o : Ended). o .report) (ends-accepted j other early-again fits) ∙ sym (ap (λ (o : Ended). o .report) (ends-accepted j l quiet fits))

@@ -1,6 +1,6 @@
 -- The words of a job's search: how many, that a frame may store them, and what each of them holds.
 -- Assumes nothing.
-use Prim.Native.Nat.{ℕ, _+_, _/_, _%_, _≤_, _<_}
+use Prim.Native.Nat.{ℕ, _/_, _%_, _≤_, _<_}
 use mathlib.Core.Bool.{true}
 use mathlib.Core.Path.{_≡_, sym, ap, _∙_}
 use native.Mathlib.Nat.{div-lt-iff-lt-mul, mod-lt}
@@ -18,7 +18,7 @@ use Rattle.search.proofs.Range.{motion-within-223, stored-motion-le-446}
 use Rattle.search.proofs.Rows.{factor-pos}
 use Rattle.search.proofs.Words.{sampleWords-length, sampleCount-le-4096, sampleWords-at, sampleWords-storable}
 use Rattle.job_task.specs.Task.{Task}
-use Rattle.job_task.specs.Ready.{Sound}
+use Rattle.job_task.proofs.Ready.{Sound}
 use Rattle.job_outcome.specs.Outcome.{samples, words}
 use Rattle.job_outcome.specs.Demand3.{SampleIs, motionOf}
 

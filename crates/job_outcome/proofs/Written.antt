@@ -1,96 +1,102 @@
--- A job's seven models can be written, in 124 bytes, and are read back.
+-- A job's seven models can be written, in 124 bytes, and are read back: the six others pass row 7, and the fitted one is on the grid.
 -- Assumes nothing.
 use Prim.Native.Nat.{ℕ, _*_, _-_, _≤_}
 use mathlib.Core.Bool.{false}
 use mathlib.Core.List.{List}
 use mathlib.Core.Path.{_≡_, ap, _∙_, subst}
 use native.Mathlib.Omega.{arith}
-use borrow.Author.Tests.{le-ltb}
+use lib.IntN.{ℤ}
 use lib.ListN.{length, take, drop}
 use Rattle.bits.proofs.Buffer.{length-putBits}
 use Rattle.models.specs.Models.{modelWrong}
 use Rattle.header.specs.Reading.{modelsRead}
-use Rattle.header.specs.Writing.{placed, bytesFor, writeRefusal, written, headerAfter}
+use Rattle.header.specs.Writing.{bitsPlaced, bytesFor, writeRefusal, written, headerAfter}
+use Rattle.header.proofs.Accepted.{not-refused, answer-written, bytes-written}
 use Rattle.header.proofs.RoundTrip.{Writable, round-trip, at-most-124-bytes}
-use Rattle.fit.specs.Fitted.{refusalOf, typeOf}
-use Rattle.quantize.specs.Quantize.{params, rowFirst}
-use Rattle.quantize.proofs.OnGrid.{OnGrid}
+use Rattle.fit.specs.Fitted.{typeOf}
+use Rattle.quantize.specs.Quantize.{rowFirst}
 use Rattle.quantize.proofs.Accepted.{row-first-twice}
-use Rattle.quantize.proofs.OnGrid.{quantized-on-grid}
+use Rattle.quantize.proofs.OnGrid.{OnGrid, quantized-on-grid}
 use Rattle.job_model.specs.Modelled.{own, stored}
 use Rattle.job_model.proofs.FitOfType.{type-asked-for}
 use Rattle.job_task.specs.Task.{Task}
-use Rattle.job_task.specs.Ready.{Sound}
-use Rattle.job_outcome.specs.Outcome.{words, types, models, bits, fitIn}
+use Rattle.job_task.specs.Rows.{headerBytes}
+use Rattle.job_task.proofs.Ready.{Sound}
+use Rattle.job_outcome.specs.Outcome.{words, ownType, fitWords, types, models, bits, fitIn, late}
 use Rattle.job_outcome.proofs.OwnModel.{own-right}
 use Rattle.job_outcome.proofs.Seven.{seven-types, types-known, all-numbers, own-six, models-right, row-first-length}
 
-module _ (j : Task) (s : Sound j) (fits : refusalOf (fitIn j) ≡ 0) where
+module _ (j : Task) (s : Sound j) (fits : late j ≡ 0) where
   abbrev kind : ℕ
-  kind = j .settings .«gm_type»
+  kind = ownType j
 
   abbrev flag : ℕ
   flag = j .settings .flag
 
-  pub place-le : j .settings .reference - 1 ≤ 6
-  place-le = omega (arith, s .stands .least, s .stands .most)
+  abbrev place : ℕ
+  place = j .settings .reference - 1
+
+  -- the fitted model on the grid, x first, and as it is stored
+  abbrev fitted : List ℤ
+  fitted = own (j .settings) (words j)
+
+  abbrev kept : List ℤ
+  kept = stored (j .settings) (words j)
+
+  pub place-le : place ≤ 6
+  place-le = omega (arith, s .range .some-reference, s .range .last-reference)
 
   pub type-is : typeOf (fitIn j) ≡ kind
-  type-is = type-asked-for kind (words j) (s .fits .least) (s .fits .most) fits
+  type-is = type-asked-for kind (fitWords j) (s .range .some-type) (s .range .last-type) fits
 
   pub some-model : typeOf (fitIn j) ≡ 0 → ⊥
-  some-model e = omega (arith, type-is, s .fits .least)
+  some-model e = omega (arith, type-is, s .range .some-type)
 
-  on-grid : OnGrid kind flag (own kind flag (words j))
-  on-grid = subst (λ (k : ℕ). OnGrid k flag (own kind flag (words j))) type-is (quantized-on-grid (fitIn j) flag (words j) some-model)
+  on-grid : OnGrid kind flag fitted
+  on-grid = subst (λ (k : ℕ). OnGrid k flag fitted) type-is (quantized-on-grid (fitIn j) flag (fitWords j) some-model)
 
-  pub stored-six : length (stored kind flag (words j)) ≡ 6
-  stored-six = row-first-length kind (own kind flag (words j)) ∙ on-grid .six
+  pub stored-six : length kept ≡ 6
+  stored-six = row-first-length kind fitted ∙ on-grid .six
 
   -- row 7 never holds of the fitted model
-  pub fitted-right : modelWrong kind flag (stored kind flag (words j)) 0 ≡ false
-  fitted-right = own-right kind flag (s .fits .least) (s .fits .most) (own kind flag (words j)) on-grid
+  pub fitted-right : modelWrong kind flag kept 0 ≡ false
+  fitted-right = own-right kind flag (s .range .some-type) (s .range .last-type) fitted on-grid
 
   -- nor of the seven
   pub writable : Writable (types j) (models j) flag (j .prior)
   writable =
       record {
-        seven = seven-types (j .settings .reference - 1) kind (j .types) (s .six) place-le;
-        models = all-numbers (j .settings .reference - 1) (stored kind flag (words j)) (j .models) stored-six (s .numbers) place-le;
+        seven = seven-types place kind (j .types) (s .six) place-le;
+        models = all-numbers place kept (j .models) stored-six (s .numbers) place-le;
         priors = s .places;
-        known = types-known (j .settings .reference - 1) kind (j .types) (s .six) place-le (s .known) (s .fits .most);
-        right =
-            models-right (j .settings .reference - 1) kind flag (j .types) (stored kind flag (words j)) (j .models) (s .six) stored-six (s .numbers) place-le (s .right)
-            fitted-right;
+        known = types-known place kind (j .types) (s .six) place-le (s .known) (s .range .last-type);
+        right = models-right place kind flag (j .types) kept (j .models) (s .six) stored-six (s .numbers) place-le (s .right) fitted-right;
         within = s .within;
       }
 
   -- the model at the job's reference, exchanged back
-  pub own-back : rowFirst kind (take 6 (drop (6 * (j .settings .reference - 1)) (models j))) ≡ own kind flag (words j)
+  pub own-back : rowFirst kind (take 6 (drop (6 * place) (models j))) ≡ fitted
   own-back =
-      ap (rowFirst kind) (own-six (j .settings .reference - 1) (stored kind flag (words j)) (j .models) stored-six (s .numbers) place-le)
-      ∙ row-first-twice kind (own kind flag (words j)) (omega (arith, on-grid .six))
+      ap (rowFirst kind) (own-six place kept (j .models) stored-six (s .numbers) place-le)
+      ∙ row-first-twice kind fitted (omega (arith, on-grid .six))
 
-  module _ (old : List ℕ) (room : 124 ≤ length old) where
+  module _ (old : List ℕ) (room : headerBytes ≤ length old) where
     room-enough : bytesFor 0 (length (bits j)) ≤ length old
     room-enough = omega (arith, at-most-124-bytes flag (types j) (models j) (j .prior))
 
-    pub header-back : modelsRead (placed 0 (bits j) old) 0 flag (j .prior) ≡ record { types = types j; params = models j; bits = length (bits j) }
+    pub header-back : modelsRead (bitsPlaced 0 (bits j) old) 0 flag (j .prior) ≡ record { types = types j; params = models j; bits = length (bits j) }
     header-back = round-trip (types j) (models j) flag (j .prior) writable 0 old room-enough
 
-    pub bits-end : length (bits j) ≤ 8 * length (placed 0 (bits j) old)
+    pub bits-end : length (bits j) ≤ 8 * length (bitsPlaced 0 (bits j) old)
     bits-end = rw (length-putBits old 0 _) (omega (arith, room-enough))
 
-    pub write-accepted : writeRefusal (types j) (models j) flag (j .prior) (length old) ≡ 0
-    unfolding writeRefusal
+    pub write-accepted : writeRefusal 0 (types j) (models j) flag (j .prior) (length old) ≡ 0
     write-accepted =
-        let w = writable in
-        rw (w .seven, w .models, w .priors, w .known, le-ltb 1 flag (s .flagged), w .right, w .within, le-ltb (length old) (bytesFor 0 (length (bits j))) room-enough)
+        not-refused (types j) (models j) flag (j .prior) 0 (length old)
+        (record { writable = writable; flagged = s .range .flagged; roomy = room-enough })
 
-    pub header-written : headerAfter (types j) (models j) flag (j .prior) old ≡ placed 0 (bits j) old
-    unfolding headerAfter
-    header-written = rw write-accepted
+    pub header-written : headerAfter 0 (types j) (models j) flag (j .prior) old ≡ bitsPlaced 0 (bits j) old
+    header-written = bytes-written (types j) (models j) flag (j .prior) 0 old write-accepted
 
-    pub bits-written : written (types j) (models j) flag (j .prior) (length old) ≡ record { refusal = 0; bits = length (bits j) }
-    unfolding written
-    bits-written = rw write-accepted
+    pub bits-written : written 0 (types j) (models j) flag (j .prior) (length old) ≡ record { refusal = 0; bits = length (bits j) }
+    bits-written = answer-written (types j) (models j) flag (j .prior) 0 (length old) write-accepted

@@ -1,4 +1,3 @@
 pub mod Outcome
-pub mod Count
 pub mod Demand3
 pub mod Done

@@ -1,23 +1,21 @@
 -- How a job ends: what it reports, and what it leaves in the five lent buffers, refused or accepted. Document 01, 'Job', 'When a call says no'.
 -- Assumes nothing.
 use Prim.Native.Nat.{ℕ}
-use mathlib.Core.Bool.{Bool, not}
-use mathlib.Core.List.{List, [], _∷_}
+use mathlib.Core.List.{List}
 use lib.Dec.{eqb}
 use lib.IntN.{ℤ, pos}
 use lib.ListN.{length, replicate}
 use Rattle.laws.specs.Buffer.{onto}
 use Rattle.laws.specs.Binary64.{nought}
-use Rattle.laws.specs.Refusal.{row, judge, choose}
+use Rattle.laws.specs.Refusal.{orElse, choose}
 use Rattle.search.specs.Search.{sampleCount, sampleWords}
 use Rattle.search.specs.Refusal as search
 use Rattle.fit.specs.declared.Fitted.{Fitted}
-use Rattle.fit.specs.Fitted.{fitOf, refusalOf}
 use Rattle.block.specs.Frame.{frameBytes}
-use Rattle.header.specs.Writing.{headerBits, placed}
-use Rattle.job_task.specs.Task.{Task, Lent, lend, roomOf, searchTask, searchLent}
-use Rattle.job_task.specs.Rows.{rowsThen}
-use Rattle.job_model.specs.Modelled.{scoreOf, allTypes, allModels}
+use Rattle.header.specs.Writing.{headerBits, bitsPlaced}
+use Rattle.job_task.specs.Task.{Task, Lent, lend, searchTask, searchLent}
+use Rattle.job_task.specs.Rows.{early}
+use Rattle.job_model.specs.Modelled as model
 use Rattle.job_outcome.specs.declared.Report.{Report}
 
 pub record Ended : Type 0 where
@@ -36,29 +34,37 @@ samples j = sampleCount (j .width) (j .height)
 abbrev pub words : Task → List ℕ
 words j = sampleWords (j .input) (j .reference) (j .width) (j .height) (j .classes)
 
--- the fit for the type asked for
+-- the type of its model, the words of its fit and those of its score
+abbrev pub ownType : Task → ℕ
+ownType j = model.ownType (j .settings) (words j)
+
+abbrev pub fitWords : Task → List ℕ
+fitWords j = model.fitWords (j .settings) (words j)
+
+abbrev pub scoreWords : Task → List ℕ
+scoreWords j = model.scoreWords (j .settings) (words j)
+
+-- the fit
 abbrev pub fitIn : Task → Fitted
-fitIn j = fitOf (j .settings .«gm_type») (words j)
+fitIn j = model.fitIn (j .settings) (words j)
 
 -- the seven types and models as stored, and the bits of their header
 abbrev pub types : Task → List ℕ
-types j = allTypes (j .settings .«gm_type») (j .settings .reference) (j .types)
+types j = model.allTypes (j .settings) (j .types) (words j)
 
 abbrev pub models : Task → List ℤ
-models j = allModels (j .settings .«gm_type») (j .settings .reference) (j .settings .flag) (j .models) (words j)
+models j = model.allModels (j .settings) (j .models) (words j)
 
 abbrev pub bits : Task → List ℕ
 bits j = headerBits (types j) (models j) (j .settings .flag) (j .prior)
 
--- ---- when it says no
+-- ---- when it says no: before the search, by `early`; after it, where its model is refused
 
--- row 6: an elimination refuses
-abbrev pub unfit : Task → Bool
-unfit j = not (eqb (refusalOf (fitIn j)) 0)
+abbrev pub late : Task → ℕ
+late j = model.modelRefusal (j .settings) (words j)
 
--- the whole table: rows 1, 2, 4, 5, 7, 8, 3, and last 6
-unfoldable pub refusal : Task → Lent → ℕ
-refusal j l = judge (rowsThen j (roomOf l) (row 6 (unfit j) ∷ []))
+abbrev pub refusal : Task → Lent → ℕ
+refusal j l = orElse (early j l) (late j)
 
 -- ---- what it reports
 
@@ -71,7 +77,7 @@ accepted j =
       refusal = 0;
       types = types j;
       models = models j;
-      score = scoreOf (j .settings .«gm_type») (j .settings .flag) (words j);
+      score = model.scoreOf (j .settings) (words j);
       bits = length (bits j);
       samples = samples j;
     }
@@ -81,20 +87,24 @@ accepted j =
 abbrev pub searched : Task → Lent → search.Lent
 searched j l = search.leaves (searchTask j) (searchLent l)
 
--- half planes and words as the search leaves them, blocks and header as they were
+-- half planes and words as the search leaves them, and these blocks and header
+abbrev pub leftWith : Task → Lent → List ℕ → List ℕ → Lent
+leftWith j l blocks header = lend (searched j l .inputHalf) (searched j l .refHalf) (searched j l .words) blocks header
+
+-- refused after the search: blocks and header as they were
 abbrev pub leftBySearch : Task → Lent → Lent
-leftBySearch j l = lend (searched j l .input-half) (searched j l .ref-half) (searched j l .words) (l .blocks) (l .header)
+leftBySearch j l = leftWith j l (l .blocks) (l .header)
 
--- and with the blocks and the header
+-- accepted: the blocks of the words, and the header's bits
 abbrev pub leftByJob : Task → Lent → Lent
-leftByJob j l =
-    lend (searched j l .input-half) (searched j l .ref-half) (searched j l .words)
-    (onto (frameBytes (j .settings .frame) (words j)) (l .blocks))
-    (placed 0 (bits j) (l .header))
+leftByJob j l = leftWith j l (onto (frameBytes (j .settings .frame) (words j)) (l .blocks)) (bitsPlaced 0 (bits j) (l .header))
 
--- ---- the whole outcome: accepted, refused with 6 after the search, or refused before it
+-- ---- the whole outcome, by stages
 
+-- after the search: accepted, or the model is refused
+abbrev pub afterSearch : Task → Lent → Ended
+afterSearch j l = choose (eqb (late j) 0) (ended (accepted j) (leftByJob j l)) (ended (refused (late j)) (leftBySearch j l))
+
+-- refused before the search nothing is written
 unfoldable pub outcome : Task → Lent → Ended
-outcome j l =
-    choose (eqb (refusal j l) 0) (ended (accepted j) (leftByJob j l))
-    (choose (eqb (refusal j l) 6) (ended (refused 6) (leftBySearch j l)) (ended (refused (refusal j l)) l))
+outcome j l = choose (eqb (early j l) 0) (afterSearch j l) (ended (refused (early j l)) l)

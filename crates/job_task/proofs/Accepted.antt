@@ -1,4 +1,4 @@
--- What an answer of 0 says of a job, row by row.
+-- What an answer of 0 says of a job: each group of rows is quiet, and a quiet row is a fact.
 -- Assumes nothing.
 use Prim.Native.Nat.{ℕ, _*_, _≤_, _<_, zero-le}
 use mathlib.Core.Bool.{false, not}
@@ -7,32 +7,109 @@ use mathlib.Core.Path.{_≡_, refl, ap}
 use native.Mathlib.Omega.{arith}
 use borrow.Author.Tests.{ltb-false, eqb-false}
 use lib.Dec.{ltb, eqb}
+use lib.IntN.{ℤ}
 use lib.ListN.{length, getD}
-use Rattle.laws.specs.Refusal.{either}
-use Rattle.laws.proofs.Refusal.{neither, length-is, quiet}
+use Rattle.laws.specs.Refusal.{judge}
+use Rattle.laws.proofs.Refusal.{neither, length-is, quiet, or-else-quiet}
+use Rattle.plane.specs.Inner.{Small}
 use Rattle.search.specs.Search.{sampleCount}
 use Rattle.search.specs.Refusal as search
 use Rattle.search.proofs.Rows as search-rows
 use Rattle.fit.specs.Fitted.{noType}
 use Rattle.models.specs.Models.{typesOver}
-use Rattle.block.specs.Frame.{blocksOf}
+use Rattle.layout.specs.Form.{blockBytes, blocksOf}
+use Rattle.form1.specs.Block.{form1}
 use Rattle.job_task.specs.declared.Settings.{Settings}
-use Rattle.job_task.specs.Task.{Task, Lent, roomOf, searchTask, searchLent}
-use Rattle.job_task.specs.Rows.{wrongLengths, rowsThen, early}
-use Rattle.job_task.specs.Ready.{Ready}
+use Rattle.job_task.specs.declared.Sizes.{Sizes}
+use Rattle.job_task.specs.Task.{Task, Lent, sizesOf, searchTask, searchLent}
+use Rattle.job_task.specs.Rows.{otherTypes, otherNumbers, priorNumbers, headerBytes, sizeRows, codeRows, modelRows, roomRows, refusalBefore, early}
+use Rattle.job_task.specs.Inner.{InRange}
+use Rattle.job_task.proofs.Ready.{Ready}
 
--- six numbers for each of the other types
-pub numbers-there : (w h input ref classes types models prior : ℕ) → wrongLengths w h input ref classes types models prior ≡ false → 6 * types ≤ models
-numbers-there w h input ref classes types models prior e =
-    let t = neither (not (eqb types 6)) (either (not (eqb models 36)) (not (eqb prior 42))) (neither (search.wrongLength w h input ref classes) _ e .1) in
-    let m = neither (not (eqb models 36)) (not (eqb prior 42)) (t .1) in
-    omega (arith, length-is types 6 (t .0), length-is models 36 (m .0))
+-- ---- the groups
 
--- the search of a job whose rows are quiet is accepted
+module _ (z : Sizes) (s : Settings) (classes types : List ℕ) (models prior : List ℤ) where
+  pub record AllQuiet : Type 0 where
+    pub sizes : judge (sizeRows z (length classes) (length types) (length models) (length prior)) ≡ 0
+    pub codes : judge (codeRows s classes types) ≡ 0
+    pub handed : judge (modelRows s types models prior) ≡ 0
+    pub room : judge (roomRows z) ≡ 0
+
+  pub all-quiet : refusalBefore z s classes types models prior ≡ 0 → AllQuiet
+  unfolding refusalBefore
+  all-quiet e =
+      let a = or-else-quiet (judge (sizeRows z (length classes) (length types) (length models) (length prior))) _ e in
+      let b = or-else-quiet (judge (codeRows s classes types)) _ (a .1) in
+      let c = or-else-quiet (judge (modelRows s types models prior)) (judge (roomRows z)) (b .1) in
+      record { sizes = a .0; codes = b .0; handed = c .0; room = c .1 }
+
+  pub quiet-all : AllQuiet → refusalBefore z s classes types models prior ≡ 0
+  unfolding refusalBefore
+  quiet-all q = rw (q .sizes, q .codes, q .handed, q .room)
+
+-- ---- rows 1 and 2
+
+pub record Lengths (z : Sizes) (classes types models prior : ℕ) : Type 0 where
+  pub sides : Small (z .width) (z .height)
+  pub large : search.tooLarge (z .width) (z .height) ≡ false
+  pub planes : search.wrongLength (z .width) (z .height) (z .input) (z .reference) classes ≡ false
+  pub classed : classes ≡ sampleCount (z .width) (z .height)
+  pub six : types ≡ otherTypes
+  pub numbers : models ≡ otherNumbers
+  pub places : prior ≡ priorNumbers
+
+pub lengths : (z : Sizes) (classes types models prior : ℕ) → judge (sizeRows z classes types models prior) ≡ 0 → Lengths z classes types models prior
+lengths z classes types models prior e =
+    let q = quiet (sizeRows z classes types models prior) tt e in
+    let two = neither (search.wrongLength (z .width) (z .height) (z .input) (z .reference) classes) _ (q .1 .0) in
+    let t = neither (not (eqb types otherTypes)) _ (two .1) in
+    let m = neither (not (eqb models otherNumbers)) (not (eqb prior priorNumbers)) (t .1) in
+    let planes = neither (not (eqb (z .reference) _)) _ (neither (not (eqb (z .input) _)) _ (two .0) .1) in
+    record {
+      sides = search-rows.small (z .width) (z .height) (q .0);
+      large = q .0;
+      planes = two .0;
+      classed = length-is classes (sampleCount (z .width) (z .height)) (planes .1);
+      six = length-is types otherTypes (t .0);
+      numbers = length-is models otherNumbers (m .0);
+      places = length-is prior priorNumbers (m .1);
+    }
+
+-- ---- rows 4 and 5
+
+pub record Codes (s : Settings) (classes types : List ℕ) : Type 0 where
+  pub classed : search.badClass classes ≡ false
+  pub known : typesOver types ≡ false
+  pub range : InRange s
+
+codes : (s : Settings) (classes types : List ℕ) → judge (codeRows s classes types) ≡ 0 → Codes s classes types
+codes s classes types e =
+    let q = quiet (codeRows s classes types) tt e in
+    let four = neither (search.badClass classes) _ (q .0) in
+    let kind = neither (noType (s .«gm_type»)) _ (four .1) in
+    let over = neither (typesOver types) (ltb 1 (s .flag)) (kind .1) in
+    let asked = neither (eqb (s .«gm_type») 0) (ltb 3 (s .«gm_type»)) (kind .0) in
+    let some : s .«gm_type» ≡ 0 → ⊥ = eqb-false (s .«gm_type») 0 (asked .0) in
+    let five = neither (eqb (s .reference) 0) (ltb 7 (s .reference)) (q .1 .0) in
+    let one : s .reference ≡ 0 → ⊥ = eqb-false (s .reference) 0 (five .0) in
+    record {
+      classed = four .0;
+      known = over .0;
+      range = record {
+        some-type = omega arith;
+        last-type = ltb-false 3 (s .«gm_type») (asked .1);
+        some-reference = omega arith;
+        last-reference = ltb-false 7 (s .reference) (five .1);
+        flagged = ltb-false 1 (s .flag) (over .1);
+      };
+    }
+
+-- ---- the search of a job whose rows are quiet is accepted
+
 search-accepts : (t : search.Task) (l : search.Lent) → search.tooLarge (t .width) (t .height) ≡ false
     → search.wrongLength (t .width) (t .height) (length (t .input)) (length (t .ref)) (length (t .classes)) ≡ false
     → search.badClass (t .classes) ≡ false
-    → search.tooShort (t .width) (t .height) (length (l .input-half)) (length (l .ref-half)) (length (l .words)) ≡ false
+    → search.tooShort (t .width) (t .height) (length (l .inputHalf)) (length (l .refHalf)) (length (l .words)) ≡ false
     → search.refusal t l ≡ 0
 unfolding search.verdict
 search-accepts t l a b c d = rw (a, b, c, d)
@@ -43,46 +120,35 @@ classes-in-range : (t : search.Task) (l : search.Lent) (cs : List ℕ) → t .cl
 classes-in-range t l [] e z n k = zero-le
 classes-in-range t l (x ∷ cs) e z n k =
     let some : 0 < sampleCount (t .width) (t .height) = omega (arith, ap length e) in
-    let r = search-rows.ready (t .input) (t .ref) (t .width) (t .height) (t .classes) (l .input-half) (l .ref-half) (l .words) z some in
+    let r = search-rows.ready (t .input) (t .ref) (t .width) (t .height) (t .classes) (l .inputHalf) (l .refHalf) (l .words) z some in
     rw e at (r .classed .in-range k)
 
 module _ (j : Task) (l : Lent) where
-  pub ready : early j (roomOf l) ≡ 0 → Ready j l
-  unfolding early
+  pub ready : early j l ≡ 0 → Ready j l
   ready e =
-      let s : Settings = j .settings in
-      let q = quiet (rowsThen j (roomOf l) []) tt e in
-      let small = search-rows.small (j .width) (j .height) (q .0) in
-      let two = neither (search.wrongLength (j .width) (j .height) (length (j .input)) (length (j .reference)) (length (j .classes))) _ (q .1 .0) in
-      let types = neither (not (eqb (length (j .types)) 6)) _ (two .1) in
-      let models = neither (not (eqb (length (j .models)) 36)) _ (types .1) in
-      let four = neither (search.badClass (j .classes)) _ (q .1 .1 .0) in
-      let kind = neither (noType (s .«gm_type»)) _ (four .1) in
-      let range = neither (eqb (s .«gm_type») 0) (ltb 3 (s .«gm_type»)) (kind .0) in
-      let some : s .«gm_type» ≡ 0 → ⊥ = eqb-false (s .«gm_type») 0 (range .0) in
-      let over = neither (typesOver (j .types)) (ltb 1 (s .flag)) (kind .1) in
-      let five = neither (eqb (s .reference) 0) (ltb 7 (s .reference)) (q .1 .1 .1 .0) in
-      let one : s .reference ≡ 0 → ⊥ = eqb-false (s .reference) 0 (five .0) in
-      let three = neither (search.tooShort (j .width) (j .height) (length (l .inputHalf)) (length (l .refHalf)) (length (l .words))) _ (q .1 .1 .1 .1 .1 .1 .0) in
-      let room = neither (ltb (length (l .blocks)) (512 * blocksOf (sampleCount (j .width) (j .height)))) (ltb (length (l .header)) 124) (three .1) in
-      let classes = neither (not (eqb (length (j .reference)) _)) _ (neither (not (eqb (length (j .input)) _)) _ (two .0) .1) in
-      let found : search.refusal (searchTask j) (searchLent l) ≡ 0 = search-accepts (searchTask j) (searchLent l) (q .0) (two .0) (four .0) (three .0) in
+      let z : Sizes = sizesOf j l in
+      let q = all-quiet z (j .settings) (j .classes) (j .types) (j .models) (j .prior) e in
+      let n = lengths z (length (j .classes)) (length (j .types)) (length (j .models)) (length (j .prior)) (q .sizes) in
+      let c = codes (j .settings) (j .classes) (j .types) (q .codes) in
+      let m = quiet (modelRows (j .settings) (j .types) (j .models) (j .prior)) tt (q .handed) in
+      let needed : ℕ = blockBytes * blocksOf form1 (sampleCount (j .width) (j .height)) in
+      let three = neither (search.tooShort (j .width) (j .height) (length (l .inputHalf)) (length (l .refHalf)) (length (l .words))) _ (quiet (roomRows z) tt (q .room) .0) in
+      let room = neither (ltb (length (l .blocks)) needed) (ltb (length (l .header)) headerBytes) (three .1) in
+      let found : search.refusal (searchTask j) (searchLent l) ≡ 0 = search-accepts (searchTask j) (searchLent l) (n .large) (n .planes) (c .classed) (three .0) in
       record {
         sound = record {
-          narrow = small .narrow;
-          low = small .low;
-          classed = classes-in-range (searchTask j) (searchLent l) (j .classes) refl found (length-is (length (j .classes)) (sampleCount (j .width) (j .height)) (classes .1));
-          six = length-is (length (j .types)) 6 (types .0);
-          numbers = length-is (length (j .models)) 36 (models .0);
-          places = length-is (length (j .prior)) 42 (models .1);
-          fits = record { least = omega arith; most = ltb-false 3 (s .«gm_type») (range .1) };
-          known = over .0;
-          flagged = ltb-false 1 (s .flag) (over .1);
-          stands = record { least = omega arith; most = ltb-false 7 (s .reference) (five .1) };
-          right = q .1 .1 .1 .1 .0;
-          within = q .1 .1 .1 .1 .1 .0;
+          narrow = n .sides .narrow;
+          low = n .sides .low;
+          classed = classes-in-range (searchTask j) (searchLent l) (j .classes) refl found (n .classed);
+          six = n .six;
+          numbers = n .numbers;
+          places = n .places;
+          range = c .range;
+          known = c .known;
+          right = m .0;
+          within = m .1 .0;
         };
         searched = found;
-        blocks-room = ltb-false (length (l .blocks)) (512 * blocksOf (sampleCount (j .width) (j .height))) (room .0);
-        header-room = ltb-false (length (l .header)) 124 (room .1);
+        blocks-room = ltb-false (length (l .blocks)) needed (room .0);
+        header-room = ltb-false (length (l .header)) headerBytes (room .1);
       }

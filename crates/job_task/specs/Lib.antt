@@ -1,3 +1,3 @@
 pub mod Task
 pub mod Rows
-pub mod Ready
+pub mod Inner

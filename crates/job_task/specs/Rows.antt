@@ -1,56 +1,89 @@
--- The rows of the table of refusals that a job meets before it fits, in the table's order: 1, 2, 4, 5, 7, 8, 3. Document 01, 'When a call says no'.
+-- The rows of the table of refusals that a job meets before its search, in the table's order: 1, 2, 4, 5, 7, 8, 3. Document 01, 'When a call says no'.
 -- Assumes nothing.
 use Prim.Native.Nat.{ℕ, _*_}
 use mathlib.Core.Bool.{Bool, not}
 use mathlib.Core.List.{List, [], _∷_}
 use lib.Dec.{ltb, eqb}
+use lib.IntN.{ℤ}
 use lib.ListN.{length}
-use Rattle.laws.specs.Refusal.{Row, row, judge, either}
+use Rattle.laws.specs.Refusal.{Row, row, judge, orElse, either}
 use Rattle.search.specs.Search.{sampleCount}
 use Rattle.search.specs.Refusal.{tooLarge, wrongLength, badClass, tooShort}
 use Rattle.fit.specs.Fitted.{noType}
 use Rattle.models.specs.Models.{typesOver, modelsWrong, priorsOut}
-use Rattle.block.specs.Frame.{blocksOf}
+use Rattle.layout.specs.Form.{blockBytes, blocksOf}
+use Rattle.form1.specs.Block.{form1}
 use Rattle.job_task.specs.declared.Settings.{Settings}
-use Rattle.job_task.specs.Task.{Task, Room}
+use Rattle.job_task.specs.declared.Sizes.{Sizes}
+use Rattle.job_task.specs.Task.{Task, Lent, sizesOf}
+
+-- six models beside the job's own, six numbers each, and a prior of seven
+abbrev pub otherTypes : ℕ
+otherTypes = 6
+
+abbrev pub otherNumbers : ℕ
+otherNumbers = 36
+
+abbrev pub priorNumbers : ℕ
+priorNumbers = 42
+
+-- what a job's header buffer needs
+abbrev pub headerBytes : ℕ
+headerBytes = 124
+
+-- ---- the conditions
 
 -- row 2: a plane, the classes, the six types, their 36 numbers or the prior's 42 of wrong length
-abbrev pub wrongLengths : ℕ → ℕ → ℕ → ℕ → ℕ → ℕ → ℕ → ℕ → Bool
-wrongLengths w h input ref classes types models prior =
-    either (wrongLength w h input ref classes) (either (not (eqb types 6)) (either (not (eqb models 36)) (not (eqb prior 42))))
+abbrev pub wrongLengths : Sizes → ℕ → ℕ → ℕ → ℕ → Bool
+wrongLengths z classes types models prior =
+    either (wrongLength (z .width) (z .height) (z .input) (z .reference) classes)
+    (either (not (eqb types otherTypes)) (either (not (eqb models otherNumbers)) (not (eqb prior priorNumbers))))
 
 -- row 4: a class over 3; the type asked for 0 or over 3; another's type over 3; the flag over 1
-abbrev pub badCodes : List ℕ → Settings → List ℕ → Bool
-badCodes classes s types = either (badClass classes) (either (noType (s .«gm_type»)) (either (typesOver types) (ltb 1 (s .flag))))
+abbrev pub badCodes : Settings → List ℕ → List ℕ → Bool
+badCodes s classes types = either (badClass classes) (either (noType (s .«gm_type»)) (either (typesOver types) (ltb 1 (s .flag))))
 
 -- row 5: a reference outside 1 to 7
 abbrev pub noReference : ℕ → Bool
 noReference reference = either (eqb reference 0) (ltb 7 reference)
 
-abbrev pub blockBytes : ℕ
-blockBytes = 512
-
-abbrev pub headerBytes : ℕ
-headerBytes = 124
-
 -- row 3: half planes and words as the search needs them; 512 bytes for each block; 124 bytes for the header
-abbrev pub tooLittle : ℕ → ℕ → Room → Bool
-tooLittle w h r =
-    either (tooShort w h (r .inputHalf) (r .refHalf) (r .words))
-    (either (ltb (r .blocks) (blockBytes * blocksOf (sampleCount w h))) (ltb (r .header) headerBytes))
+abbrev pub tooLittle : Sizes → Bool
+tooLittle z =
+    either (tooShort (z .width) (z .height) (z .«input_half») (z .«ref_half») (z .words))
+    (either (ltb (z .blocks) (blockBytes * blocksOf form1 (sampleCount (z .width) (z .height)))) (ltb (z .header) headerBytes))
 
--- the rows, and what comes after them
-abbrev pub rowsThen : Task → Room → List Row → List Row
-rowsThen j r after =
-    row 1 (tooLarge (j .width) (j .height))
-    ∷ row 2 (wrongLengths (j .width) (j .height) (length (j .input)) (length (j .reference)) (length (j .classes)) (length (j .types)) (length (j .models)) (length (j .prior)))
-    ∷ row 4 (badCodes (j .classes) (j .settings) (j .types))
-    ∷ row 5 (noReference (j .settings .reference))
-    ∷ row 7 (modelsWrong (j .types) (j .settings .flag) (j .models))
-    ∷ row 8 (priorsOut (j .prior))
-    ∷ row 3 (tooLittle (j .width) (j .height) r)
-    ∷ after
+-- ---- the rows, in groups
+
+abbrev pub sizeRows : Sizes → ℕ → ℕ → ℕ → ℕ → List Row
+sizeRows z classes types models prior =
+    row 1 (tooLarge (z .width) (z .height))
+    ∷ row 2 (wrongLengths z classes types models prior)
+    ∷ []
+
+abbrev pub codeRows : Settings → List ℕ → List ℕ → List Row
+codeRows s classes types =
+    row 4 (badCodes s classes types)
+    ∷ row 5 (noReference (s .reference))
+    ∷ []
+
+abbrev pub modelRows : Settings → List ℕ → List ℤ → List ℤ → List Row
+modelRows s types models prior =
+    row 7 (modelsWrong types (s .flag) models)
+    ∷ row 8 (priorsOut prior)
+    ∷ []
+
+abbrev pub roomRows : Sizes → List Row
+roomRows z = row 3 (tooLittle z) ∷ []
 
 -- the first of these rows that holds, 0 for none
-unfoldable pub early : Task → Room → ℕ
-early j r = judge (rowsThen j r [])
+unfoldable pub refusalBefore : Sizes → Settings → List ℕ → List ℕ → List ℤ → List ℤ → ℕ
+refusalBefore z s classes types models prior =
+    orElse (judge (sizeRows z (length classes) (length types) (length models) (length prior)))
+    (orElse (judge (codeRows s classes types))
+    (orElse (judge (modelRows s types models prior))
+    (judge (roomRows z))))
+
+-- of a job: refused before its search
+abbrev pub early : Task → Lent → ℕ
+early j l = refusalBefore (sizesOf j l) (j .settings) (j .classes) (j .types) (j .models) (j .prior)

@@ -6,6 +6,7 @@ use lib.IntN.{ℤ}
 use lib.ListN.{length}
 use Rattle.search.specs.Refusal as search
 use Rattle.job_task.specs.declared.Settings.{Settings}
+use Rattle.job_task.specs.declared.Sizes.{Sizes}
 
 -- a frame pair, the settings, a class for each sample, the six other types and models, and the prior
 pub record Task : Type 0 where
@@ -41,16 +42,17 @@ searchTask j = search.task (j .input) (j .reference) (j .width) (j .height) (j .
 abbrev pub searchLent : Lent → search.Lent
 searchLent l = search.lent (l .inputHalf) (l .refHalf) (l .words)
 
--- how long the lent buffers are
-pub record Room : Type 0 where
-  pub inputHalf : ℕ
-  pub refHalf : ℕ
-  pub words : ℕ
-  pub blocks : ℕ
-  pub header : ℕ
-
-abbrev pub room : ℕ → ℕ → ℕ → ℕ → ℕ → Room
-room i r w b h = record { inputHalf = i; refHalf = r; words = w; blocks = b; header = h }
-
-abbrev pub roomOf : Lent → Room
-roomOf l = room (length (l .inputHalf)) (length (l .refHalf)) (length (l .words)) (length (l .blocks)) (length (l .header))
+-- the sides, and how long planes and lent buffers are
+abbrev pub sizesOf : Task → Lent → Sizes
+sizesOf j l =
+    record {
+      width = j .width;
+      height = j .height;
+      input = length (j .input);
+      reference = length (j .reference);
+      «input_half» = length (l .inputHalf);
+      «ref_half» = length (l .refHalf);
+      words = length (l .words);
+      blocks = length (l .blocks);
+      header = length (l .header);
+    }

@@ -1,12 +1,14 @@
-// The rows of the table of refusals that a job meets before it fits: 1, 2, 4, 5, 7, 8, 3, in the
-// table's order (document 01, 'Job', 'When a call says no'). In goes all that a job is handed, and
-// how long its lent buffers are; out comes the first row that holds, 0 for none.
+// What a job is handed, and the rows of the table of refusals that it meets before its search: 1, 2,
+// 4, 5, 7, 8, 3, in the table's order (document 01, 'Job', 'When a call says no'). In go the settings,
+// how long planes and lent buffers are, and the lists that are looked into; out comes the first row
+// that holds, 0 for none. The rows are judged in groups; a group is a function.
+use layout::BLOCK_BYTES;
 ghost use mathlib.Core.Path.{_≡_};
 ghost use Prim.Native.Nat.{_*_, _≤_};
 ghost use lib.ListN.{length};
-ghost use Rattle.search.specs.Refusal.{Small};
-ghost use Rattle.job_task.specs.Task.{task, room};
-ghost use Rattle.job_task.specs.Rows.{wrongLengths, badCodes, noReference, tooLittle, early};
+ghost use Rattle.laws.specs.Refusal.{judge};
+ghost use Rattle.plane.specs.Inner.{Small};
+ghost use Rattle.job_task.specs.Rows.{wrongLengths, badCodes, noReference, tooLittle, sizeRows, codeRows, modelRows, roomRows, refusalBefore};
 
 const BLOCK: usize = 16;
 
@@ -21,13 +23,23 @@ const LAST_TYPE: u8 = 3;
 
 const LAST_REFERENCE: u8 = 7;
 
-// A sample block, and the samples that it holds.
-const BLOCK_BYTES: usize = 512;
-
-const CAPACITY: usize = 125;
-
 // What a job's header buffer needs.
 const HEADER_BYTES: usize = 124;
+
+// The rows of the table of refusals.
+const TOO_LARGE: u32 = 1;
+
+const WRONG_LENGTH: u32 = 2;
+
+const BAD_CODE: u32 = 4;
+
+const NO_REFERENCE: u32 = 5;
+
+const WRONG_MODEL: u32 = 7;
+
+const PRIOR_OUT: u32 = 8;
+
+const TOO_LITTLE: u32 = 3;
 
 // The frame number of the blocks, the type to fit, the reference that the model is for, and the
 // flag of high precision.
@@ -39,20 +51,30 @@ pub struct Settings {
     pub flag: u8,
 }
 
-fn wrong_lengths(
-    width: usize,
-    height: usize,
-    input: usize,
-    reference: usize,
-    classes: usize,
-    types: usize,
-    models: usize,
-    prior: usize,
-) -> bool
-    requires { ⌜ Small width height ⌝ }
-    ensures { λ b. ⌜ b ≡ wrongLengths width height input reference classes types models prior ⌝ }
+// The sides of the planes, and how long planes and lent buffers are.
+pub struct Sizes {
+    pub width: usize,
+    pub height: usize,
+    pub input: usize,
+    pub reference: usize,
+    pub input_half: usize,
+    pub ref_half: usize,
+    pub words: usize,
+    pub blocks: usize,
+    pub header: usize,
+}
+
+fn wrong_lengths(sizes: Sizes, classes: usize, types: usize, models: usize, prior: usize) -> bool
+    requires { ⌜ Small (sizes .width) (sizes .height) ⌝ }
+    ensures { λ b. ⌜ b ≡ wrongLengths sizes classes types models prior ⌝ }
 {
-    if search::refusals::wrong_length(width, height, input, reference, classes) {
+    if search::refusals::wrong_length(
+        sizes.width,
+        sizes.height,
+        sizes.input,
+        sizes.reference,
+        classes,
+    ) {
         return true;
     }
     if types != OTHER_TYPES {
@@ -64,8 +86,8 @@ fn wrong_lengths(
     prior != PRIOR_NUMBERS
 }
 
-fn bad_codes(classes: &[u8], settings: Settings, types: &[u8]) -> bool
-    ensures { λ b. ⌜ b ≡ badCodes (now (classes .entry)) settings (now (types .entry)) ⌝ }
+fn bad_codes(settings: Settings, classes: &[u8], types: &[u8]) -> bool
+    ensures { λ b. ⌜ b ≡ badCodes settings (now (classes .entry)) (now (types .entry)) ⌝ }
 {
     if search::refusals::bad_class(classes) {
         return true;
@@ -91,75 +113,94 @@ fn no_reference(reference: u8) -> bool
     LAST_REFERENCE < reference
 }
 
-fn too_little(
-    width: usize,
-    height: usize,
-    input_half: usize,
-    ref_half: usize,
-    words: usize,
-    blocks: usize,
-    header: usize,
-) -> bool
-    requires { ⌜ Small width height ⌝ }
-    ensures { λ b. ⌜ b ≡ tooLittle width height (room «input_half» «ref_half» words blocks header) ⌝ }
+fn too_little(sizes: Sizes) -> bool
+    requires { ⌜ Small (sizes .width) (sizes .height) ⌝ }
+    ensures { λ b. ⌜ b ≡ tooLittle sizes ⌝ }
 {
-    if search::refusals::too_short(width, height, input_half, ref_half, words) {
+    if search::refusals::too_short(
+        sizes.width,
+        sizes.height,
+        sizes.input_half,
+        sizes.ref_half,
+        sizes.words,
+    ) {
         return true;
     }
-    let samples = height / BLOCK * (width / BLOCK);
-    if blocks < BLOCK_BYTES * ((samples + 124) / CAPACITY) {
+    let samples = sizes.height / BLOCK * (sizes.width / BLOCK);
+    if sizes.blocks < BLOCK_BYTES * block::blocks_of(samples) {
         return true;
     }
-    header < HEADER_BYTES
+    sizes.header < HEADER_BYTES
+}
+
+fn sizes_refusal(sizes: Sizes, classes: usize, types: usize, models: usize, prior: usize) -> u32
+    ensures { λ r. ⌜ r ≡ judge (sizeRows sizes classes types models prior) ⌝ }
+{
+    if search::refusals::too_large(sizes.width, sizes.height) {
+        return TOO_LARGE;
+    }
+    if wrong_lengths(sizes, classes, types, models, prior) {
+        return WRONG_LENGTH;
+    }
+    0
+}
+
+fn codes_refusal(settings: Settings, classes: &[u8], types: &[u8]) -> u32
+    ensures { λ r. ⌜ r ≡ judge (codeRows settings (now (classes .entry)) (now (types .entry))) ⌝ }
+{
+    if bad_codes(settings, classes, types) {
+        return BAD_CODE;
+    }
+    if no_reference(settings.reference) {
+        return NO_REFERENCE;
+    }
+    0
+}
+
+fn models_refusal(settings: Settings, types: &[u8], models: &[i32], prior: &[i32]) -> u32
+    requires { ⌜ 6 * length (now types) ≤ length (now models) ⌝ }
+    ensures { λ r. ⌜ r ≡ judge (modelRows settings (now (types .entry)) (now (models .entry)) (now (prior .entry))) ⌝ }
+{
+    if models::models_wrong(types, settings.flag, models) {
+        return WRONG_MODEL;
+    }
+    if models::priors_out(prior) {
+        return PRIOR_OUT;
+    }
+    0
+}
+
+fn room_refusal(sizes: Sizes) -> u32
+    requires { ⌜ Small (sizes .width) (sizes .height) ⌝ }
+    ensures { λ r. ⌜ r ≡ judge (roomRows sizes) ⌝ }
+{
+    if too_little(sizes) {
+        return TOO_LITTLE;
+    }
+    0
 }
 
 pub fn refusal_of(
-    input: &[u16],
-    reference: &[u16],
-    width: usize,
-    height: usize,
+    sizes: Sizes,
     settings: Settings,
     classes: &[u8],
     types: &[u8],
     models: &[i32],
     prior: &[i32],
-    input_half: usize,
-    ref_half: usize,
-    words: usize,
-    blocks: usize,
-    header: usize,
 ) -> u32
-    ensures { λ r. ⌜ r ≡ early (task (now (input .entry)) (now (reference .entry)) width height settings (now (classes .entry)) (now (types .entry)) (now (models .entry)) (now (prior .entry))) (room «input_half» «ref_half» words blocks header) ⌝ }
+    ensures { λ r. ⌜ r ≡ refusalBefore sizes settings (now (classes .entry)) (now (types .entry)) (now (models .entry)) (now (prior .entry)) ⌝ }
 {
-    if search::refusals::too_large(width, height) {
-        return 1;
+    let lengths = sizes_refusal(sizes, classes.len(), types.len(), models.len(), prior.len());
+    if lengths != 0 {
+        return lengths;
     }
-    if wrong_lengths(
-        width,
-        height,
-        input.len(),
-        reference.len(),
-        classes.len(),
-        types.len(),
-        models.len(),
-        prior.len(),
-    ) {
-        return 2;
+    let codes = codes_refusal(settings, classes, types);
+    if codes != 0 {
+        return codes;
     }
-    if bad_codes(classes, settings, types) {
-        return 4;
+    let handed = models_refusal(settings, types, models, prior);
+    if handed != 0 {
+        return handed;
     }
-    if no_reference(settings.reference) {
-        return 5;
-    }
-    if models::models_wrong(types, settings.flag, models) {
-        return 7;
-    }
-    if models::priors_out(prior) {
-        return 8;
-    }
-    if too_little(width, height, input_half, ref_half, words, blocks, header) {
-        return 3;
-    }
-    0
+    room_refusal(sizes)
 }

@@ -7,11 +7,12 @@ use native.Mathlib.Nat.{mul-le-mul-right}
 use native.Mathlib.Omega.{arith}
 use lib.ListN.{length, take, drop, getD}
 use lib.Seq.{getD-take, getD-drop}
-use Rattle.plane.specs.Plane.{listing, halfOfRows, halfPel, halfPlane}
+use Rattle.plane.specs.Plane.{listing, halfPel, halfPlane}
+use Rattle.plane.specs.Inner.{halfOfRows}
 use Rattle.plane.proofs.Listing.{listing-same, length-rowByRow}
 
 -- the element at i of the w elements from the a-th on
-part-at : (p : List ℕ) (a w i : ℕ) → i < w → getD (take (a + w - a) (drop a p)) i 0 ≡ getD p (a + i) 0
+pub part-at : (p : List ℕ) (a w i : ℕ) → i < w → getD (take (a + w - a) (drop a p)) i 0 ≡ getD p (a + i) 0
 part-at p a w i h = let g : i < a + w - a = omega arith in rw (getD-take, getD-drop)
 
 pub half-row-is : (p : List ℕ) (w r n : ℕ) → n ≡ w / 2 →

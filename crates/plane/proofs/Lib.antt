@@ -1,2 +1,4 @@
 pub mod Listing
 pub mod Halves
+pub mod Offsets
+pub mod Clamped

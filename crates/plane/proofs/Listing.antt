@@ -1,15 +1,17 @@
 -- A list made front to back: its length, and what a buffer holds when its front is written one place or one row at a time.
 -- Assumes nothing.
 use Prim.Native.Nat.{ℕ, zero, suc, _+_, _*_, _≤_, _<_, _-_}
-use mathlib.Core.List.{List, _++_, append-assoc, append-nil}
+use mathlib.Core.List.{List, append-nil}
 use mathlib.Core.Path.{_≡_, refl, sym, ap, _∙_}
 use native.Mathlib.Numerals.{add-one}
 use native.Mathlib.Omega.{arith}
 use lib.ListN.{length, take, drop, set, getD, length-append, length-take, length-drop, drop-of-length-le}
-use lib.Seq.{append-snoc, drop-cons, set-at, take-at, drop-append-add, drop-drop}
+use lib.Seq.{append-snoc, drop-cons, set-at, drop-drop}
 use Rattle.laws.specs.Buffer.{onto}
+use Rattle.laws.specs.Placed.{placed}
+use Rattle.laws.proofs.Placed.{placed-at}
 use borrow.Rule.Slice.PartMut.{putMid, post-is}
-use Rattle.plane.specs.Plane.{listing, rowByRow, over}
+use Rattle.plane.specs.Plane.{listing, rowByRow}
 
 module _ {A : Type 0} where
   pub length-listing : (f : ℕ → A) (n : ℕ) → length (listing f n) ≡ n
@@ -39,25 +41,15 @@ module _ {A : Type 0} where
       ∙ (ap (λ (k : ℕ). onto (listing f k) old) p
       ∙ rw (length-listing f n, drop-of-length-le old {i = n} (omega arith)) (append-nil (listing f n)))
 
-  drop-past : (xs ys : List A) (n m : ℕ) → length xs ≡ n → drop (n + m) (xs ++ ys) ≡ drop m ys
-  drop-past xs ys n m e = rw (← e) (drop-append-add xs ys m)
-
   -- a row of w written at row r, after the first r rows
-  pub rowByRow-more : (f : ℕ → ℕ → A) (w r : ℕ) (old : List A) {s : List A} → r * w + w ≤ length old → s ≡ onto (rowByRow f w r) old →
-      over (r * w) (listing (f r) w) s ≡ onto (rowByRow f w (r + 1)) old
-  rowByRow-more f w r old {s} h e =
-      rw (e, add-one r, length-append, length-listing (f r) w, length-rowByRow f w r)
-      (rw (
-        take-at (rowByRow f w r) (drop (r * w) old) (r * w) (length-rowByRow f w r),
-        drop-past (rowByRow f w r) (drop (r * w) old) (r * w) w (length-rowByRow f w r),
-        drop-drop w (r * w) old,
-      )
-      (sym (append-assoc (rowByRow f w r) (listing (f r) w) (drop (r * w + w) old))))
+  pub rowByRow-more : (f : ℕ → ℕ → A) (w r : ℕ) (old : List A) {s : List A} → s ≡ onto (rowByRow f w r) old →
+      placed (r * w) (listing (f r) w) s ≡ onto (rowByRow f w (r + 1)) old
+  rowByRow-more f w r old e = rw (e, add-one r) (placed-at (r * w) (rowByRow f w r) (listing (f r) w) old (length-rowByRow f w r))
 
   -- a part of k elements from the a-th on that comes back as ys
-  pub part-back : (a k : ℕ) (xs : List A) {zs ys : List A} → length ys ≡ k → zs ≡ ys → putMid a (a + k - a) xs zs ≡ over a ys xs
+  pub part-back : (a k : ℕ) (xs : List A) {zs ys : List A} → length ys ≡ k → zs ≡ ys → putMid a (a + k - a) xs zs ≡ placed a ys xs
   part-back a k xs {zs} {ys} l e =
-      rw (e, l, post-is a (a + k) xs (omega arith))
+      rw (e, l, drop-drop k a xs, post-is a (a + k) xs (omega arith))
 
   pub part-length : (a k : ℕ) (xs : List A) → a + k ≤ length xs → length (take (a + k - a) (drop a xs)) ≡ k
   part-length a k xs h = rw (length-take, length-drop) (omega arith)

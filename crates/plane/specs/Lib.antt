@@ -1,1 +1,4 @@
 pub mod Plane
+pub mod Clamp
+pub mod Difference
+pub mod Inner

@@ -1,9 +1,13 @@
 -- A plane as a list row by row, its pel at a row and a column, and its half plane (document 01, 'Records' and 'Search').
 -- Assumes nothing.
-use Prim.Native.Nat.{ℕ, zero, suc, _+_, _*_, _/_, _≤_}
+use Prim.Native.Nat.{ℕ, zero, suc, _+_, _*_, _/_}
 use mathlib.Core.List.{List, [], _∷_, _++_}
-use mathlib.Core.Path.{_≡_}
-use lib.ListN.{length, getD, take, drop}
+use lib.ListN.{getD}
+use Rattle.plane.specs.declared.Place.{Place}
+
+-- the longest side that row 1 lets pass
+abbrev pub largestSide : ℕ
+largestSide = 1024
 
 -- f 0, f 1, .., f (n - 1)
 abbrev pub listing : {A : Type 0} → (ℕ → A) → ℕ → List A
@@ -15,13 +19,20 @@ abbrev pub rowByRow : {A : Type 0} → (ℕ → ℕ → A) → ℕ → ℕ → L
 rowByRow f w zero = []
 rowByRow f w (suc h) = rowByRow f w h ++ listing (f h) w
 
--- a list with ys in the place of as many elements from the a-th on
-abbrev pub over : {A : Type 0} → ℕ → List A → List A → List A
-over a ys xs = take a xs ++ (ys ++ drop (a + length ys) xs)
-
 -- the pel at row r, column c of a plane of width w
 abbrev pub pel : List ℕ → ℕ → ℕ → ℕ → ℕ
 pel p w r c = getD p (r * w + c) 0
+
+-- the pel at a place
+abbrev pub pelAt : List ℕ → Place → ℕ
+pelAt p place = pel p (place .width) (place .r) (place .c)
+
+-- the place so many rows further down, and so many columns further right
+abbrev pub down : Place → ℕ → Place
+down place i = record { width = place .width; height = place .height; r = place .r + i; c = place .c }
+
+abbrev pub right : Place → ℕ → Place
+right place j = record { width = place .width; height = place .height; r = place .r; c = place .c + j }
 
 -- four pels + 2, divided by 4, rounded down
 abbrev pub meanOfFour : ℕ → ℕ → ℕ → ℕ → ℕ
@@ -34,27 +45,3 @@ halfPel p w r c =
 -- the half plane of a plane w wide and h high: sides halved downwards
 unfoldable pub halfPlane : List ℕ → ℕ → ℕ → List ℕ
 halfPlane p w h = rowByRow (halfPel p w) (w / 2) (h / 2)
-
--- one row of it from the two rows that it halves
-abbrev pub halfOfRows : List ℕ → List ℕ → ℕ → ℕ
-halfOfRows top bottom c =
-    meanOfFour (getD top (2 * c) 0) (getD top (2 * c + 1) 0) (getD bottom (2 * c) 0) (getD bottom (2 * c + 1) 0)
-
--- two rows with a pair of pels for each of n places
-pub record RowPair (top bottom : List ℕ) (n : ℕ) : Type 0 where
-  pub above : n * 2 ≤ length top
-  pub below : n * 2 ≤ length bottom
-
--- the plane has the two rows that row r of its half plane halves, and the buffer has room for that row
-pub record RowRoom (p out : List ℕ) (w r : ℕ) : Type 0 where
-  pub narrow : w ≤ 1024
-  pub row-small : r ≤ 1024
-  pub rows : 2 * r * w + w + w ≤ length p
-  pub room : r * (w / 2) + w / 2 ≤ length out
-
--- a plane and a buffer that holds its half plane
-pub record Halvable (p out : List ℕ) (w h : ℕ) : Type 0 where
-  pub narrow : w ≤ 1024
-  pub low : h ≤ 1024
-  pub pels : h * w ≡ length p
-  pub room : h / 2 * (w / 2) ≤ length out

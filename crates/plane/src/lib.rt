@@ -1,11 +1,43 @@
-// Half planes for the coarse stage of the search (document 01, 'Search'; `downsample` in the
-// Rust's `collect_motion_samples`). In go a plane of u16 values row by row and its sides; out
-// comes its half plane, written from the front of a lent buffer.
+// Planes of the search (document 01, 'Records' and 'Search'; `downsample` and the clamped reads in the
+// Rust's `collect_motion_samples`). In go a plane of u16 values row by row and its sides; out comes its
+// half plane, written from the front of a lent buffer, or a pel displaced by a motion, its coordinates
+// clamped to the plane, or where a row of pels begins. An offset is a natural number, the signed one
+// plus a bias, so that a coordinate clamps at 0 by one test.
 ghost use mathlib.Core.Path.{_≡_};
-ghost use Prim.Native.Nat.{_*_, _/_};
+ghost use Prim.Native.Nat.{_+_, _*_, _-_, _/_, _<_, min};
 ghost use lib.ListN.{length};
 ghost use Rattle.laws.specs.Buffer.{onto};
-ghost use Rattle.plane.specs.Plane.{listing, over, meanOfFour, halfOfRows, halfPel, halfPlane, RowPair, RowRoom, Halvable};
+ghost use Rattle.laws.specs.Placed.{placed};
+ghost use Rattle.plane.specs.Plane.{listing, meanOfFour, halfPel, halfPlane};
+ghost use Rattle.plane.specs.Clamp as clamped;
+ghost use Rattle.plane.specs.Clamp.{offset};
+ghost use Rattle.plane.specs.Difference.{difference};
+ghost use Rattle.plane.specs.Inner.{halfOfRows, RowPair, RowRoom, Halvable, landing, Is, Near, RowIn, Lands, Starts};
+
+// The search goes by blocks of 16 × 16 pels, on half planes 8 × 8.
+pub const BLOCK: usize = 16;
+
+pub const HALF_BLOCK: usize = 8;
+
+// The sides of a plane.
+pub struct Sides {
+    pub width: usize,
+    pub height: usize,
+}
+
+// A place in a plane of these sides: a pel, or the first pel of a row or of a block.
+pub struct Place {
+    pub width: usize,
+    pub height: usize,
+    pub r: usize,
+    pub c: usize,
+}
+
+// An offset as the code holds it: each number is the signed one plus a bias.
+pub struct Offset {
+    pub y: usize,
+    pub x: usize,
+}
 
 fn half_pel(a: u16, b: u16, c: u16, d: u16) -> u16
     ensures { λ r. ⌜ r ≡ meanOfFour a b c d ⌝ }
@@ -29,7 +61,7 @@ fn half_row(top: &[u16], bottom: &[u16], out: &mut [u16])
 // Row r of the half plane, written where it lies in the buffer.
 fn halve_row(p: &[u16], width: usize, r: usize, out: &mut [u16])
     requires { ⌜ RowRoom (now p) (now out) width r ⌝ }
-    ensures { λ _. ⌜ now (out .exit) ≡ over (r * (width / 2)) (listing (halfPel (now (p .entry)) width r) (width / 2)) (now (out .entry)) ⌝ }
+    ensures { λ _. ⌜ now (out .exit) ≡ placed (r * (width / 2)) (listing (halfPel (now (p .entry)) width r) (width / 2)) (now (out .entry)) ⌝ }
 {
     let half_width = width / 2;
     let top = 2 * r * width;
@@ -52,4 +84,73 @@ pub fn downsample(p: &[u16], width: usize, height: usize, out: &mut [u16])
         halve_row(p, width, r, &mut *out);
         r += 1;
     }
+}
+
+pub fn absolute_difference(a: u16, b: u16) -> u32
+    ensures { λ r. ⌜ Is (difference a b) 65535 r ⌝ }
+{
+    if a < b {
+        (b - a) as u32
+    } else {
+        (a - b) as u32
+    }
+}
+
+// The coordinate `place` less `bias`, held to 0 .. side - 1.
+pub fn clamp(place: usize, bias: usize, side: usize) -> usize
+    requires { ⌜ 0 < side ⌝ }
+    ensures { λ r. ⌜ r ≡ min (place - bias) (side - 1) ⌝ }
+{
+    if place < bias {
+        return 0;
+    }
+    let coordinate = place - bias;
+    if coordinate < side {
+        coordinate
+    } else {
+        side - 1
+    }
+}
+
+// Where the n pels from a place on begin.
+pub fn row_start(n: usize, place: Place) -> usize
+    requires { ⌜ RowIn n place ⌝ }
+    ensures { λ s. ⌜ Starts n place s ⌝ }
+{
+    place.r * place.width + place.c
+}
+
+// Where the n pels begin that lie so much less the bias from a place, their columns being inside.
+pub fn displaced_start(n: usize, place: Place, by: Offset, bias: usize) -> usize
+    requires { ⌜ Lands n place by bias ⌝ }
+    ensures { λ s. ⌜ Starts n (landing place by bias) s ⌝ }
+{
+    let row = clamp(place.r + by.y, bias, place.height);
+    let column = place.c + by.x - bias;
+    row_start(
+        n,
+        Place {
+            r: row,
+            c: column,
+            ..place
+        },
+    )
+}
+
+// The pel that lies so much less the bias from a place.
+pub fn displaced(plane: &[u16], place: Place, by: Offset, bias: usize) -> u16
+    requires { ⌜ Near (now plane) place by ⌝ }
+    ensures { λ p. ⌜ p ≡ clamped.displaced (now (plane .entry)) place (offset bias (by .y)) (offset bias (by .x)) ⌝ }
+{
+    let row = clamp(place.r + by.y, bias, place.height);
+    let column = clamp(place.c + by.x, bias, place.width);
+    let at = row_start(
+        1,
+        Place {
+            r: row,
+            c: column,
+            ..place
+        },
+    );
+    plane[at]
 }

@@ -23,8 +23,8 @@ module _ (t : Task) (l : Lent) where
       record { answers = rw (e, z); buffers = rw (e, le-ltb 0 (sampleCount (t .width) (t .height)) (omega arith)) }
 
   pub done-some : refusal t l ≡ 0 → (sampleCount (t .width) (t .height) ≡ 0 → ⊥) → {a b c : List ℕ} →
-      a ≡ onto (halfPlane (t .input) (t .width) (t .height)) (l .input-half) →
-      b ≡ onto (halfPlane (t .ref) (t .width) (t .height)) (l .ref-half) →
+      a ≡ onto (halfPlane (t .input) (t .width) (t .height)) (l .inputHalf) →
+      b ≡ onto (halfPlane (t .ref) (t .width) (t .height)) (l .refHalf) →
       c ≡ onto (sampleWords (t .input) (t .ref) (t .width) (t .height) (t .classes)) (l .words) →
       Done t l (record { refusal = 0; samples = sampleCount (t .width) (t .height) }) (lent a b c)
   unfolding answer leaves

@@ -10,24 +10,22 @@ use native.Mathlib.Omega.{arith}
 use lib.Dec.{ltb}
 use lib.ListN.{length, take, drop, getD, drop-of-length-le}
 use lib.Seq.{drop-cons}
-use borrow.Author.Tests.{ltb-false, eqb-true, not-false, lt-ltb}
-use Rattle.laws.specs.Refusal.{any, either, both}
+use borrow.Author.Tests.{ltb-false, lt-ltb}
+use Rattle.laws.specs.Refusal.{judge, any, either, both}
 use Rattle.laws.specs.Buffer.{onto}
 use Rattle.laws.proofs.Buffer.{onto-front}
-use Rattle.laws.proofs.Refusal.{neither, quiet}
-use Rattle.plane.specs.Plane.{halfPlane}
+use Rattle.laws.proofs.Refusal.{neither, quiet, or-else-quiet, length-is}
+use Rattle.plane.specs.Plane.{halfPlane, largestSide}
+use Rattle.plane.specs.Inner.{Small}
 use Rattle.plane.proofs.Halves.{length-halfPlane}
 use Rattle.search.specs.Search.{sampleCount}
-use Rattle.search.specs.Refusal.{badClass, verdict, table, tooLarge, Small}
-use Rattle.search.specs.Ready.{Ready}
+use Rattle.search.specs.Refusal.{badClass, lastClass, verdict, inputRows, lentRows, tooLarge}
+use Rattle.search.specs.Inner.{Ready}
 
-pub area-small : (w h : ℕ) → w ≤ 1024 → h ≤ 1024 → h * w ≤ 1048576
-area-small w h p q = mul-le-mul q p
-
-pub count-small : (w h : ℕ) → w ≤ 1024 → h ≤ 1024 → h / 16 * (w / 16) ≤ 4096
+pub count-small : (w h : ℕ) → w ≤ largestSide → h ≤ largestSide → h / 16 * (w / 16) ≤ 4096
 count-small w h p q = mul-le-mul (let a : h / 16 ≤ 64 = omega arith in a) (let b : w / 16 ≤ 64 = omega arith in b)
 
-pub half-small : (w h : ℕ) → w ≤ 1024 → h ≤ 1024 → h / 2 * (w / 2) ≤ 262144
+pub half-small : (w h : ℕ) → w ≤ largestSide → h ≤ largestSide → h / 2 * (w / 2) ≤ 262144
 half-small w h p q = mul-le-mul (let a : h / 2 ≤ 512 = omega arith in a) (let b : w / 2 ≤ 512 = omega arith in b)
 
 module _ (p : ℕ → Bool) (l : List ℕ) (k : ℕ) where
@@ -48,7 +46,7 @@ both-false a b e t = rw t at e
 
 -- sides that row 1 lets pass
 pub small : (w h : ℕ) → tooLarge w h ≡ false → Small w h
-small w h e = record { narrow = ltb-false 1024 w (neither (ltb 1024 w) (ltb 1024 h) e .0); low = ltb-false 1024 h (neither (ltb 1024 w) (ltb 1024 h) e .1) }
+small w h e = record { narrow = ltb-false largestSide w (neither (ltb largestSide w) (ltb largestSide h) e .0); low = ltb-false largestSide h (neither (ltb largestSide w) (ltb largestSide h) e .1) }
 
 -- a number below a product
 pub factor-pos : (a b k : ℕ) → k < a * b → 0 < b
@@ -62,40 +60,39 @@ any-none p (x ∷ l) e z zero = neither (p x) (any p l) e .0
 any-none p (x ∷ l) e z (suc k) = any-none p l (neither (p x) (any p l) e .1) z k
 
 -- an accepted call has small sides
-pub small-sides : (w h input ref : ℕ) (classes : List ℕ) (input-half ref-half words : ℕ) →
-    verdict w h input ref classes input-half ref-half words ≡ 0 → Small w h
+pub small-sides : (w h input ref : ℕ) (classes : List ℕ) (inputHalf refHalf words : ℕ) →
+    verdict w h input ref classes inputHalf refHalf words ≡ 0 → Small w h
 unfolding verdict
-small-sides w h input ref classes input-half ref-half words e =
-    small w h (quiet (table w h input ref classes input-half ref-half words) tt e .0)
+small-sides w h input ref classes inputHalf refHalf words e =
+    let q = or-else-quiet (judge (inputRows w h input ref classes)) (judge (lentRows w h inputHalf refHalf words)) e in
+    small w h (quiet (inputRows w h input ref classes) tt (q .0) .0)
 
 -- an accepted call with samples has all that it rests on
-pub ready : (input ref : List ℕ) (w h : ℕ) (classes input-half ref-half words : List ℕ) →
-    verdict w h (length input) (length ref) classes (length input-half) (length ref-half) (length words) ≡ 0 → 0 < sampleCount w h →
-    Ready input ref w h classes input-half ref-half words
+pub ready : (input ref : List ℕ) (w h : ℕ) (classes inputHalf refHalf words : List ℕ) →
+    verdict w h (length input) (length ref) classes (length inputHalf) (length refHalf) (length words) ≡ 0 → 0 < sampleCount w h →
+    Ready input ref w h classes inputHalf refHalf words
 unfolding verdict badClass
-ready input ref w h classes input-half ref-half words e s =
-    let q = quiet (table w h (length input) (length ref) classes (length input-half) (length ref-half) (length words)) tt e in
-    let large = neither _ _ (q .0) in
+ready input ref w h classes inputHalf refHalf words e s =
+    let ins = inputRows w h (length input) (length ref) classes in
+    let outs = lentRows w h (length inputHalf) (length refHalf) (length words) in
+    let z = or-else-quiet (judge ins) (judge outs) e in
+    let q = quiet ins tt (z .0) in
     let two = neither _ _ (q .1 .0) in
     let three = neither _ _ (two .1) in
-    let short = neither _ _ (both-false _ _ (q .1 .1 .1 .0) (lt-is (sampleCount w h) s)) in
+    let short = neither _ _ (both-false _ _ (quiet outs tt (z .1) .0) (lt-ltb 0 (sampleCount w h) s)) in
     let words-short = neither _ _ (short .1) in
     record {
-      narrow = ltb-false 1024 w (large .0);
-      low = ltb-false 1024 h (large .1);
-      input-pels = sym (eqb-true _ _ (not-false _ (two .0)));
-      ref-pels = sym (eqb-true _ _ (not-false _ (three .0)));
+      small = small w h (q .0);
+      input-pels = sym (length-is _ _ (two .0));
+      ref-pels = sym (length-is _ _ (three .0));
       classed = record {
-        enough = eqb-true _ _ (not-false _ (three .1));
-        in-range = λ k. ltb-false 3 (getD classes k 0) (any-none (ltb 3) classes (q .1 .1 .0) refl k);
+        enough = length-is _ _ (three .1);
+        in-range = λ k. ltb-false lastClass (getD classes k 0) (any-none (ltb lastClass) classes (q .1 .1 .0) refl k);
         room = ltb-false _ _ (words-short .1);
       };
       input-room = ltb-false _ _ (short .0);
       ref-room = ltb-false _ _ (words-short .0);
     }
-  where
-    lt-is : (n : ℕ) → 0 < n → ltb 0 n ≡ true
-    lt-is n h = lt-ltb 0 n h
 
 -- the front of a buffer that holds a half plane
 pub half-front : (p : List ℕ) (w h : ℕ) (old : List ℕ) {l : List ℕ} → l ≡ onto (halfPlane p w h) old → take (h / 2 * (w / 2)) l ≡ halfPlane p w h

@@ -7,12 +7,12 @@ use native.Mathlib.Omega.{arith}
 use lib.IntN.{ℤ, pos, _*ℤ_}
 use Rattle.sample.specs.Word.{wordOf}
 use Rattle.plane.specs.Plane.{halfPlane}
-use Rattle.pels.specs.Clamp.{offset}
+use Rattle.plane.specs.Clamp.{offset}
 use Rattle.stage.specs.Stage.{Found, coarse, fullPel, refined}
-use Rattle.stage.specs.Ready.{seen}
+use Rattle.stage.specs.Inner.{seen}
 use Rattle.stage.specs.declared.Best.{Best}
 use Rattle.stage.proofs.Motion.{offset-same, offset-back, offset-twice, offset-eightfold}
-use Rattle.search.specs.Search.{motion, stored}
+use Rattle.search.specs.Search.{motion, stored, blockAt}
 
 -- twice an offset biased by 12, biased by 27
 pub twice : (n : ℕ) {z : ℤ} → offset 12 n ≡ z → offset 27 (2 * n + 3) ≡ pos 2 *ℤ z
@@ -28,9 +28,9 @@ stored-is n e = sym (offset-back 223 n) ∙ ap stored e
 
 -- the three stages in a row
 pub motion-is : (input ref : List ℕ) (w h R C : ℕ) (far full best : Best) →
-    seen 12 far ≡ coarse (halfPlane input w h) (halfPlane ref w h) (w / 2) (h / 2) (R * 8) (C * 8) →
-    seen 27 full ≡ fullPel input ref w h (R * 16) (C * 16) (offset 27 (2 * far .y + 3)) (offset 27 (2 * far .x + 3)) →
-    seen 223 best ≡ refined input ref w h (R * 16) (C * 16) (offset 223 (8 * full .y + 7)) (offset 223 (8 * full .x + 7)) →
+    seen 12 far ≡ coarse (halfPlane input w h) (halfPlane ref w h) (blockAt 8 (w / 2) (h / 2) R C) →
+    seen 27 full ≡ fullPel input ref (blockAt 16 w h R C) (offset 27 (2 * far .y + 3)) (offset 27 (2 * far .x + 3)) →
+    seen 223 best ≡ refined input ref (blockAt 16 w h R C) (offset 223 (8 * full .y + 7)) (offset 223 (8 * full .x + 7)) →
     seen 223 best ≡ motion input ref w h R C
 unfolding motion
 motion-is input ref w h R C far full best p q r =

@@ -16,9 +16,10 @@ use Rattle.sample.specs.Inner.{Held}
 use Rattle.sample.specs.Storable.{storable}
 use Rattle.sample.proofs.Word as word
 use Rattle.sample.proofs.Storable.{in-range-of, storable-by-index}
-use Rattle.plane.specs.Plane.{listing}
+use Rattle.plane.specs.Plane.{listing, largestSide}
 use Rattle.plane.proofs.Listing.{length-listing}
 use Rattle.search.specs.Search.{motion, stored, wordAt, sampleWord, sampleWords, sampleCount, blockColumns}
+use Rattle.search.specs.Refusal.{lastClass}
 use Rattle.search.proofs.Rows.{factor-pos, count-small}
 use Rattle.search.proofs.Range.{stored-motion-le-446}
 
@@ -62,10 +63,10 @@ pub sampleWords-length : (input ref : List ℕ) (w h : ℕ) (classes : List ℕ)
 unfolding sampleWords
 sampleWords-length input ref w h classes = length-listing (sampleWord input ref w h classes) (sampleCount w h)
 
-pub sampleCount-le-4096 : (w h : ℕ) → w ≤ 1024 → h ≤ 1024 → sampleCount w h ≤ 4096
+pub sampleCount-le-4096 : (w h : ℕ) → w ≤ largestSide → h ≤ largestSide → sampleCount w h ≤ 4096
 sampleCount-le-4096 w h p q = count-small w h p q
 
--- a side under 16: no samples
+-- a side under 16: no samples (worked values of document 01)
 pub sampleCount-narrow : (w h : ℕ) → w < 16 → sampleCount w h ≡ 0
 sampleCount-narrow w h l = rw (let e : w / 16 ≡ 0 = omega arith in e) (omega arith)
 
@@ -78,9 +79,12 @@ pub sampleWords-at : (input ref : List ℕ) (w h : ℕ) (classes : List ℕ) (k 
 unfolding sampleWords sampleWord
 sampleWords-at input ref w h classes k l = getD-listing (sampleWord input ref w h classes) (sampleCount w h) k 0 l
 
-module _ (input ref : List ℕ) (w h : ℕ) (classes : List ℕ) (narrow : w ≤ 1024) (low : h ≤ 1024) (in-range : (k : ℕ) → getD classes k 0 ≤ 3) where
+module _ (input ref : List ℕ) (w h : ℕ) (classes : List ℕ) (narrow : w ≤ largestSide) (low : h ≤ largestSide) (in-range : (k : ℕ) → getD classes k 0 ≤ lastClass) where
   word-held : (k : ℕ) → k < sampleCount w h →
-      Held (k / blockColumns w) (k % blockColumns w) (stored (motion input ref w h (k / blockColumns w) (k % blockColumns w) .dy)) (stored (motion input ref w h (k / blockColumns w) (k % blockColumns w) .dx)) (getD classes k 0)
+      Held (k / blockColumns w) (k % blockColumns w)
+      (stored (motion input ref w h (k / blockColumns w) (k % blockColumns w) .dy))
+      (stored (motion input ref w h (k / blockColumns w) (k % blockColumns w) .dx))
+      (getD classes k 0)
   word-held k l =
       let p = factor-pos (h / 16) (w / 16) k l in
       let r : k / (w / 16) < h / 16 = div-lt-iff-lt-mul p .1 l in

@@ -1,3 +1,3 @@
 pub mod Search
 pub mod Refusal
-pub mod Ready
+pub mod Inner

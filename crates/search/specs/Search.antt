@@ -6,6 +6,7 @@ use lib.IntN.{ℤ, pos, negsuc, _+ℤ_, _*ℤ_}
 use lib.ListN.{getD}
 use Rattle.sample.specs.Sample.{motionBias}
 use Rattle.sample.specs.Word.{wordOf}
+use Rattle.plane.specs.declared.Place.{Place}
 use Rattle.plane.specs.Plane.{listing, halfPlane}
 use Rattle.stage.specs.Stage.{Found, coarse, fullPel, refined}
 
@@ -19,12 +20,16 @@ blockRows h = h / 16
 abbrev pub sampleCount : ℕ → ℕ → ℕ
 sampleCount w h = blockRows h * blockColumns w
 
+-- the block at block row R, column C of a plane w wide and h high, n pels each way
+abbrev pub blockAt : ℕ → ℕ → ℕ → ℕ → ℕ → Place
+blockAt n w h R C = record { width = w; height = h; r = R * n; c = C * n }
+
 -- the motion in eighths of the block at block row R, column C: coarse on the half planes, full pel from twice its winner, eighths from eight times that
 unfoldable pub motion : List ℕ → List ℕ → ℕ → ℕ → ℕ → ℕ → Found
 motion input ref w h R C =
-    let far = coarse (halfPlane input w h) (halfPlane ref w h) (w / 2) (h / 2) (R * 8) (C * 8) in
-    let full = fullPel input ref w h (R * 16) (C * 16) (pos 2 *ℤ far .dy) (pos 2 *ℤ far .dx) in
-    refined input ref w h (R * 16) (C * 16) (pos 8 *ℤ full .dy) (pos 8 *ℤ full .dx)
+    let far = coarse (halfPlane input w h) (halfPlane ref w h) (blockAt 8 (w / 2) (h / 2) R C) in
+    let full = fullPel input ref (blockAt 16 w h R C) (pos 2 *ℤ far .dy) (pos 2 *ℤ far .dx) in
+    refined input ref (blockAt 16 w h R C) (pos 8 *ℤ full .dy) (pos 8 *ℤ full .dx)
 
 -- a motion as it is stored: its eighths plus 223
 abbrev pub natural : ℤ → ℕ

@@ -2,15 +2,15 @@
 ghost use mathlib.Core.Path.{_≡_};
 ghost use Rattle.laws.specs.Buffer.{onto};
 ghost use Rattle.search.specs.Search.{wordAt, sampleWords};
-ghost use Rattle.search.specs.Ready.{Halves, Sorted, Room};
+ghost use Rattle.search.specs.Inner.{Halves, Sorted, Room};
+use plane::BLOCK;
+use plane::HALF_BLOCK;
+use plane::Offset;
+use plane::Place;
+use plane::Sides;
+use stage::FULL_REACH;
 
-const BLOCK: usize = 16;
-
-const HALF_BLOCK: usize = 8;
-
-// The reach of the full-pel stage, and of the steps in eighths.
-const FULL_REACH: usize = 3;
-
+// The reach of the steps in eighths.
 const STEPS_REACH: usize = 7;
 
 // The block at this row and column of blocks: coarse, full pel from twice the winner, eighths.
@@ -19,47 +19,38 @@ fn word_at(
     reference: &[u16],
     input_half: &[u16],
     ref_half: &[u16],
-    width: usize,
-    height: usize,
-    row: usize,
-    column: usize,
+    block: Place,
     class: u8,
 ) -> u32
-    requires { ⌜ Halves (now input) (now reference) (now «input_half») (now «ref_half») width height ⌝ }
-    requires { ⌜ Sorted width height row column class ⌝ }
-    ensures { λ s. ⌜ s ≡ wordAt (now (input .entry)) (now (reference .entry)) width height row column class ⌝ }
+    requires { ⌜ Halves (now input) (now reference) (now «input_half») (now «ref_half») (block .width) (block .height) ⌝ }
+    requires { ⌜ Sorted block class ⌝ }
+    ensures { λ s. ⌜ s ≡ wordAt (now (input .entry)) (now (reference .entry)) (block .width) (block .height) (block .r) (block .c) class ⌝ }
 {
-    let coarse = stage::coarse(
-        input_half,
-        ref_half,
-        width / 2,
-        height / 2,
-        row * HALF_BLOCK,
-        column * HALF_BLOCK,
-    );
-    let full = stage::full_pel(
-        2 * coarse.y + FULL_REACH,
-        2 * coarse.x + FULL_REACH,
-        input,
-        reference,
-        width,
-        height,
-        row * BLOCK,
-        column * BLOCK,
-    );
-    let best = stage::refine(
-        8 * full.y + STEPS_REACH,
-        8 * full.x + STEPS_REACH,
-        input,
-        reference,
-        width,
-        height,
-        row * BLOCK,
-        column * BLOCK,
-    );
+    let half = Place {
+        width: block.width / 2,
+        height: block.height / 2,
+        r: block.r * HALF_BLOCK,
+        c: block.c * HALF_BLOCK,
+    };
+    let coarse = stage::coarse(input_half, ref_half, half);
+    let place = Place {
+        r: block.r * BLOCK,
+        c: block.c * BLOCK,
+        ..block
+    };
+    let twice = Offset {
+        y: 2 * coarse.y + FULL_REACH,
+        x: 2 * coarse.x + FULL_REACH,
+    };
+    let full = stage::full_pel(twice, input, reference, place);
+    let eightfold = Offset {
+        y: 8 * full.y + STEPS_REACH,
+        x: 8 * full.x + STEPS_REACH,
+    };
+    let best = stage::refine(eightfold, input, reference, place);
     sample::word_of(
-        row as u32,
-        column as u32,
+        block.r as u32,
+        block.c as u32,
         best.y as u32,
         best.x as u32,
         class,
@@ -72,30 +63,27 @@ pub fn fill_words(
     reference: &[u16],
     input_half: &[u16],
     ref_half: &[u16],
-    width: usize,
-    height: usize,
+    sides: Sides,
     classes: &[u8],
     words: &mut [u32],
 )
-    requires { ⌜ Halves (now input) (now reference) (now «input_half») (now «ref_half») width height ⌝ }
-    requires { ⌜ Room width height (now classes) (now words) ⌝ }
-    ensures { λ _. ⌜ now (words .exit) ≡ onto (sampleWords (now (input .entry)) (now (reference .entry)) width height (now (classes .entry))) (now (words .entry)) ⌝ }
+    requires { ⌜ Halves (now input) (now reference) (now «input_half») (now «ref_half») (sides .width) (sides .height) ⌝ }
+    requires { ⌜ Room (sides .width) (sides .height) (now classes) (now words) ⌝ }
+    ensures { λ _. ⌜ now (words .exit) ≡ onto (sampleWords (now (input .entry)) (now (reference .entry)) (sides .width) (sides .height) (now (classes .entry))) (now (words .entry)) ⌝ }
 {
-    let columns = width / BLOCK;
-    let samples = height / BLOCK * columns;
+    let columns = sides.width / BLOCK;
+    let samples = sides.height / BLOCK * columns;
     let mut k = 0;
     while k < samples {
-        words[k] = word_at(
-            input,
-            reference,
-            input_half,
-            ref_half,
-            width,
-            height,
-            k / columns,
-            k % columns,
-            classes[k],
-        );
+        let row = k / columns;
+        let column = k % columns;
+        let block = Place {
+            width: sides.width,
+            height: sides.height,
+            r: row,
+            c: column,
+        };
+        words[k] = word_at(input, reference, input_half, ref_half, block, classes[k]);
         k += 1;
     }
 }

@@ -6,12 +6,12 @@ ghost use Rattle.laws.specs.Buffer.{onto};
 ghost use Rattle.plane.specs.Plane.{halfPlane};
 ghost use Rattle.search.specs.Refusal.{Done, task, lent};
 ghost use Rattle.search.specs.Search.{sampleWords};
-ghost use Rattle.search.specs.Ready.{Ready};
+ghost use Rattle.search.specs.Inner.{Ready};
+use plane::BLOCK;
+use plane::Sides;
 
 pub mod blocks; // blocks.rt: the word of each block
 pub mod refusals; // refusals.rt: the rows of the table
-
-const BLOCK: usize = 16;
 
 // The refusal's number, 0 for none, and how many samples were found.
 #[repr(C)]
@@ -20,31 +20,30 @@ pub struct Searched {
     pub samples: usize,
 }
 
+// Both half planes, then the words.
 fn search_into(
     input_y: &[u16],
     ref_y: &[u16],
-    width: usize,
-    height: usize,
+    sides: Sides,
     classes: &[u8],
     input_half: &mut [u16],
     ref_half: &mut [u16],
     words: &mut [u32],
 )
-    requires { ⌜ Ready (now «input_y») (now «ref_y») width height (now classes) (now «input_half») (now «ref_half») (now words) ⌝ }
-    ensures { λ _. ⌜ now («input_half» .exit) ≡ onto (halfPlane (now («input_y» .entry)) width height) (now («input_half» .entry)) ⌝ }
-    ensures { λ _. ⌜ now («ref_half» .exit) ≡ onto (halfPlane (now («ref_y» .entry)) width height) (now («ref_half» .entry)) ⌝ }
-    ensures { λ _. ⌜ now (words .exit) ≡ onto (sampleWords (now («input_y» .entry)) (now («ref_y» .entry)) width height (now (classes .entry))) (now (words .entry)) ⌝ }
+    requires { ⌜ Ready (now «input_y») (now «ref_y») (sides .width) (sides .height) (now classes) (now «input_half») (now «ref_half») (now words) ⌝ }
+    ensures { λ _. ⌜ now («input_half» .exit) ≡ onto (halfPlane (now («input_y» .entry)) (sides .width) (sides .height)) (now («input_half» .entry)) ⌝ }
+    ensures { λ _. ⌜ now («ref_half» .exit) ≡ onto (halfPlane (now («ref_y» .entry)) (sides .width) (sides .height)) (now («ref_half» .entry)) ⌝ }
+    ensures { λ _. ⌜ now (words .exit) ≡ onto (sampleWords (now («input_y» .entry)) (now («ref_y» .entry)) (sides .width) (sides .height) (now (classes .entry))) (now (words .entry)) ⌝ }
 {
-    plane::downsample(input_y, width, height, &mut *input_half);
-    plane::downsample(ref_y, width, height, &mut *ref_half);
-    let half = height / 2 * (width / 2);
+    plane::downsample(input_y, sides.width, sides.height, &mut *input_half);
+    plane::downsample(ref_y, sides.width, sides.height, &mut *ref_half);
+    let half = sides.height / 2 * (sides.width / 2);
     blocks::fill_words(
         input_y,
         ref_y,
         &input_half[..half],
         &ref_half[..half],
-        width,
-        height,
+        sides,
         classes,
         &mut *words,
     );
@@ -62,11 +61,14 @@ pub fn collect_motion_samples(
 ) -> Searched
     ensures { λ r. ⌜ Done (task (now («input_y» .entry)) (now («ref_y» .entry)) width height (now (classes .entry))) (lent (now («input_half» .entry)) (now («ref_half» .entry)) (now (words .entry))) r (lent (now («input_half» .exit)) (now («ref_half» .exit)) (now (words .exit))) ⌝ }
 {
+    let sides = Sides {
+        width: width,
+        height: height,
+    };
     let refusal = refusals::refusal_of(
-        input_y,
-        ref_y,
-        width,
-        height,
+        sides,
+        input_y.len(),
+        ref_y.len(),
         classes,
         input_half.len(),
         ref_half.len(),
@@ -88,8 +90,7 @@ pub fn collect_motion_samples(
     search_into(
         input_y,
         ref_y,
-        width,
-        height,
+        sides,
         classes,
         &mut *input_half,
         &mut *ref_half,

@@ -1,13 +1,23 @@
 // The rows of the table of refusals that the search meets: 1, 2, 4, 3 (document 01).
 ghost use mathlib.Core.Path.{_≡_};
-ghost use lib.ListN.{length};
-ghost use Rattle.search.specs.Refusal.{tooLarge, wrongLength, badClass, tooShort, verdict, Small};
+ghost use Rattle.laws.specs.Refusal.{judge};
+ghost use Rattle.plane.specs.Inner.{Small};
+ghost use Rattle.search.specs.Refusal.{tooLarge, wrongLength, badClass, tooShort, inputRows, lentRows, verdict};
+use plane::BLOCK;
+use plane::Sides;
 
 const LARGEST_SIDE: usize = 1024;
 
 const LAST_CLASS: u8 = 3;
 
-const BLOCK: usize = 16;
+// The rows' numbers.
+const TOO_LARGE: u32 = 1;
+
+const WRONG_LENGTH: u32 = 2;
+
+const NO_SUCH_CODE: u32 = 4;
+
+const TOO_SHORT: u32 = 3;
 
 pub fn too_large(width: usize, height: usize) -> bool
     ensures { λ b. ⌜ b ≡ tooLarge width height ⌝ }
@@ -74,30 +84,48 @@ pub fn too_short(
     words < samples
 }
 
+// Rows 1, 2 and 4: what goes in.
+fn unfit(width: usize, height: usize, input: usize, reference: usize, classes: &[u8]) -> u32
+    ensures { λ r. ⌜ r ≡ judge (inputRows width height input reference (now (classes .entry))) ⌝ }
+{
+    if too_large(width, height) {
+        return TOO_LARGE;
+    }
+    if wrong_length(width, height, input, reference, classes.len()) {
+        return WRONG_LENGTH;
+    }
+    if bad_class(classes) {
+        return NO_SUCH_CODE;
+    }
+    0
+}
+
+// Row 3: what is lent.
+fn cramped(width: usize, height: usize, input_half: usize, ref_half: usize, words: usize) -> u32
+    requires { ⌜ Small width height ⌝ }
+    ensures { λ r. ⌜ r ≡ judge (lentRows width height «input_half» «ref_half» words) ⌝ }
+{
+    if too_short(width, height, input_half, ref_half, words) {
+        return TOO_SHORT;
+    }
+    0
+}
+
 // The first row that holds, 0 for none.
 pub fn refusal_of(
-    input: &[u16],
-    reference: &[u16],
-    width: usize,
-    height: usize,
+    sides: Sides,
+    input: usize,
+    reference: usize,
     classes: &[u8],
     input_half: usize,
     ref_half: usize,
     words: usize,
 ) -> u32
-    ensures { λ r. ⌜ r ≡ verdict width height (length (now (input .entry))) (length (now (reference .entry))) (now (classes .entry)) «input_half» «ref_half» words ⌝ }
+    ensures { λ r. ⌜ r ≡ verdict (sides .width) (sides .height) input reference (now (classes .entry)) «input_half» «ref_half» words ⌝ }
 {
-    if too_large(width, height) {
-        return 1;
+    let first = unfit(sides.width, sides.height, input, reference, classes);
+    if first != 0 {
+        return first;
     }
-    if wrong_length(width, height, input.len(), reference.len(), classes.len()) {
-        return 2;
-    }
-    if bad_class(classes) {
-        return 4;
-    }
-    if too_short(width, height, input_half, ref_half, words) {
-        return 3;
-    }
-    0
+    cramped(sides.width, sides.height, input_half, ref_half, words)
 }

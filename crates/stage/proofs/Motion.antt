@@ -4,8 +4,8 @@ use Prim.Native.Nat.{ℕ, zero, suc, _+_, _*_}
 use mathlib.Core.Path.{_≡_, sym, ap, _∙_}
 use native.Mathlib.Omega.{arith}
 use lib.IntN.{ℤ, pos, negsuc, _+ℤ_, _*ℤ_, negℤ}
-use Rattle.pels.specs.Clamp.{offset}
-use Rattle.pels.proofs.Offset.{offset-cases, offset-pos, offset-neg, offset-add}
+use Rattle.plane.specs.Clamp.{offset}
+use Rattle.plane.proofs.Offsets.{offset-cases, offset-pos, offset-neg, offset-add}
 
 -- two biased numbers stand for one offset
 pub offset-same : (a m b n : ℕ) → m + b ≡ n + a → offset a m ≡ offset b n

@@ -11,12 +11,13 @@ use borrow.Author.Tests.{eq-eqb, ne-eqb}
 use Rattle.laws.specs.Loops.{run, turns}
 use Rattle.laws.specs.Refusal.{choose}
 use Rattle.laws.proofs.Loops.{again, done}
-use Rattle.pels.specs.Clamp.{offset}
-use Rattle.pels.proofs.Offset.{offset-add, offset-pos, offset-magnitude}
-use Rattle.pels.specs.Difference.{difference}
+use Rattle.plane.specs.declared.Offset.{Offset}
+use Rattle.plane.specs.Clamp.{offset}
+use Rattle.plane.proofs.Offsets.{offset-add, offset-pos, offset-magnitude}
+use Rattle.plane.specs.Difference.{difference}
 use Rattle.stage.specs.declared.Best.{Best}
 use Rattle.stage.specs.Stage.{Found, priced, better, side, square, rowOffset, columnOffset, consider, scan, withOffset}
-use Rattle.stage.specs.Ready.{seen, replaced}
+use Rattle.stage.specs.Inner.{seen, replaced}
 use Rattle.stage.proofs.Motion.{offset-same, offset-inject}
 
 seen-choose : (b : ℕ) (t : Bool) (new old : Best) → seen b (choose t new old) ≡ choose t (seen b new) (seen b old)
@@ -29,16 +30,16 @@ unfolding consider
 consider-centre price reach step cy cx k best e = rw (eq-eqb k (square reach / 2) e)
 
 -- another candidate, held under the bias b
-pub consider-other : (price : ℤ → ℤ → ℕ) (reach step b cy cx k : ℕ) (best : Best) (y x cost : ℕ) → (k ≡ square reach / 2 → ⊥) →
-    y + reach * step ≡ cy + k / side reach * step → x + reach * step ≡ cx + k % side reach * step → cost ≡ price (offset b y) (offset b x) →
-    seen b (replaced best cost y x) ≡ consider price reach step (offset b cy) (offset b cx) k (seen b best)
+pub consider-other : (price : ℤ → ℤ → ℕ) (reach step b cy cx k : ℕ) (best : Best) (by : Offset) (cost : ℕ) → (k ≡ square reach / 2 → ⊥) →
+    by .y + reach * step ≡ cy + k / side reach * step → by .x + reach * step ≡ cx + k % side reach * step → cost ≡ price (offset b (by .y)) (offset b (by .x)) →
+    seen b (replaced best cost by) ≡ consider price reach step (offset b cy) (offset b cx) k (seen b best)
 unfolding consider
-consider-other price reach step b cy cx k best y x cost n p q e =
-    let ty : rowOffset reach step (offset b cy) k ≡ offset b y =
-    offset-add b cy (reach * step) (k / side reach * step) ∙ offset-same (b + reach * step) (cy + k / side reach * step) b y (omega arith) in
-    let tx : columnOffset reach step (offset b cx) k ≡ offset b x =
-    offset-add b cx (reach * step) (k % side reach * step) ∙ offset-same (b + reach * step) (cx + k % side reach * step) b x (omega arith) in
-    seen-choose b (ltb cost (best .cost)) (record { cost = cost; y = y; x = x }) best
+consider-other price reach step b cy cx k best by cost n p q e =
+    let ty : rowOffset reach step (offset b cy) k ≡ offset b (by .y) =
+    offset-add b cy (reach * step) (k / side reach * step) ∙ offset-same (b + reach * step) (cy + k / side reach * step) b (by .y) (omega arith) in
+    let tx : columnOffset reach step (offset b cx) k ≡ offset b (by .x) =
+    offset-add b cx (reach * step) (k % side reach * step) ∙ offset-same (b + reach * step) (cx + k % side reach * step) b (by .x) (omega arith) in
+    seen-choose b (ltb cost (best .cost)) (record { cost = cost; y = by .y; x = by .x }) best
     ∙ rw (ne-eqb k (square reach / 2) n, ty, tx, e)
 
 -- what each turn keeps, the run keeps
@@ -120,6 +121,6 @@ biased b n cy cx best {f} e i = (
 )
 
 -- a cost by whole pels and two magnitudes
-pub with-offset : (price : ℤ → ℤ → ℕ) (b y x : ℕ) {s t : ℕ} → s ≡ price (offset b y) (offset b x) → t ≡ s + difference y b + difference x b →
-    t ≡ withOffset price (offset b y) (offset b x)
-with-offset price b y x e f = rw (f, e, offset-magnitude b y, offset-magnitude b x)
+pub with-offset : (price : ℤ → ℤ → ℕ) (b : ℕ) (by : Offset) {s t : ℕ} → s ≡ price (offset b (by .y)) (offset b (by .x)) →
+    t ≡ s + difference (by .y) b + difference (by .x) b → t ≡ withOffset price (offset b (by .y)) (offset b (by .x))
+with-offset price b by e f = rw (f, e, offset-magnitude b (by .y), offset-magnitude b (by .x))

@@ -6,7 +6,8 @@ use lib.Dec.{ltb, eqb}
 use lib.IntN.{ℤ, pos, _+ℤ_, natAbs}
 use Rattle.laws.specs.Loops.{run}
 use Rattle.laws.specs.Refusal.{choose}
-use Rattle.pels.specs.Clamp.{offset}
+use Rattle.plane.specs.declared.Place.{Place}
+use Rattle.plane.specs.Clamp.{offset}
 use Rattle.cost.specs.Cost.{blockCost, eighthsCost}
 
 -- a motion and its cost
@@ -51,23 +52,23 @@ abbrev pub withOffset : (ℤ → ℤ → ℕ) → ℤ → ℤ → ℕ
 withOffset price dy dx = price dy dx + natAbs dy + natAbs dx
 
 -- coarse: 8 × 8 on half planes, start (0, 0), all offsets within 12
-unfoldable pub coarse : List ℕ → List ℕ → ℕ → ℕ → ℕ → ℕ → Found
-coarse input ref w h r c =
-    let price = blockCost 8 input ref w h r c in
+unfoldable pub coarse : List ℕ → List ℕ → Place → Found
+coarse input ref place =
+    let price = blockCost 8 input ref place in
     scan (withOffset price) 12 1 (pos 0) (pos 0) (priced price (pos 0) (pos 0))
 
 -- full pel: 16 × 16, start at (cy, cx) without the added offset, the others within 3 of it with it
-unfoldable pub fullPel : List ℕ → List ℕ → ℕ → ℕ → ℕ → ℕ → ℤ → ℤ → Found
-fullPel input ref w h r c cy cx =
-    let price = blockCost 16 input ref w h r c in
+unfoldable pub fullPel : List ℕ → List ℕ → Place → ℤ → ℤ → Found
+fullPel input ref place cy cx =
+    let price = blockCost 16 input ref place in
     scan (withOffset price) 3 1 cy cx (priced price cy cx)
 
 -- eight neighbours of the best held when the step began, nothing added
-unfoldable pub eighthsStep : List ℕ → List ℕ → ℕ → ℕ → ℕ → ℕ → ℕ → Found → Found
-eighthsStep input ref w h r c step best = scan (eighthsCost input ref w h r c) 1 step (best .dy) (best .dx) best
+unfoldable pub eighthsStep : List ℕ → List ℕ → Place → ℕ → Found → Found
+eighthsStep input ref place step best = scan (eighthsCost input ref place) 1 step (best .dy) (best .dx) best
 
 -- eighths: start at (v, u), then steps 4, 2, 1
-unfoldable pub refined : List ℕ → List ℕ → ℕ → ℕ → ℕ → ℕ → ℤ → ℤ → Found
-refined input ref w h r c v u =
-    let step = eighthsStep input ref w h r c in
-    step 1 (step 2 (step 4 (priced (eighthsCost input ref w h r c) v u)))
+unfoldable pub refined : List ℕ → List ℕ → Place → ℤ → ℤ → Found
+refined input ref place v u =
+    let step = eighthsStep input ref place in
+    step 1 (step 2 (step 4 (priced (eighthsCost input ref place) v u)))

@@ -5,8 +5,8 @@
 ghost use Prim.Native.Nat.{_≤_, _<_};
 ghost use mathlib.Core.Path.{_≡_};
 ghost use lib.ListN.{length};
-use job_outcome::Report;
-use job_task::Settings;
+use job::Report;
+use job::Settings;
 
 const UNTOUCHED_PEL: u16 = 42405;
 

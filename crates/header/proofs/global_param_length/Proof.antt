@@ -5,7 +5,7 @@ use Rattle.header.proofs.global_param_length.Tie as tie
 use mathlib.Core.Path.{subst}
 use mir.Facts.{toZ-ofZ}
 use lib.IntN.{ℤ}
-use Rattle.header.specs.Contracts.{SymbolsIs, SymbolIs, PriorIn}
+use Rattle.grid.specs.Inner.{SymbolsIs, SymbolIs, PriorIn}
 use mathlib.Core.Path.{ap, sym, _∙_}
 use native.Mathlib.Omega.{arith}
 use lib.ListN.{length}

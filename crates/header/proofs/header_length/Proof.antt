@@ -1,31 +1,51 @@
--- `header_length` meets its contract: 124 bytes are room enough.
+-- `header_length`: each turn adds the sum's next term.
 -- Assumes nothing.
-use Prim.Native.Nat.{ℕ, _≤_}
-use mathlib.Core.List.{List}
-use mathlib.Core.Path.{_≡_, refl}
+use Prim.Native.Nat.{ℕ, _*_, _-_, _≤_}
+use mathlib.Core.Path.{_≡_, refl, sym, ap, _∙_}
 use native.Mathlib.Omega.{arith}
-use lib.ListN.{length}
-use Rattle.bits.specs.Inner.{Room}
-use Rattle.header.proofs.RoundTrip.{at-most-987-bits}
+use borrow.Author.Needs.{needs}
+use lib.ListN.{length, getD}
+use Rattle.laws.specs.Loops.{sum}
+use Rattle.laws.proofs.Loops.{sum-step}
+use Rattle.header.specs.Count.{modelCount, headerCount}
+use Rattle.header.proofs.RoundTrip.{model-ready}
 use Rattle.header.proofs.header_length.Statement.{statement}
 use Rattle.header.proofs.header_length.Tie as tie
 
-room : (l : List ℕ) (j n : ℕ) → length l ≡ 124 → j ≡ 0 → n ≤ 987 → Room l j n
-room l j n e z h = record { within = omega arith; small = omega arith }
+abbrev Inv-loop : tie.InvT-loop
+Inv-loop types params flag prior n₀ r₀ n r =
+    (n ≡ sum (λ i. modelCount flag params prior (getD types i 0) (6 * i)) r) × (n ≤ 387 * r) × (r ≤ 7)
 
-new-requires : tie.Need-new-requires
-new-requires c κs = tt
+abbrev μ-loop : tie.MeasureT-loop
+μ-loop types params flag prior n₀ r₀ n r = 7 - r
 
-slice-aggregate-write-references : tie.Need-slice-aggregate-write-references
-slice-aggregate-write-references c = refl
+shared-slice-read-reference-length : tie.Need-shared-slice-read-reference-length Inv-loop μ-loop
+shared-slice-read-reference-length c = omega (arith, c .before .loop-test .taken, c .before .before .before .before .pre .all .seven)
 
-write-references-requires : tie.Need-write-references-requires
-write-references-requires c κs =
+reference-length-requires : tie.Need-reference-length-requires Inv-loop μ-loop
+reference-length-requires c κs =
+    let a = c .before .before .before .before .args in
+    model-ready (a .types .now) (a .params .now) (a .prior .now) (c .before .before .loop .r) (c .before .before .before .before .pre) (c .before .loop-test .taken)
+
+loop-again : tie.Need-loop-again Inv-loop μ-loop
+loop-again c =
+    let a = c .before .before .before .before .before .args in
+    let l = c .before .before .before .loop in
+    let e = c .reference-length .ensures in (
+      omega (arith, l .inv .0, e .0, sum-step (λ i. modelCount (c .before .before .before .before .before .args .flag) (c .before .before .before .before .before .args .params .now) (c .before .before .before .before .before .args .prior .now) (getD (c .before .before .before .before .before .args .types .now) i 0) (6 * i)) (c .before .before .before .loop .r)),
+      omega (arith, l .inv .1, e .1),
+      omega (arith, c .before .before .loop-test .taken),
+    )
+
+returns : tie.Need-returns Inv-loop μ-loop
+unfolding headerCount
+returns c =
     let a = c .before .before .before .args in
-    (c .before .before .before .pre, room _ _ _ refl (c .before .new .ensures) (at-most-987-bits (a .flag) (a .types .now) (a .params .now) (a .prior .now)))
-
-returns : tie.Need-returns
-returns c = omega (arith, c .before .write-references .ensures .at, c .before .before .before .new .ensures)
+    let l = c .before .loop in
+    let seven : c .before .loop .r ≡ 7 = omega (arith, l .inv .2, c .loop-test .left) in
+    l .inv .0 ∙ ap (sum (λ i. modelCount (a .flag) (a .params .now) (a .prior .now) (getD (a .types .now) i 0) (6 * i))) seven
 
 pub header-length-spec : {M : Type 1} → statement M
-header-length-spec = tie.close (tie.spec new-requires slice-aggregate-write-references write-references-requires returns)
+header-length-spec =
+    tie.close
+    (tie.spec Inv-loop μ-loop (λ c. (refl, omega arith, omega arith)) shared-slice-read-reference-length (search needs) reference-length-requires (λ c. search needs) (search needs) (search needs) loop-again returns)

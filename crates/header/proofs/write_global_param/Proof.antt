@@ -5,7 +5,7 @@ use Rattle.header.proofs.write_global_param.Tie as tie
 use mathlib.Core.Path.{subst}
 use mir.Facts.{toZ-ofZ}
 use lib.IntN.{ℤ}
-use Rattle.header.specs.Contracts.{SymbolsIs, SymbolIs, PriorIn}
+use Rattle.grid.specs.Inner.{SymbolsIs, SymbolIs, PriorIn}
 use mathlib.Core.Path.{sym}
 use native.Mathlib.Omega.{arith}
 use Rattle.bits.proofs.Buffer.{wrote-as, room-as}

@@ -1,4 +1,4 @@
--- `write_references` meets its contract. The invariant: what is left to write here gives what was to be written at the start.
+-- `write_references`: what is left to write here gives what was to be written at the start.
 -- Assumes nothing.
 use Prim.Native.Nat.{ℕ, suc, _+_, _*_, _-_, _^_, _≤_, _<_}
 use mathlib.Core.List.{List, _++_}
@@ -10,19 +10,10 @@ use borrow.Author.Needs.{needs}
 use Rattle.bits.specs.Bits.{putBits}
 use Rattle.bits.specs.Inner.{Room, Wrote}
 use Rattle.bits.proofs.Buffer.{wrote-rest, wrote-length, room-front}
-use Rattle.header.specs.Contracts.{HeaderReady, ModelReady}
 use Rattle.header.specs.Writing.{referenceBits, referencesBits, headerBits}
-use Rattle.header.proofs.RoundTrip.{valid-prior}
+use Rattle.header.proofs.RoundTrip.{model-ready}
 use Rattle.header.proofs.write_references.Statement.{statement}
 use Rattle.header.proofs.write_references.Tie as tie
-
-model-ready : (types : List ℕ) (ps qs : List ℤ) (r : ℕ) → HeaderReady types ps qs → r < 7 → ModelReady ps qs (6 * r)
-model-ready types ps qs r h l =
-    record {
-      numbers = omega (arith, h .numbers);
-      places = omega (arith, h .places);
-      priors = valid-prior qs r (omega (arith, h .places)) (h .within);
-    }
 
 module _ (flag : ℕ) (types : List ℕ) (ps qs : List ℤ) where
   -- the references from r on
@@ -60,7 +51,7 @@ unfolding headerBits
 loop-holds c = (omega arith, refl, record { at = refl; buffer = refl })
 
 shared-slice-read-write-reference : tie.Need-shared-slice-read-write-reference Inv-loop μ-loop
-shared-slice-read-write-reference c = omega (arith, c .before .before .before .before .before .before .pre .0 .seven, c .before .before .loop-test .taken)
+shared-slice-read-write-reference c = omega (arith, c .before .before .before .before .before .before .pre .0 .all .seven, c .before .before .loop-test .taken)
 
 mul-write-reference : tie.Need-mul-write-reference Inv-loop μ-loop
 mul-write-reference c = omega (arith, c .before .before .loop-test .taken)

@@ -9,7 +9,7 @@ use lib.ListN.{drop}
 use Rattle.laws.proofs.Placed.{tail-whole}
 use Rattle.bits.specs.Bits.{bitAt}
 use Rattle.header.specs.Reading.{referencesRead}
-use Rattle.header_read.specs.Contracts.{SevenIs}
+use Rattle.header_read.specs.Inner.{SevenIs}
 use Rattle.header_read.proofs.Answers.{ended, from-byte}
 use Rattle.header_read.proofs.read_from.Statement.{statement}
 use Rattle.header_read.proofs.read_from.Tie as tie
@@ -39,4 +39,4 @@ returns-2 c =
     c .answer .ensures ∙ from-byte (a .header .now) (a .at) (a .flag) (a .prior .now) (e .pre) (omega (arith, c .before .before .before .before .if1 .left)) (c .before .read-references .result) read
 
 pub read-from-spec : {M : Type 1} → statement M
-read-from-spec = tie.close (tie.spec (search needs) returns (search needs) (search needs) (search needs) (search needs) (search needs) read-references-requires answer-requires returns-2)
+read-from-spec = tie.close (tie.spec (λ c κs. search needs) returns (λ c. search needs) (λ c κs. search needs) (λ c. search needs) (λ c. search needs) (λ c. search needs) read-references-requires answer-requires returns-2)

@@ -1,4 +1,5 @@
--- `header_read::read_global_param` meets its contract. Assumes nothing.
+-- `read_global_param`: the symbol read by S and the prior's place, as its number.
+-- Assumes nothing.
 use borrow.Author.Needs.{needs}
 use Rattle.header_read.proofs.read_global_param.Statement.{statement}
 use Rattle.header_read.proofs.read_global_param.Tie as tie
@@ -12,9 +13,8 @@ use Rattle.bits.proofs.Buffer.{bitAt-lt}
 use Rattle.bits.specs.Ns.{Taken}
 use Rattle.subexp.specs.Coefficient.{symbol}
 use Rattle.grid.specs.Grid.{absBits, precBits, centre}
-use Rattle.grid.specs.Symbols.{symbols, numberOf}
-use Rattle.header.specs.Coefficient.{place}
-use Rattle.header.specs.Contracts.{SymbolsIs, PriorIn}
+use Rattle.grid.specs.Symbols.{symbols, numberOf, place}
+use Rattle.grid.specs.Inner.{SymbolsIs, PriorIn}
 use mathlib.Core.Path.{ap, sym, _∙_}
 use native.Mathlib.Omega.{arith}
 use mir.Facts.{toZ-ofZ}

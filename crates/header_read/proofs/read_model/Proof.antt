@@ -1,25 +1,18 @@
--- `read_model` meets its contract: each type by its tests.
+-- `read_model`: the numbers of the carried slots, then the six that follow from them.
 -- Assumes nothing.
 use mathlib.Core.Path.{refl}
-use native.Mathlib.Omega.{arith}
-use borrow.Author.Needs.{needs}
-use borrow.Author.Tests.{eq-eqb, ne-eqb}
+use Rattle.bits.specs.Bits.{bitAt}
+use Rattle.header_read.proofs.Composed.{modelled}
 use Rattle.header_read.proofs.read_model.Statement.{statement}
 use Rattle.header_read.proofs.read_model.Tie as tie
 
+six-filled-requires : tie.Need-six-filled-requires
+six-filled-requires c κs = c .before .before .read-slots .ensures .small
+
 returns : tie.Need-returns
-returns c = rw (eq-eqb _ _ (c .if1 .taken)) (record { gmType = refl; six = refl; next = omega arith; near = omega arith })
-
-returns-2 : tie.Need-returns-2
-returns-2 c = rw (ne-eqb _ _ (c .before .before .if1 .left), eq-eqb _ _ (c .before .if2 .taken)) (c .read-translation .ensures)
-
-returns-3 : tie.Need-returns-3
-returns-3 c =
-    rw (ne-eqb _ _ (c .before .before .before .if1 .left), ne-eqb _ _ (c .before .before .if2 .left), eq-eqb _ _ (c .before .if3 .taken)) (c .read-rotzoom .ensures)
-
-returns-4 : tie.Need-returns-4
-returns-4 c =
-    rw (ne-eqb _ _ (c .before .before .before .if1 .left), ne-eqb _ _ (c .before .before .if2 .left), ne-eqb _ _ (c .before .if3 .left)) (c .read-affine .ensures)
+returns c =
+    let a = c .before .before .before .before .before .args in
+    modelled (bitAt (a .header .now)) (a .flag) (a .prior .now) (a .first) (a .cursor .at) (a .gm-type) (c .before .before .before .read-slots .result) _ (c .before .before .before .read-slots .ensures) refl (c .six-filled .ensures) refl
 
 pub read-model-spec : {M : Type 1} → statement M
-read-model-spec = tie.close (tie.spec returns (search needs) returns-2 (search needs) returns-3 (search needs) returns-4)
+read-model-spec = tie.close (tie.spec (λ c κs. c .before .pre) six-filled-requires returns)

@@ -10,6 +10,9 @@ use Rattle.laws.specs.Placed.{placed}
 use Rattle.header_read.proofs.read_next.Statement.{statement}
 use Rattle.header_read.proofs.read_next.Tie as tie
 
+read-reference-requires : tie.Need-read-reference-requires
+read-reference-requires c κs = c .before .before .before .pre .0
+
 returns : tie.Need-returns
 returns c =
     let m = c .before .before .before .read-reference .ensures in
@@ -21,4 +24,4 @@ returns c =
     }
 
 pub read-next-spec : {M : Type 1} → statement M
-read-next-spec = tie.close (tie.spec (search needs) (search needs) (search needs) (search needs) (search needs) returns)
+read-next-spec = tie.close (tie.spec (search needs) read-reference-requires (search needs) (search needs) (search needs) returns)

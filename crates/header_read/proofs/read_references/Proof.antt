@@ -42,4 +42,4 @@ returns c =
     all-read (bitAt (a .header .now)) (a .flag) (a .prior .now) _ _ _ _ (c .before .loop .r) (c .before .loop .inv) (c .loop-test .left) (c .before .loop .seven) refl refl refl
 
 pub read-references-spec : {M : Type 1} → statement M
-read-references-spec = tie.close (tie.spec Inv-loop μ-loop loop-holds read-next-requires (search needs) (search needs) loop-again returns)
+read-references-spec = tie.close (tie.spec Inv-loop μ-loop loop-holds read-next-requires (λ c. search needs) (λ c. search needs) loop-again returns)

@@ -1,35 +1,49 @@
--- `job::run` meets its contract.
+-- `job::run`: the search accepts, the words that it found are the job's, and what follows from them is its outcome.
 -- Assumes nothing.
-use Rattle.job.proofs.Ending.{found-there, found-count, found-modelling, ended-found}
-use Rattle.job_task.proofs.Accepted.{ready}
-use Rattle.job_task.specs.Task.{task, lend}
 use borrow.Author.Needs.{needs}
+use Rattle.job_task.specs.Task.{Task, Lent, task, lend}
+use Rattle.job_task.proofs.Accepted.{ready}
+use Rattle.job.proofs.Ending.{found-there, found-count, found-modelling, ended-found}
 use Rattle.job.proofs.run.Statement.{statement}
 use Rattle.job.proofs.run.Tie as tie
 
 slice-reshare-prefix-finish : tie.Need-slice-reshare-prefix-finish
-slice-reshare-prefix-finish c = let e = c .before .before .before .before .before .before .before .before .before .before .before .before .before .before .before .before .before .before .before in found-there (task (e .args .input .now) (e .args .reference .now) (e .args .width) (e .args .height) (e .args .settings) (e .args .classes .now) (e .args .types .now) (e .args .models .now) (e .args .prior .now)) (lend (e .args .input-half .now) (e .args .ref-half .now) (e .args .words .now) (e .args .blocks .now) (e .args .header .now)) (ready (task (e .args .input .now) (e .args .reference .now) (e .args .width) (e .args .height) (e .args .settings) (e .args .classes .now) (e .args .types .now) (e .args .models .now) (e .args .prior .now)) (lend (e .args .input-half .now) (e .args .ref-half .now) (e .args .words .now) (e .args .blocks .now) (e .args .header .now)) (e .pre)) (c .before .before .before .before .before .before .collect-motion-samples .ensures)
+slice-reshare-prefix-finish c =
+    let h = c .before .before .before .before .before .before .before .before .before in
+    let e = h .before .before .before .before .before .before .before .before .before .before in
+    let a = e .args in
+    let j : Task = task (a .input .now) (a .reference .now) (a .width) (a .height) (a .settings) (a .classes .now) (a .types .now) (a .models .now) (a .prior .now) in
+    let l : Lent = lend (a .input-half .now) (a .ref-half .now) (a .words .now) (a .blocks .now) (a .header .now) in
+    found-there j l (ready j l (e .pre)) (c .before .before .before .before .before .before .collect-motion-samples .ensures)
 
 slice-aggregate-finish : tie.Need-slice-aggregate-finish
-slice-aggregate-finish c = let e = c .before .before .before .before .before .before .before .before .before .before .before .before .before .before .before .before .before .before .before .before in found-count (task (e .args .input .now) (e .args .reference .now) (e .args .width) (e .args .height) (e .args .settings) (e .args .classes .now) (e .args .types .now) (e .args .models .now) (e .args .prior .now)) (lend (e .args .input-half .now) (e .args .ref-half .now) (e .args .words .now) (e .args .blocks .now) (e .args .header .now)) (ready (task (e .args .input .now) (e .args .reference .now) (e .args .width) (e .args .height) (e .args .settings) (e .args .classes .now) (e .args .types .now) (e .args .models .now) (e .args .prior .now)) (lend (e .args .input-half .now) (e .args .ref-half .now) (e .args .words .now) (e .args .blocks .now) (e .args .header .now)) (e .pre)) (c .before .before .before .before .before .before .before .collect-motion-samples .ensures)
+slice-aggregate-finish c =
+    let h = c .before .before .before .before .before .before .before .before .before .before in
+    let e = h .before .before .before .before .before .before .before .before .before .before in
+    let a = e .args in
+    let j : Task = task (a .input .now) (a .reference .now) (a .width) (a .height) (a .settings) (a .classes .now) (a .types .now) (a .models .now) (a .prior .now) in
+    let l : Lent = lend (a .input-half .now) (a .ref-half .now) (a .words .now) (a .blocks .now) (a .header .now) in
+    found-count j l (ready j l (e .pre)) (c .before .before .before .before .before .before .before .collect-motion-samples .ensures)
 
 finish-requires : tie.Need-finish-requires
-finish-requires c κs = let e = c .before .before .before .before .before .before .before .before .before .before .before .before .before .before .before .before .before .before .before .before .before .before in found-modelling (task (e .args .input .now) (e .args .reference .now) (e .args .width) (e .args .height) (e .args .settings) (e .args .classes .now) (e .args .types .now) (e .args .models .now) (e .args .prior .now)) (lend (e .args .input-half .now) (e .args .ref-half .now) (e .args .words .now) (e .args .blocks .now) (e .args .header .now)) (ready (task (e .args .input .now) (e .args .reference .now) (e .args .width) (e .args .height) (e .args .settings) (e .args .classes .now) (e .args .types .now) (e .args .models .now) (e .args .prior .now)) (lend (e .args .input-half .now) (e .args .ref-half .now) (e .args .words .now) (e .args .blocks .now) (e .args .header .now)) (e .pre)) (c .before .before .before .before .before .before .before .before .before .collect-motion-samples .ensures)
+finish-requires c κs =
+    let h = c .before .before .before .before .before .before .before .before .before .before .before in
+    let e = h .before .before .before .before .before .before .before .before .before .before .before in
+    let a = e .args in
+    let j : Task = task (a .input .now) (a .reference .now) (a .width) (a .height) (a .settings) (a .classes .now) (a .types .now) (a .models .now) (a .prior .now) in
+    let l : Lent = lend (a .input-half .now) (a .ref-half .now) (a .words .now) (a .blocks .now) (a .header .now) in
+    found-modelling j l (ready j l (e .pre)) (c .before .before .before .before .before .before .before .before .before .collect-motion-samples .ensures)
 
 returns : tie.Need-returns
-returns c = let e = c .before .before .before .before .before .before .before .before .before .before .before .before .before .before .before .before .before .before .before .before .before .before .before .before .before .before .before in ended-found (task (e .args .input .now) (e .args .reference .now) (e .args .width) (e .args .height) (e .args .settings) (e .args .classes .now) (e .args .types .now) (e .args .models .now) (e .args .prior .now)) (lend (e .args .input-half .now) (e .args .ref-half .now) (e .args .words .now) (e .args .blocks .now) (e .args .header .now)) (e .pre) (c .before .before .before .before .before .before .before .before .before .before .before .before .before .before .collect-motion-samples .ensures) (c .before .before .before .before .finish .ensures .0) (c .before .before .before .before .finish .ensures .1 .0) (c .before .before .before .before .finish .ensures .1 .1)
+returns c =
+    let h = c .before .before .before .before .before .before .before .before .before .before .before .before .before in
+    let e = h .before .before .before .before .before .before .before .before .before .before .before .before .before .before in
+    let a = e .args in
+    let j : Task = task (a .input .now) (a .reference .now) (a .width) (a .height) (a .settings) (a .classes .now) (a .types .now) (a .models .now) (a .prior .now) in
+    let l : Lent = lend (a .input-half .now) (a .ref-half .now) (a .words .now) (a .blocks .now) (a .header .now) in
+    ended-found j l (e .pre) (h .before .collect-motion-samples .ensures) (c .before .before .before .before .finish .ensures)
 
 pub run-spec : {M : Type 1} → statement M
 run-spec =
     tie.close
-    (tie.spec
-    (search needs)
-    slice-reshare-prefix-finish
-    slice-aggregate-finish
-    finish-requires
-    (search needs)
-    (search needs)
-    (search needs)
-    (search needs)
-    (search needs)
-    returns)
+    (tie.spec (search needs) slice-reshare-prefix-finish slice-aggregate-finish finish-requires (search needs) (search needs) (search needs) (search needs) (search needs) returns)

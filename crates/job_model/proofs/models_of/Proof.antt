@@ -1,4 +1,4 @@
--- `job_model::models_of` meets its contract.
+-- `job_model::models_of`: the fit's refusal decides, as in the definition.
 -- Assumes nothing.
 use mathlib.Core.Path.{_∙_}
 use Rattle.job_model.proofs.Composed.{refused-as, with-fit, accepted-as}
@@ -7,21 +7,24 @@ use Rattle.job_model.proofs.models_of.Statement.{statement}
 use Rattle.job_model.proofs.models_of.Tie as tie
 
 returns : tie.Need-returns
-returns c = c .not-modelled .ensures ∙ refused-as (c .before .before .before .before .before .before .args .gm-type) (c .before .before .before .before .before .before .args .reference) (c .before .before .before .before .before .before .args .flag) (c .before .before .before .before .before .before .args .types .now) (c .before .before .before .before .before .before .args .models .now) (c .before .before .before .before .before .before .args .words .now) (c .before .before .before .before .before .before .pre) (c .before .before .before .fit-model .ensures) (c .before .before .refusal-of .ensures) (c .before .if1 .taken)
+returns c =
+    let a = c .before .before .before .before .before .before .args in
+    c .not-modelled .ensures
+    ∙ refused-as (a .settings) (a .types .now) (a .models .now) (a .words .now) (c .before .before .before .before .before .before .pre)
+    (c .before .before .before .fit-model .ensures) (c .before .before .refusal-of .ensures) (c .before .if1 .taken)
 
 with-model-requires : tie.Need-with-model-requires
-with-model-requires c κs = with-fit (c .before .before .before .before .before .args .gm-type) (c .before .before .before .before .before .args .reference) (c .before .before .before .before .before .args .flag) (c .before .before .before .before .before .args .types .now) (c .before .before .before .before .before .args .models .now) (c .before .before .before .before .before .args .words .now) (c .before .before .before .before .before .pre) (c .before .before .fit-model .ensures) (c .before .refusal-of .ensures) (c .if1 .left)
+with-model-requires c κs =
+    let a = c .before .before .before .before .before .args in
+    with-fit (a .settings) (a .types .now) (a .models .now) (a .words .now) (c .before .before .before .before .before .pre)
+    (c .before .before .fit-model .ensures) (c .before .refusal-of .ensures) (c .if1 .left)
 
 returns-2 : tie.Need-returns-2
-returns-2 c = c .with-model .ensures ∙ accepted-as (c .before .before .before .before .before .before .args .gm-type) (c .before .before .before .before .before .before .args .reference) (c .before .before .before .before .before .before .args .flag) (c .before .before .before .before .before .before .args .types .now) (c .before .before .before .before .before .before .args .models .now) (c .before .before .before .before .before .before .args .words .now) (c .before .before .before .before .before .before .pre) (c .before .before .before .fit-model .ensures) (c .before .before .refusal-of .ensures) (c .before .if1 .left)
+returns-2 c =
+    let a = c .before .before .before .before .before .before .args in
+    c .with-model .ensures
+    ∙ accepted-as (a .settings) (a .types .now) (a .models .now) (a .words .now) (c .before .before .before .before .before .before .pre)
+    (c .before .before .before .fit-model .ensures) (c .before .before .refusal-of .ensures) (c .before .if1 .left)
 
 pub models-of-spec : {M : Type 1} → statement M
-models-of-spec =
-    tie.close
-    (tie.spec
-    (search needs)
-    (search needs)
-    (search needs)
-    returns
-    with-model-requires
-    returns-2)
+models-of-spec = tie.close (tie.spec (search needs) (search needs) (search needs) returns with-model-requires returns-2)

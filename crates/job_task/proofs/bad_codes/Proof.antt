@@ -1,4 +1,4 @@
--- `job_task::bad_codes` meets its contract.
+-- `job_task::bad_codes`: each test is the definition's next one, false where the code goes on.
 -- Assumes nothing.
 use borrow.Author.Tests.{lt-ltb, le-ltb, eq-eqb, ne-eqb}
 use mathlib.Core.Path.{sym, _∙_}
@@ -10,25 +10,41 @@ returns : tie.Need-returns
 returns c = rw (sym (c .before .bad-class .ensures) ∙ c .if1 .taken)
 
 returns-2 : tie.Need-returns-2
-returns-2 c = rw ((sym (c .before .before .before .bad-class .ensures) ∙ c .before .before .if1 .left), eq-eqb (c .before .before .before .before .before .before .args .settings .«gm_type») 0 (c .if2 .taken))
+returns-2 c =
+    rw (
+      (sym (c .before .before .before .bad-class .ensures) ∙ c .before .before .if1 .left),
+      eq-eqb (c .before .before .before .before .before .before .args .settings .«gm_type») 0 (c .if2 .taken),
+    )
 
 returns-3 : tie.Need-returns-3
-returns-3 c = rw ((sym (c .before .before .before .before .before .bad-class .ensures) ∙ c .before .before .before .before .if1 .left), ne-eqb (c .before .before .before .before .before .before .before .before .args .settings .«gm_type») 0 (c .before .before .if2 .left), lt-ltb 3 (c .before .before .before .before .before .before .before .before .args .settings .«gm_type») (c .if3 .taken))
+returns-3 c =
+    let t = c .before .before .before .before .before .before .before .before .args .settings .«gm_type» in
+    rw (
+      (sym (c .before .before .before .before .before .bad-class .ensures) ∙ c .before .before .before .before .if1 .left),
+      ne-eqb t 0 (c .before .before .if2 .left),
+      lt-ltb 3 t (c .if3 .taken),
+    )
 
 returns-4 : tie.Need-returns-4
-returns-4 c = rw ((sym (c .before .before .before .before .before .before .before .bad-class .ensures) ∙ c .before .before .before .before .before .before .if1 .left), ne-eqb (c .before .before .before .before .before .before .before .before .before .before .args .settings .«gm_type») 0 (c .before .before .before .before .if2 .left), le-ltb 3 (c .before .before .before .before .before .before .before .before .before .before .args .settings .«gm_type») (c .before .before .if3 .left), (sym (c .before .types-over .ensures) ∙ c .if4 .taken))
+returns-4 c =
+    let t = c .before .before .before .before .before .before .before .before .before .before .args .settings .«gm_type» in
+    rw (
+      (sym (c .before .before .before .before .before .before .before .bad-class .ensures) ∙ c .before .before .before .before .before .before .if1 .left),
+      ne-eqb t 0 (c .before .before .before .before .if2 .left),
+      le-ltb 3 t (c .before .before .if3 .left),
+      (sym (c .before .types-over .ensures) ∙ c .if4 .taken),
+    )
 
 returns-5 : tie.Need-returns-5
-returns-5 c = rw ((sym (c .before .before .before .before .before .before .before .before .bad-class .ensures) ∙ c .before .before .before .before .before .before .before .if1 .left), ne-eqb (c .before .before .before .before .before .before .before .before .before .before .before .args .settings .«gm_type») 0 (c .before .before .before .before .before .if2 .left), le-ltb 3 (c .before .before .before .before .before .before .before .before .before .before .before .args .settings .«gm_type») (c .before .before .before .if3 .left), (sym (c .before .before .types-over .ensures) ∙ c .before .if4 .left))
+returns-5 c =
+    let b = c .before .before .before .before .before .before .before in
+    let t = c .before .before .before .before .before .before .before .before .before .before .before .args .settings .«gm_type» in
+    rw (
+      (sym (b .before .bad-class .ensures) ∙ b .if1 .left),
+      ne-eqb t 0 (c .before .before .before .before .before .if2 .left),
+      le-ltb 3 t (c .before .before .before .if3 .left),
+      (sym (c .before .before .types-over .ensures) ∙ c .before .if4 .left),
+    )
 
 pub bad-codes-spec : {M : Type 1} → statement M
-bad-codes-spec =
-    tie.close
-    (tie.spec
-    (search needs)
-    returns
-    returns-2
-    returns-3
-    (search needs)
-    returns-4
-    returns-5)
+bad-codes-spec = tie.close (tie.spec (search needs) returns returns-2 returns-3 (search needs) returns-4 returns-5)

@@ -1,4 +1,4 @@
--- `job_task::no_reference` meets its contract.
+-- `job_task::no_reference`: 0 and over 7 are the two tests of the definition.
 -- Assumes nothing.
 use borrow.Author.Tests.{eq-eqb, ne-eqb}
 use Rattle.job_task.proofs.no_reference.Statement.{statement}

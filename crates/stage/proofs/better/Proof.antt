@@ -1,4 +1,4 @@
--- `stage::better` meets its contract.
+-- `better`: the test is the definition's own.
 -- Assumes nothing.
 use borrow.Author.Tests.{lt-ltb, le-ltb}
 use Rattle.stage.proofs.better.Statement.{statement}

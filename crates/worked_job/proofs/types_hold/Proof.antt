@@ -18,7 +18,7 @@ types-hold-spec =
     μ-loop
     (search needs)
     (search needs)
-    (search needs)
+    (λ c. search needs)
     (search needs)
     (search needs)
     (search needs)

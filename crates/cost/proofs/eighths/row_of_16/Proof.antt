@@ -1,13 +1,13 @@
--- `cost::eighths::row_of_16` meets its contract.
+-- `row_of_16`: each turn adds the difference of the next pel from what its four neighbours blend to.
 -- Assumes nothing.
 use Prim.Native.Nat.{_+_, _-_}
 use mathlib.Core.Path.{ap, _∙_}
 use native.Mathlib.Omega.{arith}
 use lib.ListN.{getD}
 use borrow.Author.Needs.{needs}
-use Rattle.pels.specs.Difference.{difference}
+use Rattle.plane.specs.Difference.{difference}
 use Rattle.cost.specs.Cost.{bilinear}
-use Rattle.cost.specs.Ready.{bilinearDifference}
+use Rattle.cost.specs.Inner.{bilinearDifference}
 use Rattle.cost.proofs.Sum.{Adds, none, more, all}
 use Rattle.cost.proofs.eighths.row_of_16.Statement.{statement}
 use Rattle.cost.proofs.eighths.row_of_16.Tie as tie
@@ -30,27 +30,4 @@ returns c = all _ (c .before .loop .inv) (omega arith) (omega arith)
 
 pub row-of-16-spec : {M : Type 1} → statement M
 row-of-16-spec =
-    tie.close
-    (tie.spec
-    Inv-loop
-    μ-loop
-    loop-holds
-    (search needs)
-    (search needs)
-    (search needs)
-    (search needs)
-    (search needs)
-    (search needs)
-    (search needs)
-    (search needs)
-    (search needs)
-    (search needs)
-    (search needs)
-    (search needs)
-    (search needs)
-    (search needs)
-    (search needs)
-    (search needs)
-    (search needs)
-    loop-again
-    returns)
+    tie.close (tie.spec Inv-loop μ-loop loop-holds (search needs) (search needs) (search needs) (search needs) (search needs) (search needs) (search needs) (search needs) (search needs) (search needs) (search needs) (search needs) (search needs) (search needs) (search needs) (search needs) (search needs) loop-again returns)

@@ -1,8 +1,8 @@
 -- `int_row`: a row whose displaced columns lie inside is two parts of constant width.
 -- Assumes nothing.
 use mathlib.Core.Path.{_∙_}
-use Rattle.cost.proofs.Rows.{row-inside}
 use borrow.Author.Needs.{needs}
+use Rattle.cost.proofs.Rows.{row-inside}
 use Rattle.cost.proofs.whole.int_row.Statement.{statement}
 use Rattle.cost.proofs.whole.int_row.Tie as tie
 
@@ -12,29 +12,9 @@ returns c =
     record {
       same =
           c .row-of-16 .ensures .same
-          ∙ row-inside (a .input .now) (a .reference .now) (a .width) (a .height) (a .r) (a .c) 27 (a .y) (a .x) 16
-          (c .before .before .before .before .row-start .ensures .same)
-          (c .before .before .before .displaced-start .ensures .same)
-          (c .before .before .before .before .before .before .before .pre .1 .1 .left)
-          (c .before .before .before .before .before .before .before .pre .1 .1 .right);
+          ∙ row-inside (a .input .now) (a .reference .now) (a .place) (a .by) 27 16 (c .before .before .before .before .row-start .ensures) (c .before .before .before .displaced-start .ensures) (c .before .before .before .before .before .before .before .pre .1 .1);
       small = c .row-of-16 .ensures .small;
     }
 
 pub int-row-spec : {M : Type 1} → statement M
-int-row-spec =
-    tie.close
-    (tie.spec
-    (search needs)
-    (search needs)
-    (search needs)
-    (search needs)
-    (search needs)
-    (search needs)
-    (search needs)
-    (search needs)
-    (search needs)
-    (search needs)
-    (search needs)
-    (search needs)
-    (search needs)
-    returns)
+int-row-spec = tie.close (tie.spec (search needs) (search needs) (search needs) (search needs) (search needs) (search needs) (search needs) (search needs) (search needs) (search needs) (search needs) (search needs) (search needs) returns)

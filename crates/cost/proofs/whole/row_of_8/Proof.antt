@@ -1,11 +1,11 @@
--- `cost::whole::row_of_8` meets its contract.
+-- `row_of_8`: each turn adds the difference of the next two pels.
 -- Assumes nothing.
 use Prim.Native.Nat.{_-_}
 use native.Mathlib.Omega.{arith}
 use lib.ListN.{getD}
 use borrow.Author.Needs.{needs}
-use Rattle.pels.specs.Difference.{difference}
-use Rattle.cost.specs.Ready.{rowDifference}
+use Rattle.plane.specs.Difference.{difference}
+use Rattle.cost.specs.Inner.{rowDifference}
 use Rattle.cost.proofs.Sum.{Adds, none, more, all}
 use Rattle.cost.proofs.whole.row_of_8.Statement.{statement}
 use Rattle.cost.proofs.whole.row_of_8.Tie as tie
@@ -28,18 +28,4 @@ returns c = all _ (c .before .loop .inv) (omega arith) (omega arith)
 
 pub row-of-8-spec : {M : Type 1} → statement M
 row-of-8-spec =
-    tie.close
-    (tie.spec
-    Inv-loop
-    μ-loop
-    loop-holds
-    (search needs)
-    (search needs)
-    (search needs)
-    (search needs)
-    (search needs)
-    (search needs)
-    (search needs)
-    (search needs)
-    loop-again
-    returns)
+    tie.close (tie.spec Inv-loop μ-loop loop-holds (search needs) (search needs) (search needs) (search needs) (search needs) (search needs) (search needs) (search needs) loop-again returns)

@@ -1,33 +1,93 @@
--- `search::blocks::word_at` meets its contract.
+-- `word_at`: the three stages in a row, and the word of what the last one found.
 -- Assumes nothing.
-use Prim.Native.Nat.{_-_}
 use mathlib.Core.Path.{sym, ap, _∙_}
 use native.Mathlib.Omega.{arith}
 use lib.ListN.{length}
+use borrow.Author.Needs.{needs}
 use Rattle.plane.proofs.Halves.{length-halfPlane}
 use Rattle.stage.specs.Stage.{Found}
 use Rattle.search.proofs.Word.{motion-is, stored-is, word-same}
-use borrow.Author.Needs.{needs}
 use Rattle.search.proofs.blocks.word_at.Statement.{statement}
 use Rattle.search.proofs.blocks.word_at.Tie as tie
 
 coarse-requires : tie.Need-coarse-requires
-coarse-requires c κs = (record { narrow = omega arith; low = omega arith; input-pels = sym (ap length (c .before .before .before .before .pre .0 .input-halved) ∙ length-halfPlane (c .before .before .before .before .args .input .now) (c .before .before .before .before .args .width) (c .before .before .before .before .args .height)); ref-pels = sym (ap length (c .before .before .before .before .pre .0 .ref-halved) ∙ length-halfPlane (c .before .before .before .before .args .reference .now) (c .before .before .before .before .args .width) (c .before .before .before .before .args .height)) }, record { rows = omega arith; columns = omega arith })
+coarse-requires c κs =
+    let a = c .before .before .before .before .before .before .before .before .args in
+    let b = a .block in
+    let p = c .before .before .before .before .before .before .before .before .pre .0 in (
+      record {
+        small = record { narrow = omega arith; low = omega arith };
+        input-pels = sym (ap length (p .input-halved) ∙ length-halfPlane (a .input .now) (b .width) (b .height));
+        ref-pels = sym (ap length (p .ref-halved) ∙ length-halfPlane (a .reference .now) (b .width) (b .height));
+      },
+      record { rows = omega arith; columns = omega arith },
+    )
+
+full-pel-requires : tie.Need-full-pel-requires
+full-pel-requires c κs =
+    let p = c .before .before .before .before .before .before .before .before .before .before .before .before .before .pre in
+    let e = c .before .before .before .before .coarse .ensures in (
+      record { small = p .0 .small; input-pels = p .0 .input-pels; ref-pels = p .0 .ref-pels },
+      (
+        record { rows = omega (arith, p .1 .row); columns = omega (arith, p .1 .column) },
+        record { y-low = omega arith; y-high = omega (arith, e .y-last); x-low = omega arith; x-high = omega (arith, e .x-last) },
+      ),
+    )
+
+refine-requires : tie.Need-refine-requires
+refine-requires c κs =
+    let p = c .before .before .before .before .before .before .before .before .before .before .before .before .before .before .before .before .pre in
+    let e = c .before .before .full-pel .ensures in (
+      record { small = p .0 .small; input-pels = p .0 .input-pels; ref-pels = p .0 .ref-pels },
+      (
+        record { rows = omega (arith, p .1 .row); columns = omega (arith, p .1 .column) },
+        record { y-low = omega arith; y-high = omega (arith, e .y-last); x-low = omega arith; x-high = omega (arith, e .x-last) },
+      ),
+    )
 
 cast-word-of : tie.Need-cast-word-of
-cast-word-of c = omega (arith, c .before .before .before .before .before .before .before .before .before .before .before .pre .0 .low, c .before .before .before .before .before .before .before .before .before .before .before .pre .1 .row)
+cast-word-of c =
+    let p = c .before .before .before .before .before .before .before .before .before .before .before .before .before .before .before .before .before .before .pre in
+    omega (arith, p .0 .small .low, p .1 .row)
 
 cast-word-of-2 : tie.Need-cast-word-of-2
-cast-word-of-2 c = omega (arith, c .before .before .before .before .before .before .before .before .before .before .before .pre .0 .narrow, c .before .before .before .before .before .before .before .before .before .before .before .pre .1 .column)
+cast-word-of-2 c =
+    let p = c .before .before .before .before .before .before .before .before .before .before .before .before .before .before .before .before .before .before .before .pre in
+    omega (arith, p .0 .small .narrow, p .1 .column)
 
 word-of-requires : tie.Need-word-of-requires
-word-of-requires c κs = omega (arith, c .before .before .before .before .before .before .before .before .before .before .before .before .before .pre .0 .low, c .before .before .before .before .before .before .before .before .before .before .before .before .before .pre .0 .narrow, c .before .before .before .before .before .before .before .before .before .before .before .before .before .pre .1 .row, c .before .before .before .before .before .before .before .before .before .before .before .before .before .pre .1 .column, c .before .before .before .before .before .before .before .before .before .before .before .before .before .pre .1 .class-small, c .before .before .refine .ensures .y-last, c .before .before .refine .ensures .x-last)
+word-of-requires c κs =
+    let p = c .before .before .before .before .before .before .before .before .before .before .before .before .before .before .before .before .before .before .before .before .before .pre in
+    omega (
+      arith,
+      p .0 .small .low,
+      p .0 .small .narrow,
+      p .1 .row,
+      p .1 .column,
+      p .1 .class-small,
+      c .before .before .before .before .refine .ensures .y-last,
+      c .before .before .before .before .refine .ensures .x-last,
+    )
 
 returns : tie.Need-returns
 returns c =
-    let e = motion-is (c .before .before .before .before .before .before .before .before .before .before .before .before .before .before .args .input .now) (c .before .before .before .before .before .before .before .before .before .before .before .before .before .before .args .reference .now) (c .before .before .before .before .before .before .before .before .before .before .before .before .before .before .args .width) (c .before .before .before .before .before .before .before .before .before .before .before .before .before .before .args .height) (c .before .before .before .before .before .before .before .before .before .before .before .before .before .before .args .row) (c .before .before .before .before .before .before .before .before .before .before .before .before .before .before .args .column) (c .before .before .before .before .before .before .before .before .before .coarse .result) (c .before .before .before .before .before .before .full-pel .result) (c .before .before .before .refine .result) (rw (c .before .before .before .before .before .before .before .before .before .before .before .before .before .before .pre .0 .input-halved, c .before .before .before .before .before .before .before .before .before .before .before .before .before .before .pre .0 .ref-halved) at (c .before .before .before .before .before .before .before .before .before .coarse .ensures .same)) (c .before .before .before .before .before .before .full-pel .ensures .same) (c .before .before .before .refine .ensures .same) in
+    let a = c .before .before .before .before .before .before .before .before .before .before .before .before .before .before .before .before .before .before .before .before .before .before .args in
+    let b = a .block in
+    let p = c .before .before .before .before .before .before .before .before .before .before .before .before .before .before .before .before .before .before .before .before .before .before .pre .0 in
+    let best = c .before .before .before .before .before .refine .result in
+    let far = rw (p .input-halved, p .ref-halved) at (c .before .before .before .before .before .before .before .before .before .before .before .before .before .coarse .ensures .same) in
+    let e =
+    motion-is (a .input .now) (a .reference .now) (b .width) (b .height) (b .r) (b .c)
+    (c .before .before .before .before .before .before .before .before .before .before .before .before .before .coarse .result)
+    (c .before .before .before .before .before .before .before .before .full-pel .result)
+    best
+    far
+    (c .before .before .before .before .before .before .before .before .full-pel .ensures .same)
+    (c .before .before .before .before .before .refine .ensures .same) in
     c .word-of .ensures
-    ∙ word-same (c .before .before .before .before .before .before .before .before .before .before .before .before .before .before .args .row) (c .before .before .before .before .before .before .before .before .before .before .before .before .before .before .args .column) (c .before .before .before .before .before .before .before .before .before .before .before .before .before .before .args .class) (stored-is (c .before .before .before .refine .result .y) (ap (λ (f : Found). f .dy) e)) (stored-is (c .before .before .before .refine .result .x) (ap (λ (f : Found). f .dx) e))
+    ∙ word-same (b .r) (b .c) (a .class)
+    (stored-is (best .y) (ap (λ (f : Found). f .dy) e))
+    (stored-is (best .x) (ap (λ (f : Found). f .dx) e))
 
 pub word-at-spec : {M : Type 1} → statement M
 word-at-spec =
@@ -42,14 +102,12 @@ word-at-spec =
     (search needs)
     (search needs)
     (search needs)
+    full-pel-requires
     (search needs)
     (search needs)
     (search needs)
     (search needs)
-    (search needs)
-    (search needs)
-    (search needs)
-    (search needs)
+    refine-requires
     cast-word-of
     cast-word-of-2
     (search needs)

@@ -1,4 +1,4 @@
--- `search::refusals::bad_class` meets its contract.
+-- `bad_class`: what is left of the classes has one out of range exactly if all have.
 -- Assumes nothing.
 use mathlib.Core.Path.{_≡_, refl, sym}
 use native.Mathlib.Omega.{arith}
@@ -7,14 +7,14 @@ use Prim.Native.Nat.{_≤_, _-_}
 use lib.Dec.{ltb}
 use lib.ListN.{length, drop, getD}
 use Rattle.laws.specs.Refusal.{any}
-use Rattle.search.specs.Refusal.{badClass}
+use Rattle.search.specs.Refusal.{badClass, lastClass}
 use Rattle.search.proofs.Rows.{any-here, any-later, any-never}
 use borrow.Author.Needs.{needs}
 use Rattle.search.proofs.refusals.bad_class.Statement.{statement}
 use Rattle.search.proofs.refusals.bad_class.Tie as tie
 
 abbrev Inv-loop : tie.InvT-loop
-Inv-loop classes k₀ k = (k ≤ length classes) × (any (ltb 3) (drop k classes) ≡ any (ltb 3) classes)
+Inv-loop classes k₀ k = (k ≤ length classes) × (any (ltb lastClass) (drop k classes) ≡ any (ltb lastClass) classes)
 
 abbrev μ-loop : tie.MeasureT-loop
 μ-loop classes k₀ k = length classes - k
@@ -24,17 +24,23 @@ loop-holds c = (omega arith, refl)
 
 returns : tie.Need-returns Inv-loop μ-loop
 unfolding badClass
-returns c = sym (any-here (ltb 3) (c .before .before .before .before .args .classes .now) (c .before .before .before .loop .k) (omega arith) (c .before .before .before .loop .inv .1) (lt-ltb 3 (getD (c .before .before .before .before .args .classes .now) (c .before .before .before .loop .k) 0) (c .if1 .taken)))
+returns c =
+    let l = c .before .before .before .before .args .classes .now in
+    let k = c .before .before .before .loop .k in
+    sym (any-here (ltb lastClass) l k (omega arith) (c .before .before .before .loop .inv .1) (lt-ltb lastClass (getD l k 0) (c .if1 .taken)))
 
 loop-less : tie.Need-loop-less Inv-loop μ-loop
 loop-less c = omega arith
 
 loop-again : tie.Need-loop-again Inv-loop μ-loop
-loop-again c = (omega arith, any-later (ltb 3) (c .before .before .before .before .args .classes .now) (c .before .before .before .loop .k) (omega arith) (c .before .before .before .loop .inv .1) (le-ltb 3 (getD (c .before .before .before .before .args .classes .now) (c .before .before .before .loop .k) 0) (c .if1 .left)))
+loop-again c =
+    let l = c .before .before .before .before .args .classes .now in
+    let k = c .before .before .before .loop .k in
+    (omega arith, any-later (ltb lastClass) l k (omega arith) (c .before .before .before .loop .inv .1) (le-ltb lastClass (getD l k 0) (c .if1 .left)))
 
 returns-2 : tie.Need-returns-2 Inv-loop μ-loop
 unfolding badClass
-returns-2 c = any-never (ltb 3) (c .before .before .args .classes .now) (c .before .loop .k) (omega arith) (c .before .loop .inv .1)
+returns-2 c = any-never (ltb lastClass) (c .before .before .args .classes .now) (c .before .loop .k) (omega arith) (c .before .loop .inv .1)
 
 pub bad-class-spec : {M : Type 1} → statement M
 bad-class-spec =

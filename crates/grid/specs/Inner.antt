@@ -1,0 +1,47 @@
+-- What the functions below the public calls ask and answer; no public contract cites it.
+-- Assumes nothing.
+use Prim.Native.Nat.{ℕ, _*_, _/_, _^_, _≤_, _<_}
+use mathlib.Core.Bool.{false}
+use mathlib.Core.Path.{_≡_}
+use lib.IntN.{ℤ, pos, natAbs, _+ℤ_, _-ℤ_}
+use lib.ListN.{length, take}
+use Rattle.grid.specs.Grid.{step, absBits, precBits, centre, Row}
+use Rattle.grid.specs.Slots.{slotsOf}
+use Rattle.grid.specs.Symbols.{symbols, symbolOf, place, priorOut}
+use Rattle.grid.specs.declared.SlotOrder.{SlotOrder}
+use Rattle.grid.specs.declared.SlotSymbols.{SlotSymbols}
+
+pub record Symbol (abs prec c t : ℕ) : Type 0 where
+  pub row : Row abs prec
+  pub centred : c ≤ 65536
+  pub below : t < symbols abs
+
+pub record Prior (abs prec c : ℕ) (z : ℤ) : Type 0 where
+  pub row : Row abs prec
+  pub reach : natAbs (z -ℤ pos c) ≤ 2 ^ abs * step prec
+
+-- the place, counted in steps from the least codable number: for a prior in range it is `placeOf`
+abbrev pub placeCode : ℕ → ℕ → ℕ → ℤ → ℕ
+placeCode abs prec c z = natAbs ((z -ℤ pos c) +ℤ pos (2 ^ abs * step prec)) / step prec
+
+-- a prior in range, of a slot of a model
+pub record PriorIn (slot : ℕ) (q : ℤ) : Type 0 where
+  pub known : slot < 6
+  pub within : priorOut slot q ≡ false
+
+-- S and the prior's place
+pub record SymbolsIs (gmType flag slot : ℕ) (q : ℤ) (r : SlotSymbols) : Type 0 where
+  pub mx : r .mx ≡ symbols (absBits gmType flag slot)
+  pub stands : r .r ≡ place gmType flag slot q
+  pub below : r .r < r .mx
+  pub few : r .mx ≤ 8193
+
+pub record SymbolIs (gmType flag slot : ℕ) (z : ℤ) (r : ℕ) : Type 0 where
+  pub is : r ≡ symbolOf (absBits gmType flag slot) (precBits gmType flag slot) (centre slot) z
+  pub below : r < symbols (absBits gmType flag slot)
+
+-- the slots of a type at the front of an array of six
+pub record SlotsIs (gmType : ℕ) (r : SlotOrder) : Type 0 where
+  pub count : r .count ≡ length (slotsOf gmType)
+  pub order : take (r .count) (r .order) ≡ slotsOf gmType
+  pub six : length (r .order) ≡ 6

@@ -1,0 +1,39 @@
+-- What the functions below the public calls ask and answer; no public contract cites it.
+-- Assumes nothing.
+use Prim.Native.Nat.{ℕ, _+_, _≤_, _<_}
+use mathlib.Core.Bool.{false}
+use mathlib.Core.Path.{_≡_}
+use mathlib.Core.List.{List}
+use lib.IntN.{ℤ}
+use lib.ListN.{length}
+use Rattle.bits.specs.Fields.{fieldBits}
+use Rattle.grid.specs.Symbols.{priorOut}
+use Rattle.models.specs.Models.{typesOver, priorsOut}
+use Rattle.header.specs.Writing.{slotOf, typeBits}
+use Rattle.header.specs.declared.TypeField.{TypeField}
+
+-- the six priors from `first` on are in range
+pub record ValidPrior (qs : List ℤ) (first : ℕ) : Type 0 where
+  pub within : (slot : ℕ) → slot < 6 → priorOut slot (slotOf qs first slot) ≡ false
+
+-- a model and its priors lie in their lists, and the priors are in range
+pub record ModelReady (ps qs : List ℤ) (first : ℕ) : Type 0 where
+  pub numbers : first + 6 ≤ length ps
+  pub places : first + 6 ≤ length qs
+  pub priors : ValidPrior qs first
+
+-- seven types and their models, and as many priors
+pub record Seven (types : List ℕ) (ps qs : List ℤ) : Type 0 where
+  pub seven : length types ≡ 7
+  pub numbers : length ps ≡ 42
+  pub places : length qs ≡ 42
+
+-- and the priors in range
+pub record HeaderReady (types : List ℕ) (ps qs : List ℤ) : Type 0 where
+  pub all : Seven types ps qs
+  pub within : priorsOut qs ≡ false
+
+-- the type bits as a field
+pub record TypeFieldIs (gmType : ℕ) (r : TypeField) : Type 0 where
+  pub bits : fieldBits (r .n) (r .value) ≡ typeBits gmType
+  pub few : r .n ≤ 3

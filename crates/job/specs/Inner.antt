@@ -1,0 +1,44 @@
+-- What the functions below the public calls ask and answer; no public contract cites it.
+-- Assumes nothing.
+use Prim.Native.Nat.{ℕ}
+use mathlib.Core.List.{List}
+use lib.Dec.{eqb}
+use lib.IntN.{ℤ}
+use lib.ListN.{length}
+use Rattle.laws.specs.Refusal.{choose}
+use Rattle.block.specs.Frame.{blocksLeft}
+use Rattle.header.specs.Writing.{written, headerAfter}
+use Rattle.job_task.specs.declared.Settings.{Settings}
+use Rattle.job_model.specs.declared.Modelled.{Modelled}
+use Rattle.job_model.specs.Modelled.{modelled}
+use Rattle.job_outcome.specs.declared.Report.{Report}
+use Rattle.job_outcome.specs.Outcome.{refused}
+
+-- the report of a job whose words are there, and what it leaves in blocks and header
+pub record Finished : Type 0 where
+  pub report : Report
+  pub blocks : List ℕ
+  pub header : List ℕ
+
+abbrev pub finish : Report → List ℕ → List ℕ → Finished
+finish r b h = record { report = r; blocks = b; header = h }
+
+-- the report of a model, of the bits written and of the samples
+abbrev pub reportOf : Modelled → ℕ → ℕ → Report
+reportOf m bits samples =
+    record { refusal = 0; types = m .types; models = m .models; score = m .score; bits = bits; samples = samples }
+
+-- a model written out: the words into blocks, the seven models into the header
+abbrev pub writtenOut : Modelled → Settings → List ℤ → List ℕ → List ℕ → List ℕ → Finished
+writtenOut m s prior ws blocks header =
+    finish
+    (reportOf m (written 0 (m .types) (m .models) (s .flag) prior (length header) .bits) (length ws))
+    (blocksLeft (s .frame) ws blocks)
+    (headerAfter 0 (m .types) (m .models) (s .flag) prior header)
+
+-- the model written out; a refused one leaves blocks and header as they were
+abbrev pub finishedAs : Modelled → Settings → List ℤ → List ℕ → List ℕ → List ℕ → Finished
+finishedAs m s prior ws blocks header = choose (eqb (m .refusal) 0) (writtenOut m s prior ws blocks header) (finish (refused (m .refusal)) blocks header)
+
+unfoldable pub finished : Settings → List ℕ → List ℤ → List ℤ → List ℕ → List ℕ → List ℕ → Finished
+finished s types models prior ws blocks header = finishedAs (modelled s types models ws) s prior ws blocks header

@@ -1,0 +1,12 @@
+-- A table judged group by group: the first group that refuses answers; after a quiet one the rest does.
+-- Assumes nothing.
+use Prim.Native.Nat.{ℕ}
+use mathlib.Core.Path.{_≡_, sym, _∙_}
+use Rattle.laws.specs.Refusal.{orElse}
+use Rattle.laws.proofs.Refusal.{or-else-refused, or-else-none}
+
+pub stops : {n a : ℕ} (b : ℕ) → n ≡ a → (n ≡ 0 → ⊥) → n ≡ orElse a b
+stops {n} {a} b e h = e ∙ or-else-refused a b (λ z. h (e ∙ z))
+
+pub goes-on : {n a m b : ℕ} → n ≡ a → n ≡ 0 → m ≡ b → m ≡ orElse a b
+goes-on {n} {a} {m} {b} e z f = f ∙ or-else-none a b (sym e ∙ z)

@@ -1,0 +1,34 @@
+-- What holds of a job once none of the rows before its search does.
+-- Assumes nothing.
+use Prim.Native.Nat.{ℕ, _*_, _≤_}
+use mathlib.Core.Bool.{false}
+use mathlib.Core.Path.{_≡_}
+use lib.ListN.{length, getD}
+use Rattle.search.specs.Search.{sampleCount}
+use Rattle.search.specs.Refusal as search
+use Rattle.models.specs.Models.{typesOver, modelsWrong, priorsOut}
+use Rattle.layout.specs.Form.{blockBytes, blocksOf}
+use Rattle.form1.specs.Block.{form1}
+use Rattle.job_task.specs.Task.{Task, Lent, searchTask, searchLent}
+use Rattle.job_task.specs.Inner.{InRange}
+use Rattle.job_task.specs.Rows.{otherTypes, otherNumbers, priorNumbers, headerBytes}
+
+-- what goes in
+pub record Sound (j : Task) : Type 0 where
+  pub narrow : j .width ≤ 1024
+  pub low : j .height ≤ 1024
+  pub classed : (k : ℕ) → getD (j .classes) k 0 ≤ 3
+  pub six : length (j .types) ≡ otherTypes
+  pub numbers : length (j .models) ≡ otherNumbers
+  pub places : length (j .prior) ≡ priorNumbers
+  pub range : InRange (j .settings)
+  pub known : typesOver (j .types) ≡ false
+  pub right : modelsWrong (j .types) (j .settings .flag) (j .models) ≡ false
+  pub within : priorsOut (j .prior) ≡ false
+
+-- and what is lent
+pub record Ready (j : Task) (l : Lent) : Type 0 where
+  pub sound : Sound j
+  pub searched : search.refusal (searchTask j) (searchLent l) ≡ 0
+  pub blocks-room : blockBytes * blocksOf form1 (sampleCount (j .width) (j .height)) ≤ length (l .blocks)
+  pub header-room : headerBytes ≤ length (l .header)

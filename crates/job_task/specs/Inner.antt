@@ -1,0 +1,12 @@
+-- What the functions below the public calls ask and answer; no public contract cites it.
+-- Assumes nothing.
+use Prim.Native.Nat.{_≤_}
+use Rattle.job_task.specs.declared.Settings.{Settings}
+
+-- settings that rows 4 and 5 let pass: the type asked for, the reference, the flag
+pub record InRange (s : Settings) : Type 0 where
+  pub some-type : 1 ≤ s .«gm_type»
+  pub last-type : s .«gm_type» ≤ 3
+  pub some-reference : 1 ≤ s .reference
+  pub last-reference : s .reference ≤ 7
+  pub flagged : s .flag ≤ 1

@@ -1,2 +1,0 @@
-pub mod Offset
-pub mod Clamped

@@ -1,3 +1,0 @@
-pub mod Clamp
-pub mod Difference
-pub mod Ready
