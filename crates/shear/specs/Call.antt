@@ -1,4 +1,4 @@
--- The shear check of a model: when it says no (document 01, rows 2, 4 and 7; document 02, order 3), and what it answers.
+-- The shear check of a model: when it says no (docs/RULES.md, rows 2, 4 and 7), and what it answers.
 -- The precision flag plays no part: no slot of ROTZOOM and AFFINE has a grid that depends on it.
 -- Assumes nothing.
 use Prim.Native.Nat.{ℕ}

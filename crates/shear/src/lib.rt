@@ -1,6 +1,6 @@
 // The shear check: a type and six numbers of a model go in, the four shear numbers of its warp and
-// whether a decoder keeps the warp come out. Answers to document 02, order 3, rows 2, 4 and 7 of
-// document 01, and clauses 7.11.3.6 and 7.11.3.7 of the standard, whose names it has.
+// whether a decoder keeps the warp come out. Answers to docs/RULES.md, 'Shear', rows 2, 4 and 7 of
+// docs/RULES.md, and clauses 7.11.3.6 and 7.11.3.7 of the standard, whose names it has.
 mod table;
 
 ghost use mathlib.Core.Path.{_≡_};
@@ -26,7 +26,7 @@ const DIV_LUT_BITS: u32 = 8;
 
 const DIV_LUT_PREC_BITS: u32 = 14;
 
-// Rows of document 01's table.
+// Rows of the rules' table.
 const WRONG_LENGTH: u32 = 2;
 
 const NO_SUCH_TYPE: u32 = 4;

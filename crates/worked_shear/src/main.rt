@@ -1,5 +1,5 @@
 // Replays the list of shear checks: 2,000 answers of libaom, then the worked values and refusals of
-// document 02, order 3.
+// docs/RULES.md, 'Shear'.
 ghost use Prim.Native.Nat.{_≤_};
 use shear::Shear;
 

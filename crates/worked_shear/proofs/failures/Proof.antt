@@ -1,4 +1,4 @@
--- `failures` meets its contract: at most one failure a case.
+-- `failures`: at most one failure a case.
 -- Assumes nothing.
 use Prim.Native.Nat.{_≤_, _-_}
 use borrow.Author.Needs.{needs}

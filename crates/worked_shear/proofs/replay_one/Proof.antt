@@ -1,4 +1,4 @@
--- `replay_one` is safe and ends: six numbers are stored, and at most six are handed on.
+-- `replay_one`: six numbers are stored, and at most six are handed on.
 -- Assumes nothing.
 use Prim.Native.Nat.{_≤_, _-_, _%_}
 use mathlib.Core.Path.{_≡_, sym}
