@@ -147,6 +147,8 @@ struct belt_settings { uint16_t frame; uint8_t type; uint8_t reference; uint8_t 
 struct belt_report {
     uint32_t refusal; uint8_t types[7]; struct belt_stored_model models[7]; double score; size_t bits; size_t samples;
 };
+/* Whether a decoder keeps the warp (1 or 0), and its shear numbers, whether it does or not. */
+struct belt_shear { uint32_t refusal; uint32_t valid; int32_t alpha; int32_t beta; int32_t gamma; int32_t delta; };
 
 /* Motion search ('Search').
    In: two planes of width x height pels, row by row, and a class for each whole 16x16 block.
@@ -252,6 +254,12 @@ struct belt_report belt_job(
     uint32_t *words, size_t word_room,
     uint8_t *blocks, size_t blocks_room,
     uint8_t *header, size_t header_room);
+
+/* The shear check: will a decoder keep a model's warp?
+   In: type 2 or 3 and the model's six numbers. Out: the verdict and the four shear numbers, multiples of 64
+   at 16 fraction bits.
+   Refuses: 2, 4, 7 (types 0 and 1 too). */
+struct belt_shear belt_setup_shear(uint8_t type, const int32_t *params, size_t param_count);
 
 #ifdef __cplusplus
 }

@@ -6,6 +6,7 @@ pub mod blocks;
 pub mod header_files;
 pub mod list;
 mod ported;
+pub mod shear_files;
 mod stand_ins;
 
 use ported::{encoder, uncompressed_header_tail};
@@ -126,6 +127,12 @@ pub fn quantize_model(model: &[f64; 6], kind: u8, high: bool, samples: &[[f64; 4
 
 pub fn quantize_global_param(kind: u8, high: bool, slot: usize, value: i32) -> i32 {
     frame_obu::quantize_global_param(type_of(kind), high, slot, value)
+}
+
+/// The verdict and alpha, beta, gamma, delta of a codable ROTZOOM or AFFINE model, by a writing of clause 7.11.3.6.
+pub fn shear(params: &[i32; 6]) -> Option<(bool, [i32; 4])> {
+    inter_pred::setup_shear(*params)
+        .map(|shear| (shear.warp_valid, [shear.alpha, shear.beta, shear.gamma, shear.delta]))
 }
 
 /// `encode_inter_global_motion`: the bytes, padded with zeros, and the number of bits.

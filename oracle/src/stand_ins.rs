@@ -13,15 +13,64 @@ pub mod frame_header {
     pub const PRIMARY_REF_NONE: u8 = 7;
 }
 
+/// stand-in: the shear of a warp, written from clauses 7.11.3.6 and 7.11.3.7 and section 4.7, with the standard's names.
 pub mod inter_pred {
+    const WARPEDMODEL_PREC_BITS: u32 = 16;
+    const WARP_PARAM_REDUCE_BITS: u32 = 6;
+    const DIV_LUT_BITS: u32 = 8;
+    const DIV_LUT_PREC_BITS: u32 = 14;
+
     /// stand-in: the answer of `setup_shear`.
     pub struct Shear {
         pub warp_valid: bool,
+        pub alpha: i32,
+        pub beta: i32,
+        pub gamma: i32,
+        pub delta: i32,
     }
 
-    /// stand-in: never called; only the election uses it, and the oracle doesn't answer for the election.
-    pub fn setup_shear(_params: [i32; 6]) -> Option<Shear> {
-        unimplemented!("setup_shear isn't among the published files")
+    /// Section 4.7.
+    fn round2(x: u64, n: u32) -> u64 {
+        if n == 0 { x } else { (x + (1 << (n - 1))) >> n }
+    }
+
+    fn round2_signed(x: i64, n: u32) -> i64 {
+        if x >= 0 { round2(x as u64, n) as i64 } else { -(round2(-x as u64, n) as i64) }
+    }
+
+    /// Div_Lut: 4,194,304 / (256 + f), to the nearest.
+    fn div_lut(f: u64) -> i64 {
+        (2 * (1 << (DIV_LUT_BITS + DIV_LUT_PREC_BITS)) + (256 + f as i64)) / (2 * (256 + f as i64))
+    }
+
+    /// Clause 7.11.3.7: divShift and divFactor.
+    fn resolve_divisor(d: i64) -> (u32, i64) {
+        let n = d.unsigned_abs().ilog2();
+        let e = d.unsigned_abs() - (1 << n);
+        let f = if n > DIV_LUT_BITS { round2(e, n - DIV_LUT_BITS) } else { e << (DIV_LUT_BITS - n) };
+        (n + DIV_LUT_PREC_BITS, if d < 0 { -div_lut(f) } else { div_lut(f) })
+    }
+
+    /// Clause 7.11.3.6. `None` for a divisor that is not above 0, of which the clause says nothing.
+    pub fn setup_shear(params: [i32; 6]) -> Option<Shear> {
+        let [_, _, p2, p3, p4, p5] = params.map(i64::from);
+        if p2 <= 0 {
+            return None;
+        }
+        let clamped = |x: i64| x.clamp(-32768, 32767);
+        let (div_shift, div_factor) = resolve_divisor(p2);
+        let alpha0 = clamped(p2 - (1 << WARPEDMODEL_PREC_BITS));
+        let beta0 = clamped(p3);
+        let v = p4 << WARPEDMODEL_PREC_BITS;
+        let gamma0 = clamped(round2_signed(v * div_factor, div_shift));
+        let w = p3 * p4;
+        let delta0 = clamped(p5 - round2_signed(w * div_factor, div_shift) - (1 << WARPEDMODEL_PREC_BITS));
+        let reduced = |x: i64| round2_signed(x, WARP_PARAM_REDUCE_BITS) << WARP_PARAM_REDUCE_BITS;
+        let [alpha, beta, gamma, delta] = [alpha0, beta0, gamma0, delta0].map(reduced);
+        let under = |sum: i64| sum < 1 << WARPEDMODEL_PREC_BITS;
+        let warp_valid = under(4 * alpha.abs() + 7 * beta.abs()) && under(4 * gamma.abs() + 4 * delta.abs());
+        let [alpha, beta, gamma, delta] = [alpha, beta, gamma, delta].map(|x| x as i32);
+        Some(Shear { warp_valid, alpha, beta, gamma, delta })
     }
 }
 

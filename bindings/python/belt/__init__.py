@@ -173,6 +173,16 @@ class Fitted(NamedTuple):
     numbers: Tuple[float, ...]
 
 
+class Shear(NamedTuple):
+    """Whether a decoder keeps a warp, and its shear numbers at 16 fraction bits."""
+
+    valid: bool
+    alpha: int
+    beta: int
+    gamma: int
+    delta: int
+
+
 class Frame(NamedTuple):
     number: int
     samples: int
@@ -431,3 +441,11 @@ def job(input_y, reference, width, height, settings, classes, buffers, types=(0,
         _list(buffers.header, c_uint8, "header", True),
     )
     return Report(tuple(report.types), _models(report.models), report.score, report.bits, report.samples)
+
+
+def setup_shear(gm_type, params):
+    """Will a decoder keep the warp of a model of type 2 or 3? A Shear of its six numbers, which are the same in both
+    orders. Refuses 2, 4, 7."""
+    numbers = [(c_int32 * len(params))(*map(_signed, params)), len(params)]
+    read = _call("belt_setup_shear", _code(gm_type, "gm_type"), numbers)
+    return Shear(read.valid == 1, read.alpha, read.beta, read.gamma, read.delta)

@@ -25,6 +25,17 @@ class QuantizedParam(ctypes.Structure):
     _fields_ = [("refusal", c_uint32), ("value", c_int32)]
 
 
+class Shear(ctypes.Structure):
+    _fields_ = [
+        ("refusal", c_uint32),
+        ("valid", c_uint32),
+        ("alpha", c_int32),
+        ("beta", c_int32),
+        ("gamma", c_int32),
+        ("delta", c_int32),
+    ]
+
+
 class Score(ctypes.Structure):
     _fields_ = [("refusal", c_uint32), ("score", c_double)]
 
@@ -89,6 +100,7 @@ CALLS = {
     "belt_list_block": (_BYTES + [POINTER(c_uint8 * 4096)], c_size_t),
     "belt_encode_inter_global_motion": (_BYTES + _NUMBERS + [c_uint8] + _NUMBERS + _BYTES, Written),
     "belt_read_global_motion_params": (_BYTES + [c_size_t, c_uint8] + _NUMBERS, Models),
+    "belt_setup_shear": ([c_uint8] + _NUMBERS, Shear),
     "belt_job": (
         _PELS
         + _PELS

@@ -182,13 +182,15 @@ class Jobs(unittest.TestCase):
         self.assertEqual(after, before)
 
 
-class Refusals(unittest.TestCase):
+class Refused(unittest.TestCase):
     def refused(self, number, call, *arguments, **named):
         with self.assertRaises(Refusal) as caught:
             call(*arguments, **named)
         self.assertEqual((caught.exception.number, caught.exception.text), (number, belt.REFUSALS[number]))
         self.assertEqual(str(caught.exception), f"{number}: {belt.REFUSALS[number]}")
 
+
+class Refusals(Refused):
     def test_the_table(self):
         self.assertEqual(list(belt.REFUSALS), [1, 2, 4, 5, 7, 8, 12, 3, 6, 9, 10, 11])
         rules = (Path(__file__).resolve().parents[3] / "docs" / "RULES.md").read_text(encoding="utf-8")
@@ -352,6 +354,16 @@ class Refusals(unittest.TestCase):
         self.refused(8, belt.read_global_motion_params, header, 0, 1, out)
         self.refused(9, belt.read_global_motion_params, b"", 0, 1, IDENTITIES)
         self.refused(9, belt.read_global_motion_params, header, 2**64 - 1, 1, IDENTITIES)
+
+
+class Shears(Refused):
+    def test_shear(self):
+        kept = belt.setup_shear(3, Model((0, 0, 65536, 8192, -8192, 65536)))
+        self.assertEqual((kept.valid, kept.beta, kept.gamma, kept.delta), (True, 8192, -8192, 1024))
+        self.assertFalse(belt.setup_shear(3, Model((0, 0, 67584, 8192, 0, 65536))).valid)
+        self.refused(2, belt.setup_shear, 3, belt.STILL[:5])
+        self.refused(4, belt.setup_shear, 4, belt.STILL)
+        self.refused(7, belt.setup_shear, 1, belt.STILL)
 
 
 class Taken(unittest.TestCase):

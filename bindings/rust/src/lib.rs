@@ -533,3 +533,36 @@ pub fn job(task: &Task<'_>, lent: &mut Lent<'_>) -> Result<Report, Refusal> {
         },
     )
 }
+
+/// The shear numbers of a warp, at 16 fraction bits, and whether a decoder keeps the warp.
+#[derive(Clone, Copy, Debug, PartialEq, Eq)]
+pub struct Shear {
+    /// Whether a decoder keeps the warp.
+    pub valid: bool,
+    /// Slot 2 less 1, clamped and rounded to a multiple of 64, as the next three are.
+    pub alpha: i32,
+    /// Slot 3.
+    pub beta: i32,
+    /// Slot 4 divided by slot 2.
+    pub gamma: i32,
+    /// Slot 5 less slot 3 times slot 4 divided by slot 2, less 1.
+    pub delta: i32,
+}
+
+/// Will a decoder keep the warp of a rotation-zoom (2) or an affine model (3)? The four numbers are given whether it
+/// does or not. Its six numbers are the same in both orders.
+///
+/// # Errors
+///
+/// [`Refusal::WrongLength`], [`Refusal::NoSuchCode`], [`Refusal::OffGrid`].
+///
+/// ```
+/// let kept = belt::setup_shear(3, &[0, 0, 65536, 8192, -8192, 65536]).unwrap();
+/// assert_eq!((kept.valid, kept.beta, kept.gamma, kept.delta), (true, 8192, -8192, 1024));
+/// assert_eq!(belt::setup_shear(1, &[0, 0, 65536, 0, 0, 65536]), Err(belt::Refusal::OffGrid));
+/// ```
+pub fn setup_shear(gm_type: u8, params: &[i32]) -> Result<Shear, Refusal> {
+    let raw::Shear { refusal, valid, alpha, beta, gamma, delta } = raw::setup_shear(gm_type, params);
+    let shear = Shear { valid: valid == 1, alpha, beta, gamma, delta };
+    judged_lists(refusal, shear, || [Length::of("params", params, 6)], || [])
+}

@@ -40,6 +40,16 @@ pub struct QuantizedParam {
 }
 
 #[repr(C)]
+pub struct Shear {
+    pub refusal: u32,
+    pub valid: u32,
+    pub alpha: i32,
+    pub beta: i32,
+    pub gamma: i32,
+    pub delta: i32,
+}
+
+#[repr(C)]
 pub struct Score {
     pub refusal: u32,
     pub score: f64,
@@ -150,6 +160,7 @@ unsafe extern "C" {
         prior: *const i32,
         prior_count: usize,
     ) -> Models;
+    fn belt_setup_shear(gm_type: u8, params: *const i32, count: usize) -> Shear;
     fn belt_job(
         input: *const u16,
         input_pels: usize,
@@ -339,4 +350,9 @@ pub fn job(
             header.len(),
         )
     }
+}
+
+pub fn setup_shear(gm_type: u8, params: &[i32]) -> Shear {
+    // SAFETY: one slice is read.
+    unsafe { belt_setup_shear(gm_type, params.as_ptr(), params.len()) }
 }

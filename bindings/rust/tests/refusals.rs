@@ -3,7 +3,7 @@
 mod frames;
 
 use belt::Refusal::{self, *};
-use belt::{Buffers, Fitted, IDENTITIES, Length, Model, StoredModel};
+use belt::{Buffers, Fitted, IDENTITIES, Length, Model, Shear, StoredModel};
 use frames::{Handed, guarded, noisy_plane};
 
 /// Words that rise, at zero motion.
@@ -323,4 +323,25 @@ fn headers_written_and_read() {
     assert_eq!(read(&[], 0, 1, &IDENTITIES), Err(EndsFirst));
     assert_eq!(read(&header, 24, 1, &IDENTITIES), Err(EndsFirst));
     assert_eq!(read(&header, usize::MAX, 1, &IDENTITIES), Err(EndsFirst));
+}
+
+#[test]
+fn setup_shear() {
+    let model = |linear: [i32; 4]| [0, 0, linear[0], linear[1], linear[2], linear[3]];
+    let still = Model::IDENTITY.0;
+    for (linear, valid, [alpha, beta, gamma, delta]) in [
+        ([67584, 8192, 0, 65536], false, [2048, 8192, 0, 0]),
+        ([67520, 8192, 0, 65536], true, [1984, 8192, 0, 0]),
+        ([65536, 0, 8192, 73696], false, [0, 0, 8192, 8192]),
+        ([65536, 0, 8192, 73694], true, [0, 0, 8192, 8128]),
+        ([58790, -1166, -6684, 73728], true, [-6720, -1152, -7488, 8064]),
+    ] {
+        assert_eq!(belt::setup_shear(3, &model(linear)), Ok(Shear { valid, alpha, beta, gamma, delta }));
+    }
+    assert_eq!(belt::setup_shear(4, &still[..5]), Err(wrong("params", 5, 6)));
+    assert_eq!(belt::setup_shear(4, &model([65537, 0, 0, 65536])), Err(NoSuchCode));
+    assert_eq!(belt::setup_shear(0, &still), Err(OffGrid));
+    assert_eq!(belt::setup_shear(1, &still), Err(OffGrid));
+    assert_eq!(belt::setup_shear(3, &model([65537, 0, 0, 65536])), Err(OffGrid));
+    assert_eq!(belt::setup_shear(2, &model([65536, 2, 2, 65536])), Err(OffGrid));
 }

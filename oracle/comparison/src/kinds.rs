@@ -26,7 +26,7 @@ pub struct Kind {
     pub compare: fn(&mut Case) -> Result<(), String>,
 }
 
-pub const KINDS: [Kind; 12] = [
+pub const KINDS: [Kind; 13] = [
     Kind { name: "search", share: 4, compare: search },
     Kind { name: "fit translation", share: 4, compare: |case| fit(case, 1) },
     Kind { name: "fit rotation-zoom", share: 4, compare: |case| fit(case, 2) },
@@ -39,6 +39,7 @@ pub const KINDS: [Kind; 12] = [
     Kind { name: "header read, damaged", share: 8, compare: header_damaged },
     Kind { name: "job", share: 6, compare: job },
     Kind { name: "blocks, by docs/RULES.md", share: 4, compare: stored_frame },
+    Kind { name: "shear, by clause 7.11.3.6", share: 6, compare: shear },
 ];
 
 fn same<T: PartialEq + Debug>(what: &str, library: T, rust: T) -> Result<(), String> {
@@ -481,4 +482,15 @@ fn frame_read(case: &mut Case, mut bytes: Vec<u8>) -> Result<(), String> {
         same("text of a block", belt::list_block(block, &mut text).to_owned(), blocks::text(block))?;
     }
     Ok(())
+}
+
+/// A codable model of a type that warps, against the stand-in, which is a writing of the clause.
+fn shear(case: &mut Case) -> Result<(), String> {
+    let random = &mut case.random;
+    let (kind, high) = (2 + random.below(2) as u8, random.one_in(2));
+    let model = stored_model(random, kind, high);
+    case.note("type, model", (kind, model));
+    let ours =
+        belt::setup_shear(kind, &model).map(|shear| (shear.valid, [shear.alpha, shear.beta, shear.gamma, shear.delta]));
+    same("shear", ours.ok(), oracle::shear(&model))
 }
