@@ -1,0 +1,5 @@
+pub mod Value
+pub mod Stands
+pub mod Interval
+pub mod ExactSum
+pub mod Counts
