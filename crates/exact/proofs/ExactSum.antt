@@ -12,7 +12,7 @@ use lib.Ieee.{Float, ofBits, fits}
 use Rattle.laws.specs.Loops.{fold}
 use Rattle.laws.specs.Binary64.{_⊕_, nought}
 use Rattle.laws.proofs.Signed.{natAbs-add-le}
-use Rattle.exact.specs.Stands.{Stands, Each, sumOf}
+use Rattle.exact.specs.Stands.{Stands, Bounded, Each, sumOf}
 use Rattle.exact.proofs.Stands.{add-exact}
 
 pub nought-stands : (s : ℕ) → Stands s (pos 0) nought
@@ -24,13 +24,15 @@ each-take P zero xs e = tt
 each-take P (suc k) [] e = tt
 each-take P (suc k) (x ∷ xs) e = (e .0, each-take P k xs (e .1))
 
-module _ {A : Type 0} (s B : ℕ) (term : A → Float) (whole : A → ℤ) (low : s ≤ 1074) where
-  -- a term of the sum
-  pub record Bounded (x : A) : Type 0 where
-    pub stands : Stands s (whole x) (term x)
-    pub within : natAbs (whole x) ≤ B
+pub each-map : {A : Type 0} (P Q : A → Type 0) → ((x : A) → P x → Q x) → (xs : List A) → Each P xs → Each Q xs
+each-map P Q f [] e = tt
+each-map P Q f (x ∷ xs) e = (f x (e .0), each-map P Q f xs (e .1))
 
-  sum-from : (xs : List A) (z : ℤ) (a : Float) → Stands s z a → natAbs z + length xs * B ≤ 2 ^ 53 → Each Bounded xs
+module _ {A : Type 0} (s B : ℕ) (term : A → Float) (whole : A → ℤ) (low : s ≤ 1074) where
+  abbrev Term : A → Type 0
+  Term x = Bounded s B (whole x) (term x)
+
+  sum-from : (xs : List A) (z : ℤ) (a : Float) → Stands s z a → natAbs z + length xs * B ≤ 2 ^ 53 → Each Term xs
       → Stands s (z +ℤ sumOf whole xs) (fold (λ (t : Float) (x : A). t ⊕ term x) xs a)
   sum-from [] z a p l e = rw (+ℤ-idr z) p
   sum-from (x ∷ xs) z a p l e =
@@ -40,10 +42,10 @@ module _ {A : Type 0} (s B : ℕ) (term : A → Float) (whole : A → ℤ) (low 
       (add-exact low p (e .0 .stands) (omega arith)) fits (e .1))
 
   module _ (N : ℕ) (room : N * B ≤ 2 ^ 53) where
-    pub sum-exact : (xs : List A) → length xs ≤ N → Each Bounded xs → Stands s (sumOf whole xs) (fold (λ (t : Float) (x : A). t ⊕ term x) xs nought)
+    pub sum-exact : (xs : List A) → length xs ≤ N → Each Term xs → Stands s (sumOf whole xs) (fold (λ (t : Float) (x : A). t ⊕ term x) xs nought)
     sum-exact xs few e = rw (+ℤ-idl (sumOf whole xs)) at (sum-from xs (pos 0) nought (nought-stands s) (omega (arith, mul-le-mul-right B few)) e)
 
     -- and so has every part of it
-    pub part-exact : (k : ℕ) (xs : List A) → length xs ≤ N → Each Bounded xs
+    pub part-exact : (k : ℕ) (xs : List A) → length xs ≤ N → Each Term xs
         → Stands s (sumOf whole (take k xs)) (fold (λ (t : Float) (x : A). t ⊕ term x) (take k xs) nought)
-    part-exact k xs few e = sum-exact (take k xs) (omega (arith, length-take k xs)) (each-take Bounded k xs e)
+    part-exact k xs few e = sum-exact (take k xs) (omega (arith, length-take k xs)) (each-take Term k xs e)

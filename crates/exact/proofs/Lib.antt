@@ -3,3 +3,4 @@ pub mod Stands
 pub mod Interval
 pub mod ExactSum
 pub mod Counts
+pub mod Terms

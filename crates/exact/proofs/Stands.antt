@@ -154,9 +154,9 @@ module _ {s : ℕ} {z w : ℤ} {x y : Float} (low : s ≤ 1074) (p : Stands s z 
       (over-stands s (z -ℤ w) low l)
 
 -- a product by a number above 0: +0 times a number below 0 would be −0
-module _ {s t : ℕ} {z : ℤ} {k : ℕ} {x y : Float} (low : s + t ≤ 1074) (p : Stands s z x) (above : 0 < k) (q : Stands t (pos k) y) (room : natAbs z * k ≤ 2 ^ 53) where
+module _ {s t : ℕ} {z : ℤ} {k : ℕ} {x y : Float} (low : s + t ≤ 1074) (p : Stands s z x) (above : 0 < k) (q : Stands t (pos k) y) (room : natAbs (z *ℤ pos k) ≤ 2 ^ 53) where
   product-stands : Stands (s + t) (z *ℤ pos k) (over (s + t) (z *ℤ pos k))
-  product-stands = over-stands (s + t) (z *ℤ pos k) low (rw (product-size z k) room)
+  product-stands = over-stands (s + t) (z *ℤ pos k) low room
 
   pub mul-exact : Stands (s + t) (z *ℤ pos k) (x ⊗ y)
   mul-exact =

@@ -1,6 +1,6 @@
 -- What it is for a binary64 to stand for a whole number over a power of two, and a whole-number sum over a list.
 -- Assumes nothing.
-use Prim.Native.Nat.{ℕ, _^_}
+use Prim.Native.Nat.{ℕ, _^_, _≤_}
 use mathlib.Core.Bool.{Bool, true, false}
 use mathlib.Core.List.{List, [], _∷_}
 use lib.Dec.{T}
@@ -17,6 +17,11 @@ negative (negsuc n) = true
 pub record Stands (s : ℕ) (z : ℤ) (x : Float) : Type 0 where
   pub held : T (fits binary64 x)
   pub value : HasValue x (negative z) (natAbs z) (2 ^ s)
+
+-- and the magnitude of z is at most B
+pub record Bounded (s B : ℕ) (z : ℤ) (x : Float) : Type 0 where
+  pub stands : Stands s z x
+  pub within : natAbs z ≤ B
 
 -- the whole numbers of a list's elements, added
 abbrev pub sumOf : {A : Type 0} → (A → ℤ) → List A → ℤ
