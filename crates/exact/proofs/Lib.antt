@@ -4,3 +4,5 @@ pub mod Interval
 pub mod ExactSum
 pub mod Counts
 pub mod Terms
+pub mod Table
+pub mod Fits

@@ -104,9 +104,9 @@ pub record Row (r : Sum) : Type 0 where
   pub room : mostSamples * r .most ≤ 2 ^ 53
   pub term : (w : ℕ) → Word w → Bounded (r .scale) (r .most) (r .whole w) (r .term (sampleOf w))
 
-pub row : (r : Sum) (lo hi : ℕ) → r .scale ≤ 1074 → mostSamples * r .most ≤ 2 ^ 53 → lo ≤ r .most → hi ≤ r .most
+pub row : (r : Sum) {lo hi : ℕ} → r .scale ≤ 1074 → mostSamples * r .most ≤ 2 ^ 53 → lo ≤ r .most → hi ≤ r .most
     → ((w : ℕ) → Word w → Reads (r .scale) lo hi (r .whole w) (r .term (sampleOf w))) → Row r
-row r lo hi low room below above reads =
+row r low room below above reads =
     record {
       low = low;
       room = room;
@@ -136,44 +136,43 @@ module _ (w : ℕ) (h : Word w) where
   y-times r t = times (halves-above (rowOf w)) y-reads r t
 
 pub row-u : Row sumU
-row-u = row sumU lowEighths highEighths (lit≤ tt) (lit≤ tt) (lit≤ tt) (lit≤ tt) (λ w h. u-reads w h)
+row-u = row sumU (lit≤ tt) (lit≤ tt) (lit≤ tt) (lit≤ tt) (λ w h. u-reads w h)
 
 pub row-v : Row sumV
-row-v = row sumV lowEighths highEighths (lit≤ tt) (lit≤ tt) (lit≤ tt) (lit≤ tt) (λ w h. v-reads w h)
+row-v = row sumV (lit≤ tt) (lit≤ tt) (lit≤ tt) (lit≤ tt) (λ w h. v-reads w h)
 
 pub row-x : Row sumX
-row-x = row sumX 0 mostHalves (lit≤ tt) (lit≤ tt) (lit≤ tt) (lit≤ tt) (λ w h. x-reads w h)
+row-x = row sumX (lit≤ tt) (lit≤ tt) (lit≤ tt) (lit≤ tt) (λ w h. x-reads w h)
 
 pub row-y : Row sumY
-row-y = row sumY 0 mostHalves (lit≤ tt) (lit≤ tt) (lit≤ tt) (lit≤ tt) (λ w h. y-reads w h)
+row-y = row sumY (lit≤ tt) (lit≤ tt) (lit≤ tt) (lit≤ tt) (λ w h. y-reads w h)
 
 pub row-xx : Row sumXX
-row-xx = row sumXX 0 (mostHalves * mostHalves) (lit≤ tt) (lit≤ tt) (lit≤ tt) (lit≤ tt) (λ w h. x-times w h (x-reads w h) tt)
+row-xx = row sumXX (lit≤ tt) (lit≤ tt) (lit≤ tt) (lit≤ tt) (λ w h. x-times w h (x-reads w h) tt)
 
 pub row-xy : Row sumXY
-row-xy = row sumXY 0 (mostHalves * mostHalves) (lit≤ tt) (lit≤ tt) (lit≤ tt) (lit≤ tt) (λ w h. x-times w h (y-reads w h) tt)
+row-xy = row sumXY (lit≤ tt) (lit≤ tt) (lit≤ tt) (lit≤ tt) (λ w h. x-times w h (y-reads w h) tt)
 
 pub row-yy : Row sumYY
-row-yy = row sumYY 0 (mostHalves * mostHalves) (lit≤ tt) (lit≤ tt) (lit≤ tt) (lit≤ tt) (λ w h. y-times w h (y-reads w h) tt)
+row-yy = row sumYY (lit≤ tt) (lit≤ tt) (lit≤ tt) (lit≤ tt) (λ w h. y-times w h (y-reads w h) tt)
 
 pub row-xu : Row sumXU
-row-xu = row sumXU (mostHalves * lowEighths) (mostHalves * highEighths) (lit≤ tt) (lit≤ tt) (lit≤ tt) (lit≤ tt) (λ w h. x-times w h (u-reads w h) tt)
+row-xu = row sumXU (lit≤ tt) (lit≤ tt) (lit≤ tt) (lit≤ tt) (λ w h. x-times w h (u-reads w h) tt)
 
 pub row-yu : Row sumYU
-row-yu = row sumYU (mostHalves * lowEighths) (mostHalves * highEighths) (lit≤ tt) (lit≤ tt) (lit≤ tt) (lit≤ tt) (λ w h. y-times w h (u-reads w h) tt)
+row-yu = row sumYU (lit≤ tt) (lit≤ tt) (lit≤ tt) (lit≤ tt) (λ w h. y-times w h (u-reads w h) tt)
 
 pub row-xv : Row sumXV
-row-xv = row sumXV (mostHalves * lowEighths) (mostHalves * highEighths) (lit≤ tt) (lit≤ tt) (lit≤ tt) (lit≤ tt) (λ w h. x-times w h (v-reads w h) tt)
+row-xv = row sumXV (lit≤ tt) (lit≤ tt) (lit≤ tt) (lit≤ tt) (λ w h. x-times w h (v-reads w h) tt)
 
 pub row-yv : Row sumYV
-row-yv = row sumYV (mostHalves * lowEighths) (mostHalves * highEighths) (lit≤ tt) (lit≤ tt) (lit≤ tt) (lit≤ tt) (λ w h. y-times w h (v-reads w h) tt)
+row-yv = row sumYV (lit≤ tt) (lit≤ tt) (lit≤ tt) (lit≤ tt) (λ w h. y-times w h (v-reads w h) tt)
 
 pub row-q : Row sumQ
-row-q = row sumQ 0 _ (lit≤ tt) (lit≤ tt) (lit≤ tt) (lit≤ tt) (λ w h. joined (x-times w h (x-reads w h) tt) (y-times w h (y-reads w h) tt) tt)
+row-q = row sumQ (lit≤ tt) (lit≤ tt) (lit≤ tt) (lit≤ tt) (λ w h. joined (x-times w h (x-reads w h) tt) (y-times w h (y-reads w h) tt) tt)
 
 pub row-p1 : Row sumP1
-row-p1 = row sumP1 _ _ (lit≤ tt) (lit≤ tt) (lit≤ tt) (lit≤ tt) (λ w h. joined (x-times w h (u-reads w h) tt) (y-times w h (v-reads w h) tt) tt)
+row-p1 = row sumP1 (lit≤ tt) (lit≤ tt) (lit≤ tt) (lit≤ tt) (λ w h. joined (x-times w h (u-reads w h) tt) (y-times w h (v-reads w h) tt) tt)
 
 pub row-p2 : Row sumP2
-row-p2 = row sumP2 _ _ (lit≤ tt) (lit≤ tt) (lit≤ tt) (lit≤ tt) (λ w h. apart (y-times w h (u-reads w h) tt) (x-times w h (v-reads w h) tt) tt)
-
+row-p2 = row sumP2 (lit≤ tt) (lit≤ tt) (lit≤ tt) (lit≤ tt) (λ w h. apart (y-times w h (u-reads w h) tt) (x-times w h (v-reads w h) tt) tt)

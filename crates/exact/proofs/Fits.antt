@@ -1,0 +1,85 @@
+-- Two lists in which each word stands equally often have the same fit of every type, by bits or refused alike: a fit takes the sums and the count, and each sum is one number.
+-- Assumes nothing.
+use Prim.Native.Nat.{ℕ, _≤_, _<_}
+use mathlib.Core.List.{List}
+use mathlib.Core.Logic.{⊎-elim}
+use mathlib.Core.Path.{_≡_, refl, sym, ap, _∙_}
+use borrow.Author.Tests.{lt-ltb}
+use lib.Dec.{eqb}
+use lib.ListN.{length}
+use Rattle.laws.specs.Refusal.{choose}
+use Rattle.laws.specs.Call.{answered}
+use Rattle.laws.proofs.Cases.{lt-or-le}
+use Rattle.sample.specs.Word.{mostSamples}
+use Rattle.fit.specs.declared.Fitted.{Fitted}
+use Rattle.fit.specs.declared.Fitted.the-variants.{Refused}
+use Rattle.fit.specs.Sums.{countAs, translationTotals, rotZoomTotals, affineTotals, translationSums, rotZoomSums, affineSums}
+use Rattle.fit.specs.Fitted.{translationFit, rotZoomFit, affineFit, fitOf, fitRefusal, fitted, translationOf, rotZoomOf, rotZoomSystem, affineOf, affineU, affineV}
+use Rattle.exact.specs.Words.{Words, SameWords}
+use Rattle.exact.proofs.Counts.{same-length}
+use Rattle.exact.proofs.Terms.{row-u, row-v, row-x, row-y, row-xx, row-xy, row-yy, row-xu, row-yu, row-xv, row-yv, row-q, row-p1, row-p2}
+use Rattle.exact.proofs.Table.{same-sum}
+
+too-many : (gmType : ℕ) (ws : List ℕ) → mostSamples < length ws → fitted gmType ws ≡ Refused 1
+too-many gmType ws h = rw (lt-ltb mostSamples (length ws) h)
+
+module _ {ws vs : List ℕ} (same : SameWords ws vs) (words : Words ws) where
+  module _ (few : length ws ≤ mostSamples) where
+    pub same-translation-sums : translationSums ws ≡ translationSums vs
+    unfolding translationTotals
+    same-translation-sums = λ i. record { su = same-sum same words few _ row-u i; sv = same-sum same words few _ row-v i }
+
+    pub same-rotzoom-sums : rotZoomSums ws ≡ rotZoomSums vs
+    unfolding rotZoomTotals
+    same-rotzoom-sums =
+        λ i.
+        record {
+          sx = same-sum same words few _ row-x i;
+          sy = same-sum same words few _ row-y i;
+          q = same-sum same words few _ row-q i;
+          p1 = same-sum same words few _ row-p1 i;
+          p2 = same-sum same words few _ row-p2 i;
+          su = same-sum same words few _ row-u i;
+          sv = same-sum same words few _ row-v i;
+        }
+
+    pub same-affine-sums : affineSums ws ≡ affineSums vs
+    unfolding affineTotals
+    same-affine-sums =
+        λ i.
+        record {
+          sx = same-sum same words few _ row-x i;
+          sy = same-sum same words few _ row-y i;
+          sxx = same-sum same words few _ row-xx i;
+          sxy = same-sum same words few _ row-xy i;
+          syy = same-sum same words few _ row-yy i;
+          sxu = same-sum same words few _ row-xu i;
+          syu = same-sum same words few _ row-yu i;
+          su = same-sum same words few _ row-u i;
+          sxv = same-sum same words few _ row-xv i;
+          syv = same-sum same words few _ row-yv i;
+          sv = same-sum same words few _ row-v i;
+        }
+
+    pub same-translation : translationFit ws ≡ translationFit vs
+    unfolding translationFit
+    same-translation = rw (same-length same, same-translation-sums)
+
+    pub same-rotzoom : rotZoomFit ws ≡ rotZoomFit vs
+    unfolding rotZoomFit
+    same-rotzoom = rw (same-length same, same-rotzoom-sums)
+
+    pub same-affine : affineFit ws ≡ affineFit vs
+    unfolding affineFit
+    same-affine = rw (same-length same, same-affine-sums)
+
+    pub same-fit-of : (gmType : ℕ) → fitOf gmType ws ≡ fitOf gmType vs
+    same-fit-of gmType = rw (same-translation, same-rotzoom, same-affine)
+
+  -- for every type code and any length: a list of more than 4,096 is refused, and so is the other
+  pub same-fit : (gmType : ℕ) → fitted gmType ws ≡ fitted gmType vs
+  same-fit gmType =
+      ⊎-elim
+      (λ (h : mostSamples < length ws). too-many gmType ws h ∙ sym (too-many gmType vs (rw (same-length same) at h)))
+      (λ (h : length ws ≤ mostSamples). rw (same-length same, same-fit-of h gmType))
+      (lt-or-le mostSamples (length ws))
