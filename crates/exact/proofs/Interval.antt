@@ -49,3 +49,7 @@ between-mul k most (negsuc a) {lo} {hi} h b = between-neg (pos (k * suc a)) {lo 
 pub between-size : (z : ℤ) {lo hi most : ℕ} → lo ≤ most → hi ≤ most → Between lo hi z → natAbs z ≤ most
 between-size (pos n) p q b = omega arith
 between-size (negsuc n) p q b = omega arith
+
+pub between-of-size : (z : ℤ) {most : ℕ} → natAbs z ≤ most → Between most most z
+between-of-size (pos n) h = omega arith
+between-of-size (negsuc n) h = omega arith

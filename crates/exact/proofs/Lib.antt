@@ -6,3 +6,4 @@ pub mod Counts
 pub mod Terms
 pub mod Table
 pub mod Fits
+pub mod Refit

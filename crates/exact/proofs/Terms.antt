@@ -3,6 +3,7 @@
 use Prim.Native.Nat.{ℕ, suc, _+_, _*_, _^_, _≤_, _<_, zero-le}
 use mathlib.Core.Bool.{Bool, _&&_}
 use mathlib.Core.Path.{_≡_, refl, sym, ap, _∙_, subst}
+use native.Mathlib.Nat.{le-refl}
 use native.Mathlib.Omega.{arith}
 use lib.Dec.{T, leb, leb→le, lit≤}
 use lib.IntN.{ℤ, pos, negsuc, natAbs, _+ℤ_, _-ℤ_, _*ℤ_, *ℤ-comm}
@@ -16,7 +17,7 @@ use Rattle.exact.specs.Stands.{Stands, Bounded}
 use Rattle.exact.specs.Words.{Word}
 use Rattle.exact.specs.Table.{halvesOf, xHalves, yHalves, uEighths, vEighths, mostHalves, lowEighths, highEighths}
 use Rattle.exact.specs.Table.{Sum, sumU, sumV, sumX, sumY, sumXX, sumXY, sumYY, sumXU, sumYU, sumXV, sumYV, sumQ, sumP1, sumP2}
-use Rattle.exact.proofs.Stands.{ofInt-stands, add-exact, sub-exact, mul-exact-by, div-exact, finer}
+use Rattle.exact.proofs.Stands.{ofInt-stands, add-exact, sub-exact, mul-exact, mul-exact-by, div-exact, finer}
 use Rattle.exact.proofs.Interval.{Between, between-subℕ, between-add, between-sub, between-mul, between-size}
 
 -- x stands for z / 2 ^ s, and z lies between −lo and hi
@@ -27,7 +28,7 @@ pub record Reads (s lo hi : ℕ) (z : ℤ) (x : Float) : Type 0 where
 -- ---- what combines
 
 -- the power is one that the format reaches, and the bounds are within 2 ^ 53: a test that computes
-abbrev roomy : ℕ → ℕ → ℕ → Bool
+abbrev pub roomy : ℕ → ℕ → ℕ → Bool
 roomy s lo hi = leb s 1074 && (leb lo (2 ^ 53) && leb hi (2 ^ 53))
 
 pub record Room (s lo hi : ℕ) : Type 0 where
@@ -67,6 +68,19 @@ times {s = s} {t = t} {most = most} {lo = lo} {hi = hi} {k = k} {w = w} h p q c 
       stands = mul-exact-by (r .low) (q .stands) h (p .stands) (rw (*ℤ-comm (pos k) w) at (between-size (pos k *ℤ w) (r .below) (r .above) b));
       between = b;
     }
+
+-- the second factor is above 0
+pub times-right : {s t most lo hi k : ℕ} {w : ℤ} {x y : Float} → 0 < k → Reads t 0 most (pos k) x → Reads s lo hi w y → T (roomy (s + t) (most * lo) (most * hi))
+    → Reads (s + t) (most * lo) (most * hi) (w *ℤ pos k) (y ⊗ x)
+times-right {s = s} {t = t} {most = most} {lo = lo} {hi = hi} {k = k} {w = w} h p q c =
+    let r = room (s + t) (most * lo) (most * hi) c in
+    let b = rw (*ℤ-comm (pos k) w) at (between-mul k most w (p .between .high) (q .between)) in
+    record { stands = mul-exact (r .low) (q .stands) h (p .stands) (between-size (w *ℤ pos k) (r .below) (r .above) b); between = b }
+
+-- the same number over a higher power
+pub scaled : {s lo hi : ℕ} {w : ℤ} {x : Float} (t : ℕ) → Reads s lo hi w x → Reads (s + t) (2 ^ t * lo) (2 ^ t * hi) (w *ℤ pos (2 ^ t)) x
+scaled {w = w} t q =
+    record { stands = finer t (q .stands); between = rw (*ℤ-comm (pos (2 ^ t)) w) at (between-mul (2 ^ t) (2 ^ t) w (le-refl (2 ^ t)) (q .between)) }
 
 -- ---- the four numbers of a sample
 
@@ -114,16 +128,16 @@ row r low room below above reads =
     }
 
 module _ (w : ℕ) (h : Word w) where
-  x-reads : Reads 1 0 mostHalves (xHalves w) (centreOf (colOf w))
+  pub x-reads : Reads 1 0 mostHalves (xHalves w) (centreOf (colOf w))
   x-reads = centre-reads (colOf w) (col-below w)
 
-  y-reads : Reads 1 0 mostHalves (yHalves w) (centreOf (rowOf w))
+  pub y-reads : Reads 1 0 mostHalves (yHalves w) (centreOf (rowOf w))
   y-reads = centre-reads (rowOf w) (row-below w h)
 
-  u-reads : Reads 3 lowEighths highEighths (uEighths w) (pelsOf (uOf w))
+  pub u-reads : Reads 3 lowEighths highEighths (uEighths w) (pelsOf (uOf w))
   u-reads = pels-reads (uOf w) (u-below w)
 
-  v-reads : Reads 3 lowEighths highEighths (vEighths w) (pelsOf (vOf w))
+  pub v-reads : Reads 3 lowEighths highEighths (vEighths w) (pelsOf (vOf w))
   v-reads = pels-reads (vOf w) (v-below w)
 
   -- x or y times a number

@@ -1,3 +1,4 @@
 pub mod Stands
 pub mod Words
 pub mod Table
+pub mod Refit
