@@ -14,7 +14,7 @@ use Rattle.sample.specs.Word.{mostSamples}
 use Rattle.fit.specs.declared.Fitted.{Fitted}
 use Rattle.fit.specs.declared.Fitted.the-variants.{Refused}
 use Rattle.fit.specs.Sums.{countAs, translationTotals, rotZoomTotals, affineTotals, translationSums, rotZoomSums, affineSums}
-use Rattle.fit.specs.Fitted.{translationFit, rotZoomFit, affineFit, fitOf, fitRefusal, fitted, translationOf, rotZoomOf, rotZoomSystem, affineOf, affineU, affineV}
+use Rattle.fit.specs.Fitted.{translationFit, rotZoomFit, affineFit, fitOf, fitted, fitAnswer}
 use Rattle.exact.specs.Words.{Words, SameWords}
 use Rattle.exact.proofs.Counts.{same-length}
 use Rattle.exact.proofs.Terms.{row-u, row-v, row-x, row-y, row-xx, row-xy, row-yy, row-xu, row-yu, row-xv, row-yv, row-q, row-p1, row-p2}
@@ -83,3 +83,20 @@ module _ {ws vs : List ℕ} (same : SameWords ws vs) (words : Words ws) where
       (λ (h : mostSamples < length ws). too-many gmType ws h ∙ sym (too-many gmType vs (rw (same-length same) at h)))
       (λ (h : length ws ≤ mostSamples). rw (same-length same, same-fit-of h gmType))
       (lt-or-le mostSamples (length ws))
+
+  -- and each fit called by its name
+  same-answer : (fit : List ℕ → Fitted) → (length ws ≤ mostSamples → fit ws ≡ fit vs) → fitAnswer (length ws) (fit ws) ≡ fitAnswer (length vs) (fit vs)
+  same-answer fit e =
+      ⊎-elim
+      (λ (h : mostSamples < length ws). let k : mostSamples < length vs = rw (same-length same) at h in rw (lt-ltb mostSamples (length ws) h, lt-ltb mostSamples (length vs) k))
+      (λ (h : length ws ≤ mostSamples). rw (same-length same, e h))
+      (lt-or-le mostSamples (length ws))
+
+  pub same-fit-translation : fitAnswer (length ws) (translationFit ws) ≡ fitAnswer (length vs) (translationFit vs)
+  same-fit-translation = same-answer translationFit same-translation
+
+  pub same-fit-rotzoom : fitAnswer (length ws) (rotZoomFit ws) ≡ fitAnswer (length vs) (rotZoomFit vs)
+  same-fit-rotzoom = same-answer rotZoomFit same-rotzoom
+
+  pub same-fit-affine : fitAnswer (length ws) (affineFit ws) ≡ fitAnswer (length vs) (affineFit vs)
+  same-fit-affine = same-answer affineFit same-affine

@@ -7,3 +7,4 @@ pub mod Terms
 pub mod Table
 pub mod Fits
 pub mod Refit
+pub mod Worked
