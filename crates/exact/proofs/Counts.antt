@@ -1,6 +1,6 @@
 -- Lists in which each word stands equally often have equal whole-number sums: the first word of one is taken out of the other, wherever it stands, and what is left agrees again.
 -- Assumes nothing.
-use Prim.Native.Nat.{ℕ, zero, suc, _+_, _<_}
+use Prim.Native.Nat.{ℕ, suc, _+_, _<_}
 use mathlib.Core.List.{List, [], _∷_}
 use mathlib.Core.Logic.{⊎-elim}
 use mathlib.Core.Path.{_≡_, refl, sym, ap, _∙_, subst}
@@ -12,7 +12,7 @@ use lib.IntN.{ℤ, pos, natAbs, _+ℤ_, +ℤ-assoc, +ℤ-comm}
 use lib.ListN.{length}
 use Rattle.laws.specs.Refusal.{choose}
 use Rattle.laws.proofs.Cases.{eq-or-ne}
-use Rattle.exact.specs.Stands.{Each, sumOf}
+use Rattle.laws.specs.Stands.{Each, sumOf}
 use Rattle.exact.specs.Words.{times, SameWords}
 
 -- the list without the first w
@@ -26,7 +26,7 @@ sum-without whole w (v ∷ vs) h =
     ⊎-elim
     (λ (e : v ≡ w). rw (eq-eqb v w e) (ap (λ (k : ℕ). whole k +ℤ sumOf whole vs) e))
     (λ (e : v ≡ w → ⊥).
-    let l : 0 < 0 + times w vs = rw (ne-eqb v w e) at h in
+    let l = rw (ne-eqb v w e) at h in
     rw (ne-eqb v w e)
     (ap (λ (z : ℤ). whole v +ℤ z) (sum-without whole w vs (omega arith))
     ∙ sym (+ℤ-assoc (whole v) (whole w) (sumOf whole (without w vs)))
@@ -77,7 +77,7 @@ each-counted P [] e w h = absurd (omega arith)
 each-counted P (v ∷ vs) e w h =
     ⊎-elim
     (λ (q : v ≡ w). subst P q (e .0))
-    (λ (q : v ≡ w → ⊥). let l : 0 < 0 + times w vs = rw (ne-eqb v w q) at h in each-counted P vs (e .1) w (omega arith))
+    (λ (q : v ≡ w → ⊥). let l = rw (ne-eqb v w q) at h in each-counted P vs (e .1) w (omega arith))
     (eq-or-ne v w)
 
 counted-each : (P : ℕ → Type 0) (ws : List ℕ) → ((w : ℕ) → 0 < times w ws → P w) → Each P ws

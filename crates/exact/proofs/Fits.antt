@@ -3,17 +3,14 @@
 use Prim.Native.Nat.{ℕ, _≤_, _<_}
 use mathlib.Core.List.{List}
 use mathlib.Core.Logic.{⊎-elim}
-use mathlib.Core.Path.{_≡_, refl, sym, ap, _∙_}
+use mathlib.Core.Path.{_≡_, sym, _∙_}
 use borrow.Author.Tests.{lt-ltb}
-use lib.Dec.{eqb}
 use lib.ListN.{length}
-use Rattle.laws.specs.Refusal.{choose}
-use Rattle.laws.specs.Call.{answered}
 use Rattle.laws.proofs.Cases.{lt-or-le}
 use Rattle.sample.specs.Word.{mostSamples}
 use Rattle.fit.specs.declared.Fitted.{Fitted}
 use Rattle.fit.specs.declared.Fitted.the-variants.{Refused}
-use Rattle.fit.specs.Sums.{countAs, translationTotals, rotZoomTotals, affineTotals, translationSums, rotZoomSums, affineSums}
+use Rattle.fit.specs.Sums.{translationTotals, rotZoomTotals, affineTotals, translationSums, rotZoomSums, affineSums}
 use Rattle.fit.specs.Fitted.{translationFit, rotZoomFit, affineFit, fitOf, fitted, fitAnswer}
 use Rattle.exact.specs.Words.{Words, SameWords}
 use Rattle.exact.proofs.Counts.{same-length}

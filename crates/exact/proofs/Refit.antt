@@ -1,21 +1,20 @@
 -- The translation refit is exact too: the linear part of a model on the grid is a whole number of at most 8,192 over 2 ^ 16 from the identity, so what it leaves of a motion stands for a whole
 -- number over 2 ^ 17, and the one law of bounded sums serves again. So two orders of the same words have the same model on the grid.
 -- Assumes nothing.
-use Prim.Native.Nat.{ℕ, suc, _+_, _*_, _^_, _≤_, _<_, zero-le}
-use mathlib.Core.Bool.{Bool, _&&_}
+use Prim.Native.Nat.{ℕ, _+_, _*_, _≤_, _<_, zero-le}
 use mathlib.Core.List.{List}
 use mathlib.Core.Logic.{⊎-elim}
 use mathlib.Core.Path.{_≡_, refl, sym, ap, _∙_, subst}
 use native.Mathlib.Omega.{arith}
 use borrow.Author.Tests.{lt-ltb}
-use lib.Dec.{T, lit≤}
-use lib.IntN.{ℤ, pos, negsuc, negℤ, natAbs, _+ℤ_, _-ℤ_, _*ℤ_, *ℤ-comm, +ℤ-negℤ-cancel, -ℤ-+ℤ-cancel, +ℤ-idr}
+use lib.Dec.{lit≤}
+use lib.IntN.{ℤ, pos, natAbs, _+ℤ_, _-ℤ_, _*ℤ_, +ℤ-negℤ-cancel, -ℤ-+ℤ-cancel, +ℤ-idr}
 use lib.ListN.{length}
-use lib.Ieee.{Float, ofBits, fits}
-use Rattle.laws.specs.Binary64.{_⊖_, _⊗_, one}
+use lib.Ieee.{ofBits, fits}
+use Rattle.laws.specs.Binary64.{_⊖_, one}
 use Rattle.laws.proofs.Cases.{lt-or-le}
 use Rattle.laws.proofs.Signed.{natAbs-add-le}
-use Rattle.grid.specs.Grid.{Codable, Ordinal}
+use Rattle.grid.specs.Grid.{Codable}
 use Rattle.grid.proofs.Table.{row-codable}
 use Rattle.sample.specs.Word.{mostSamples, rowOf, colOf}
 use Rattle.fit.specs.declared.Fitted.{Fitted}
@@ -25,13 +24,14 @@ use Rattle.grid_number.specs.GridNumber.{gridNumber, scale}
 use Rattle.score.specs.Score.{continuousOf}
 use Rattle.quantize.specs.declared.Linear.{Linear}
 use Rattle.quantize.specs.Quantize.{linearOf, refitTotals, refitted, params, refusedModel, quantizedModel}
-use Rattle.exact.specs.Stands.{Stands}
-use Rattle.exact.specs.Words.{Word, Words, SameWords}
+use Rattle.laws.specs.Stands.{wholeLimit, Stands}
+use Rattle.exact.specs.Words.{Words, SameWords}
 use Rattle.exact.specs.Refit.{whole1, mostTurn, sumLeftU, sumLeftV}
-use Rattle.exact.proofs.Stands.{ofInt-stands, sub-exact, div-exact, product-size}
-use Rattle.exact.proofs.Interval.{Between, between-neg, between-size, between-of-size}
+use Rattle.laws.proofs.Stands.{ofInt-stands, sub-exact, div-exact, product-size}
+use Rattle.laws.proofs.Interval.{Between, between-neg, between-size, between-of-size}
 use Rattle.exact.proofs.Counts.{same-length}
-use Rattle.exact.proofs.Terms.{Reads, Row, row, joined, apart, scaled, times-right, x-reads, y-reads, u-reads, v-reads, halves-above}
+use Rattle.laws.proofs.Ranged.{Ranged, sum-ranged, difference-ranged, finer-ranged, right-product-ranged}
+use Rattle.exact.proofs.Terms.{Summable, row, x-ranged, y-ranged, u-ranged, v-ranged, halves-above}
 use Rattle.exact.proofs.Table.{same-sum}
 use Rattle.exact.proofs.Fits.{same-fit}
 
@@ -52,16 +52,16 @@ pub record Near (l : Linear) : Type 0 where
   pub five : Between mostTurn mostTurn (l .p5 -ℤ pos whole1)
 
 -- a number of slots 3 and 4
-pub number-reads : (z : ℤ) → Between mostTurn mostTurn z → Reads 16 mostTurn mostTurn z (continuousOf z)
-number-reads z b =
-    let l : natAbs z ≤ 2 ^ 53 = between-size z (lit≤ tt) (lit≤ tt) b in
+pub number-ranged : (z : ℤ) → Between mostTurn mostTurn z → Ranged 16 mostTurn mostTurn z (continuousOf z)
+number-ranged z b =
+    let l : natAbs z ≤ wholeLimit = between-size z (lit≤ tt) (lit≤ tt) b in
     record { stands = div-exact 16 (lit≤ tt) (ofInt-stands z l) scale-stands l; between = b }
 
 -- a number of slots 2 and 5, less 1
-pub turn-reads : (z : ℤ) → Between mostTurn mostTurn (z -ℤ pos whole1) → Reads 16 mostTurn mostTurn (z -ℤ pos whole1) (continuousOf z ⊖ one)
-turn-reads z b =
+pub turn-ranged : (z : ℤ) → Between mostTurn mostTurn (z -ℤ pos whole1) → Ranged 16 mostTurn mostTurn (z -ℤ pos whole1) (continuousOf z ⊖ one)
+turn-ranged z b =
     let d : natAbs (z -ℤ pos whole1) ≤ mostTurn = between-size (z -ℤ pos whole1) (lit≤ tt) (lit≤ tt) b in
-    let l : natAbs z ≤ 2 ^ 53 = subst (λ (k : ℤ). natAbs k ≤ 2 ^ 53) (-ℤ-+ℤ-cancel z (pos whole1)) (omega (arith, natAbs-add-le (z -ℤ pos whole1) (pos whole1))) in
+    let l : natAbs z ≤ wholeLimit = subst (λ (k : ℤ). natAbs k ≤ wholeLimit) (-ℤ-+ℤ-cancel z (pos whole1)) (omega (arith, natAbs-add-le (z -ℤ pos whole1) (pos whole1))) in
     record {
       stands = sub-exact (lit≤ tt) (div-exact 16 (lit≤ tt) (ofInt-stands z l) scale-stands l) one-stands (omega arith);
       between = b;
@@ -70,20 +70,20 @@ turn-reads z b =
 -- ---- each sum of the refit
 
 module _ (l : Linear) (near : Near l) where
-  pub row-left-u : Row (sumLeftU l)
+  pub row-left-u : Summable (sumLeftU l)
   row-left-u =
       row (sumLeftU l) (lit≤ tt) (lit≤ tt) (lit≤ tt) (lit≤ tt)
       (λ w h.
-      apart (scaled 14 (u-reads w h))
-      (joined (times-right (halves-above (colOf w)) (x-reads w h) (turn-reads (l .p2) (near .two)) tt) (times-right (halves-above (rowOf w)) (y-reads w h) (number-reads (l .p3) (near .three)) tt) tt)
+      difference-ranged (finer-ranged 14 (u-ranged w h))
+      (sum-ranged (right-product-ranged (halves-above (colOf w)) (x-ranged w h) (turn-ranged (l .p2) (near .two)) tt) (right-product-ranged (halves-above (rowOf w)) (y-ranged w h) (number-ranged (l .p3) (near .three)) tt) tt)
       tt)
 
-  pub row-left-v : Row (sumLeftV l)
+  pub row-left-v : Summable (sumLeftV l)
   row-left-v =
       row (sumLeftV l) (lit≤ tt) (lit≤ tt) (lit≤ tt) (lit≤ tt)
       (λ w h.
-      apart (scaled 14 (v-reads w h))
-      (joined (times-right (halves-above (colOf w)) (x-reads w h) (number-reads (l .p4) (near .four)) tt) (times-right (halves-above (rowOf w)) (y-reads w h) (turn-reads (l .p5) (near .five)) tt) tt)
+      difference-ranged (finer-ranged 14 (v-ranged w h))
+      (sum-ranged (right-product-ranged (halves-above (colOf w)) (x-ranged w h) (number-ranged (l .p4) (near .four)) tt) (right-product-ranged (halves-above (rowOf w)) (y-ranged w h) (turn-ranged (l .p5) (near .five)) tt) tt)
       tt)
 
 -- ---- a model on the grid is near the identity

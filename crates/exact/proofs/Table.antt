@@ -4,7 +4,7 @@
 use Prim.Native.Nat.{ℕ, _≤_}
 use mathlib.Core.List.{List}
 use mathlib.Core.Path.{_≡_, sym, subst}
-use native.Mathlib.Nat.{le-trans, le-of-eq}
+use native.Mathlib.Nat.{le-trans}
 use native.Mathlib.Omega.{arith}
 use lib.Dec.{lit≤}
 use lib.IntN.{ℤ, pos}
@@ -12,17 +12,17 @@ use lib.ListN.{length, take}
 use Rattle.sample.specs.Word.{mostSamples}
 use Rattle.sample.specs.Sample.{sampleOf}
 use Rattle.fit.specs.Sums.{countOf}
-use Rattle.exact.specs.Stands.{Stands, Bounded, Each, sumOf}
+use Rattle.laws.specs.Stands.{Stands, Bounded, Each}
 use Rattle.exact.specs.Words.{Word, Words, SameWords}
 use Rattle.exact.specs.Table.{Sum, sums, summed, Exact}
-use Rattle.exact.proofs.Stands.{ofInt-stands, stands-once}
-use Rattle.exact.proofs.ExactSum.{sum-exact, part-exact, each-map}
+use Rattle.laws.proofs.Stands.{ofInt-stands, stands-once}
+use Rattle.laws.proofs.ExactSum.{sum-exact, part-exact, each-map}
 use Rattle.exact.proofs.Counts.{same-whole-sum, same-length, same-each}
-use Rattle.exact.proofs.Terms.{Row, row-u, row-v, row-x, row-y, row-xx, row-xy, row-yy, row-xu, row-yu, row-xv, row-yv, row-q, row-p1, row-p2}
+use Rattle.exact.proofs.Terms.{Summable, row-u, row-v, row-x, row-y, row-xx, row-xy, row-yy, row-xu, row-yu, row-xv, row-yv, row-q, row-p1, row-p2}
 
 -- ---- each sum
 
-module _ (r : Sum) (row : Row r) (ws : List ℕ) (words : Words ws) (few : length ws ≤ mostSamples) where
+module _ (r : Sum) (row : Summable r) (ws : List ℕ) (words : Words ws) (few : length ws ≤ mostSamples) where
   terms : Each (λ (w : ℕ). Bounded (r .scale) (r .most) (r .whole w) (r .term (sampleOf w))) ws
   terms = each-map Word (λ (w : ℕ). Bounded (r .scale) (r .most) (r .whole w) (r .term (sampleOf w))) (row .term) ws words
 
@@ -37,16 +37,16 @@ pub count-exact : (ws : List ℕ) → length ws ≤ mostSamples → Stands 0 (po
 count-exact ws few = ofInt-stands (pos (length ws)) (le-trans few (lit≤ tt))
 
 -- the whole table
-pub rows : Each Row sums
+pub rows : Each Summable sums
 rows = (row-u, (row-v, (row-x, (row-y, (row-xx, (row-xy, (row-yy, (row-xu, (row-yu, (row-xv, (row-yv, (row-q, (row-p1, (row-p2, tt))))))))))))))
 
 pub table-exact : (ws : List ℕ) → Words ws → length ws ≤ mostSamples → Each (λ (r : Sum). Exact r ws) sums
-table-exact ws words few = each-map Row (λ (r : Sum). Exact r ws) (λ r row. exact r row ws words few) sums rows
+table-exact ws words few = each-map Summable (λ (r : Sum). Exact r ws) (λ r row. exact r row ws words few) sums rows
 
 -- ---- two orders
 
 module _ {ws vs : List ℕ} (same : SameWords ws vs) (words : Words ws) (few : length ws ≤ mostSamples) where
-  pub same-sum : (r : Sum) → Row r → summed r ws ≡ summed r vs
+  pub same-sum : (r : Sum) → Summable r → summed r ws ≡ summed r vs
   same-sum r row =
       stands-once (exact r row ws words few)
       (subst (λ (z : ℤ). Stands (r .scale) z (summed r vs)) (sym (same-whole-sum (r .whole) ws vs same))

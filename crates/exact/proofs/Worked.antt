@@ -1,21 +1,21 @@
 -- Worked: 4,096 words FFFFFFFC, each sum through the law; each bound of the table is reached by a word; and two orders of three free numbers with two sums, so the laws must ask for words.
 -- Assumes nothing.
-use Prim.Native.Nat.{ℕ, zero, suc, _+_, _*_, _^_, _≤_}
+use Prim.Native.Nat.{ℕ, zero, suc, _*_, _^_, _≤_}
 use mathlib.Core.List.{List, [], _∷_}
 use mathlib.Core.Path.{_≡_, refl, sym, ap, _∙_, subst}
 use native.Mathlib.Nat.{le-of-eq, zero-add, suc-mul, add-comm, zero-mul}
 use lib.Dec.{lit≤}
-use lib.IntN.{ℤ, pos, natAbs, _+ℤ_, _*ℤ_}
-use lib.ListN.{length, replicate, length-replicate}
+use lib.IntN.{ℤ, pos, natAbs}
+use lib.ListN.{replicate, length-replicate}
 use lib.Ieee.{Float, binary64, add, ofInt, ofBits}
 use Rattle.laws.specs.Binary64.{nought, one}
 use Rattle.sample.specs.Word.{mostSamples, wordOf}
 use Rattle.fit.specs.Sums.{total}
-use Rattle.exact.specs.Stands.{Stands, Each, sumOf}
-use Rattle.exact.specs.Words.{Word, Words}
+use Rattle.laws.specs.Stands.{wholeLimit, Stands, Each, sumOf}
+use Rattle.exact.specs.Words.{Word}
 use Rattle.exact.specs.Table.{Sum, sumU, sumV, sumX, sumY, sumXX, sumXY, sumYY, sumXU, sumYU, sumXV, sumYV, sumQ, sumP1, sumP2, summed}
-use Rattle.exact.proofs.Stands.{ofInt-stands, stands-once, finer}
-use Rattle.exact.proofs.Terms.{Row, row-u, row-x, row-xx, row-xu, row-q, row-p1, row-p2}
+use Rattle.laws.proofs.Stands.{ofInt-stands, stands-once, finer}
+use Rattle.exact.proofs.Terms.{Summable, row-u, row-x, row-xx, row-xu, row-q, row-p1, row-p2}
 use Rattle.exact.proofs.Table.{exact}
 
 -- ---- the last word, 4,096 times
@@ -35,7 +35,7 @@ each-replicate P w zero p = tt
 each-replicate P w (suc n) p = (p, each-replicate P w n p)
 
 -- a sum of one numerator k is the whole number n
-sum-is : (r : Sum) → Row r → (k n : ℕ) → r .whole lastWord ≡ pos k → mostSamples * k ≡ n * 2 ^ (r .scale) → n ≤ 2 ^ 53 → summed r full ≡ ofInt binary64 (pos n)
+sum-is : (r : Sum) → Summable r → (k n : ℕ) → r .whole lastWord ≡ pos k → mostSamples * k ≡ n * 2 ^ (r .scale) → n ≤ wholeLimit → summed r full ≡ ofInt binary64 (pos n)
 sum-is r row k n e m l =
     stands-once
     (subst (λ (z : ℤ). Stands (r .scale) z (summed r full)) (sum-replicate (r .whole) lastWord k mostSamples e ∙ ap pos m)

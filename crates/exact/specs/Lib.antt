@@ -1,4 +1,3 @@
-pub mod Stands
 pub mod Words
 pub mod Table
 pub mod Refit

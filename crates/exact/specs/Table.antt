@@ -1,14 +1,14 @@
 -- A word's sample in whole numbers, and for each sum of the three fits the whole number that its term stands for, over which power of two, and how large that number is at most.
 -- Assumes nothing.
-use Prim.Native.Nat.{ℕ, _+_, _*_, _^_, _≤_}
+use Prim.Native.Nat.{ℕ, _+_, _*_}
 use mathlib.Core.List.{List, [], _∷_}
-use lib.IntN.{ℤ, pos, natAbs, _+ℤ_, _-ℤ_, _*ℤ_}
+use lib.IntN.{ℤ, pos, _+ℤ_, _-ℤ_, _*ℤ_}
 use lib.Ieee.{Float}
 use Rattle.sample.specs.declared.MotionSample.{MotionSample}
-use Rattle.sample.specs.Word.{mostSamples, rowOf, colOf, vOf, uOf}
+use Rattle.sample.specs.Word.{rowOf, colOf, vOf, uOf}
 use Rattle.sample.specs.Sample.{blockSide, eighthsOf, sampleOf}
 use Rattle.fit.specs.Sums.{total, su, sv, sx, sy, sxx, sxy, syy, sxu, syu, sxv, syv, q, p1, p2}
-use Rattle.exact.specs.Stands.{Stands, sumOf}
+use Rattle.laws.specs.Stands.{Stands, sumOf}
 
 -- ---- a word's sample
 

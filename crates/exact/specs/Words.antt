@@ -5,7 +5,7 @@ use mathlib.Core.List.{List, [], _∷_}
 use mathlib.Core.Path.{_≡_}
 use lib.Dec.{eqb}
 use Rattle.laws.specs.Refusal.{choose}
-use Rattle.exact.specs.Stands.{Each}
+use Rattle.laws.specs.Stands.{Each}
 
 -- any 32 bits are a sample word
 abbrev pub Word : ℕ → Type 0

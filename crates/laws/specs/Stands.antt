@@ -1,19 +1,22 @@
 -- What it is for a binary64 to stand for a whole number over a power of two, and a whole-number sum over a list.
 -- Assumes nothing.
 use Prim.Native.Nat.{ℕ, _^_, _≤_}
-use mathlib.Core.Bool.{Bool, true, false}
 use mathlib.Core.List.{List, [], _∷_}
 use lib.Dec.{T}
-use lib.IntN.{ℤ, pos, negsuc, natAbs, _+ℤ_}
+use lib.IntN.{ℤ, pos, natAbs, _+ℤ_}
 use lib.Ieee.{Float, binary64, fits}
 use lib.Ieee.Exact.{HasValue}
+use Rattle.laws.specs.Signed.{negative}
 
--- the sign of a whole number; nought has none, so what stands for it is +0
-abbrev pub negative : ℤ → Bool
-negative (pos n) = false
-negative (negsuc n) = true
+-- up to here every whole number is a binary64
+abbrev pub wholeLimit : ℕ
+wholeLimit = 2 ^ 53
 
--- x is a binary64 of the value z / 2 ^ s
+-- the least binary64 above 0 is 1 / 2 ^ 1074
+abbrev pub leastPower : ℕ
+leastPower = 1074
+
+-- x is a binary64 of the value z / 2 ^ s; nought has no sign, so what stands for it is +0
 pub record Stands (s : ℕ) (z : ℤ) (x : Float) : Type 0 where
   pub held : T (fits binary64 x)
   pub value : HasValue x (negative z) (natAbs z) (2 ^ s)

@@ -1,22 +1,21 @@
 -- What an operation makes of numbers is told by their values alone: it rounds one fraction, whatever way the operands are written, and equal fractions round alike.
 -- Two numbers of a format with one value and sign are one number, since their bits are made from the value.
 -- Assumes nothing.
-use Prim.Native.Nat.{ℕ, _+_, _-_, _*_, _/_, _^_, _≤_, _<_}
-use mathlib.Core.Bool.{Bool, true, false, not, _&&_, cond, Bool·beq}
+use Prim.Native.Nat.{ℕ, _+_, _-_, _*_, _^_, _≤_, _<_}
+use mathlib.Core.Bool.{Bool, not, _&&_}
 use mathlib.Core.Logic.{⊎-elim}
-use mathlib.Core.Path.{_≡_, refl, sym, ap, _∙_, subst}
+use mathlib.Core.Path.{_≡_, sym, ap, _∙_, subst}
 use native.Mathlib.Nat.{mul-assoc, mul-comm, mul-left-comm, mul-right-comm, mul-mul-mul-comm, add-mul, mul-sub, mul-pos, mul-lt-mul-of-pos-right, mul-le-mul-right, lt-of-mul-lt-mul-right, le-of-mul-le-mul-right, eq-of-mul-eq-mul-right, lt-irrefl, zero-mul}
 use native.Mathlib.Omega.{arith}
 use borrow.Author.Tests.{lt-ltb, le-ltb, ne-eqb}
-use lib.Dec.{T, ltb, eqb}
-use lib.IntN.{ℤ, pos}
-use lib.Ieee.{Float, nan, inf, fin, Format, low, unlike, up, down, size, prec, top, hid, ofBits, round, neg, sum, add, sub, mul, div, fits, toBits}
+use lib.Dec.{T, ltb}
+use lib.Ieee.{Float, fin, Format, low, unlike, up, down, ofBits, round, neg, sum, add, sub, mul, div, fits, toBits}
 use lib.Ieee.Bits.{ofBits-toBits}
 use lib.Ieee.Exact.{HasValue}
 use lib.Ieee.Fits.{up-pos, down-pos}
 use lib.Ieee.Nearest.{div-same}
 use lib.Ieee.Scale.{round-same}
 use Rattle.laws.proofs.Cases.{lt-or-le}
 
 -- ---- one sum of fractions
 
@@ -44,7 +43,7 @@ sum-same f s t A B C a b c C0 c0 p q =
       test-alike A B C a b c C0 c0 p q,
       test-alike B A C b a c C0 c0 q p,
       round-same f t (B - A) C (b - a) c C0 c0 (difference-alike B A C b a c C0 c0 q p),
-      round-same f (s && ltb b a) (A - B) C (a - b) c C0 c0 (difference-alike A B C a b c C0 c0 p q)
+      round-same f (s && ltb b a) (A - B) C (a - b) c C0 c0 (difference-alike A B C a b c C0 c0 p q),
     )
 
 -- ---- each operation, by the values of its operands
@@ -102,9 +101,10 @@ bits-of-value f (fin s' m e) (fin t' n d) s a c c0 v w =
     ∙ ap (λ (z : ℕ). a * z) (mul-comm (down e) (down d))
     ∙ sym (widened n (up d) (down d) a c (down e) (w .1))) in
     rw (
-      v .0, w .0,
+      v .0,
+      w .0,
       div-same (m * up e * 2 ^ low f) (down e) (n * up d * 2 ^ low f) (down d) (down-pos e) (down-pos d)
-      (mul-right-comm (m * up e) (2 ^ low f) (down d) ∙ ap (λ (z : ℕ). z * 2 ^ low f) same ∙ mul-right-comm (n * up d) (down e) (2 ^ low f))
+          (mul-right-comm (m * up e) (2 ^ low f) (down d) ∙ ap (λ (z : ℕ). z * 2 ^ low f) same ∙ mul-right-comm (n * up d) (down e) (2 ^ low f)),
     )
 
 pub one-number : (f : Format) (x y : Float) (s : Bool) (a c : ℕ) → 0 < c → T (fits f x) → T (fits f y) → HasValue x s a c → HasValue y s a c → x ≡ y

@@ -2,24 +2,25 @@
 -- 2 ^ 53 over a power that the format reaches isn't rounded. The rounding stays folded in `over`, so that only its end asks for the 2 ^ 53.
 -- Assumes nothing.
 use Prim.Native.Nat.{ℕ, zero, suc, _+_, _-_, _*_, _^_, _≤_, _<_, zero-le}
-use mathlib.Core.Bool.{Bool, true, false, not, _&&_, cond, Bool·beq}
-use mathlib.Core.Logic.{_⊎_, inl, inr, ⊎-elim}
-use mathlib.Core.Path.{_≡_, refl, sym, ap, _∙_, subst}
-use native.Mathlib.Nat.{eq-or-lt-of-le, mul-assoc, mul-comm, mul-one, one-mul, lt-of-lt-of-le, lt-irrefl, add-zero, zero-lt-suc, mul-pos}
+use mathlib.Core.Bool.{Bool, true, false, not}
+use mathlib.Core.Logic.{_⊎_, ⊎-elim}
+use mathlib.Core.Path.{_≡_, refl, sym, ap, _∙_}
+use native.Mathlib.Nat.{eq-or-lt-of-le, mul-assoc, mul-comm, mul-one, one-mul, lt-of-lt-of-le, lt-irrefl, zero-lt-suc, mul-pos}
 use native.Mathlib.Omega.{arith}
 use borrow.Author.Tests.{lt-ltb, le-ltb}
-use lib.Dec.{T, ltb, lit<}
+use lib.Dec.{lit<}
 use lib.IntN.{ℤ, pos, negsuc, negℤ, natAbs, subℕ, _+ℤ_, _-ℤ_, _*ℤ_, *ℤ-comm}
 use lib.Pow.{pow-add, pow-pos, pow-mono, pow-lt, shl-lt}
-use lib.Ieee.{Float, Format, binary64, unlike, round, sum, neg, ofInt, fits}
+use lib.Ieee.{Float, Format, binary64, unlike, round, sum, ofInt}
 use lib.Ieee.Digits.{back}
 use lib.Ieee.Exact.{HasValue, round-exact}
 use lib.Ieee.Fits.{round-fits}
 use Rattle.laws.specs.Binary64.{_⊕_, _⊖_, _⊗_, _⊘_}
 use Rattle.laws.proofs.Cases.{lt-or-le}
 use Rattle.laws.proofs.Signed.{natAbs-neg}
-use Rattle.exact.specs.Stands.{negative, Stands}
-use Rattle.exact.proofs.Value.{add-of-values, sub-of-values, mul-of-values, div-of-values, one-number, enlarged}
+use Rattle.laws.specs.Signed.{negative}
+use Rattle.laws.specs.Stands.{wholeLimit, leastPower, Stands}
+use Rattle.laws.proofs.Value.{add-of-values, sub-of-values, mul-of-values, div-of-values, one-number, enlarged}
 
 -- z / 2 ^ s, rounded once
 abbrev pub over : ℕ → ℤ → Float
@@ -27,7 +28,7 @@ over s z = round binary64 (negative z) (natAbs z) (2 ^ s)
 
 -- ---- no rounding
 
-below-exact : (s n : ℕ) (b : Bool) → s ≤ 1074 → n < 2 ^ 53 → HasValue (round binary64 b n (2 ^ s)) b n (2 ^ s)
+below-exact : (s n : ℕ) (b : Bool) → s ≤ leastPower → n < wholeLimit → HasValue (round binary64 b n (2 ^ s)) b n (2 ^ s)
 below-exact s n b h l =
     round-exact binary64 b n (2 ^ s) n (1074 - s) (pow-pos s) l
     (lt-of-lt-of-le (shl-lt 53 (1074 - s) l) (pow-mono (let k : 53 + (1074 - s) ≤ 2098 = omega arith in k)))
@@ -40,24 +41,24 @@ gap p l s h =
     ∙ pow-add 2 (p + (l - s)) s
     ∙ ap (λ (k : ℕ). k * 2 ^ s) (sym (one-mul (2 ^ (p + (l - s)))))
 
-top-exact : (s : ℕ) (b : Bool) → s ≤ 1074 → HasValue (round binary64 b (2 ^ 53) (2 ^ s)) b (2 ^ 53) (2 ^ s)
+top-exact : (s : ℕ) (b : Bool) → s ≤ leastPower → HasValue (round binary64 b wholeLimit (2 ^ s)) b wholeLimit (2 ^ s)
 top-exact s b h =
-    round-exact binary64 b (2 ^ 53) (2 ^ s) 1 (53 + (1074 - s)) (pow-pos s) (lit< tt)
+    round-exact binary64 b wholeLimit (2 ^ s) 1 (53 + (1074 - s)) (pow-pos s) (lit< tt)
     (rw (one-mul (2 ^ (53 + (1074 - s)))) (pow-lt (let k : 53 + (1074 - s) < 2098 = omega arith in k)))
     (gap 53 1074 s h)
 
-pub over-stands : (s : ℕ) (z : ℤ) → s ≤ 1074 → natAbs z ≤ 2 ^ 53 → Stands s z (over s z)
+pub over-stands : (s : ℕ) (z : ℤ) → s ≤ leastPower → natAbs z ≤ wholeLimit → Stands s z (over s z)
 over-stands s z h l =
     record {
       held = round-fits binary64 (negative z) (natAbs z) (2 ^ s);
       value =
           ⊎-elim
-          (λ (e : natAbs z ≡ 2 ^ 53). rw e (top-exact s (negative z) h))
-          (λ (k : natAbs z < 2 ^ 53). below-exact s (natAbs z) (negative z) h k)
+          (λ (e : natAbs z ≡ wholeLimit). rw e (top-exact s (negative z) h))
+          (λ (k : natAbs z < wholeLimit). below-exact s (natAbs z) (negative z) h k)
           (eq-or-lt-of-le l);
     }
 
-pub ofInt-stands : (z : ℤ) → natAbs z ≤ 2 ^ 53 → Stands 0 z (ofInt binary64 z)
+pub ofInt-stands : (z : ℤ) → natAbs z ≤ wholeLimit → Stands 0 z (ofInt binary64 z)
 unfolding ofInt
 ofInt-stands (pos n) l = over-stands 0 (pos n) zero-le l
 ofInt-stands (negsuc n) l = over-stands 0 (negsuc n) zero-le l
@@ -140,21 +141,21 @@ whole-product z k s t h = rw (pow-add 2 s t, product-sign z k h, product-size z 
 
 -- ---- exact operations
 
-module _ {s : ℕ} {z w : ℤ} {x y : Float} (low : s ≤ 1074) (p : Stands s z x) (q : Stands s w y) where
-  pub add-exact : natAbs (z +ℤ w) ≤ 2 ^ 53 → Stands s (z +ℤ w) (x ⊕ y)
+module _ {s : ℕ} {z w : ℤ} {x y : Float} (low : s ≤ leastPower) (p : Stands s z x) (q : Stands s w y) where
+  pub add-exact : natAbs (z +ℤ w) ≤ wholeLimit → Stands s (z +ℤ w) (x ⊕ y)
   add-exact l =
       stands-as
       (add-of-values binary64 x y (negative z) (negative w) (natAbs z) (natAbs w) (2 ^ s) (pow-pos s) (p .value) (q .value) ∙ whole-sum binary64 (2 ^ s) z w)
       (over-stands s (z +ℤ w) low l)
 
-  pub sub-exact : natAbs (z -ℤ w) ≤ 2 ^ 53 → Stands s (z -ℤ w) (x ⊖ y)
+  pub sub-exact : natAbs (z -ℤ w) ≤ wholeLimit → Stands s (z -ℤ w) (x ⊖ y)
   sub-exact l =
       stands-as
       (sub-of-values binary64 x y (negative z) (negative w) (natAbs z) (natAbs w) (2 ^ s) (pow-pos s) (p .value) (q .value) ∙ whole-difference binary64 (2 ^ s) z w)
       (over-stands s (z -ℤ w) low l)
 
 -- a product by a number above 0: +0 times a number below 0 would be −0
-module _ {s t : ℕ} {z : ℤ} {k : ℕ} {x y : Float} (low : s + t ≤ 1074) (p : Stands s z x) (above : 0 < k) (q : Stands t (pos k) y) (room : natAbs (z *ℤ pos k) ≤ 2 ^ 53) where
+module _ {s t : ℕ} {z : ℤ} {k : ℕ} {x y : Float} (low : s + t ≤ leastPower) (p : Stands s z x) (above : 0 < k) (q : Stands t (pos k) y) (room : natAbs (z *ℤ pos k) ≤ wholeLimit) where
   product-stands : Stands (s + t) (z *ℤ pos k) (over (s + t) (z *ℤ pos k))
   product-stands = over-stands (s + t) (z *ℤ pos k) low room
 
@@ -175,7 +176,7 @@ module _ {s t : ℕ} {z : ℤ} {k : ℕ} {x y : Float} (low : s + t ≤ 1074) (p
       product-stands)
 
 -- a quotient by a power of two
-pub div-exact : {s : ℕ} {z : ℤ} {x y : Float} (t : ℕ) → s + t ≤ 1074 → Stands s z x → Stands 0 (pos (2 ^ t)) y → natAbs z ≤ 2 ^ 53 → Stands (s + t) z (x ⊘ y)
+pub div-exact : {s : ℕ} {z : ℤ} {x y : Float} (t : ℕ) → s + t ≤ leastPower → Stands s z x → Stands 0 (pos (2 ^ t)) y → natAbs z ≤ wholeLimit → Stands (s + t) z (x ⊘ y)
 div-exact {s} {z} {x} {y} t low p q room =
     stands-as
     (div-of-values binary64 x y (negative z) false (natAbs z) (2 ^ t) (2 ^ s) 1 (pow-pos t) (pow-pos s) (zero-lt-suc 0) (p .value) (q .value)

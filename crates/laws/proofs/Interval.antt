@@ -5,21 +5,21 @@ use mathlib.Core.Logic.{⊎-elim}
 use native.Mathlib.Nat.{mul-le-mul}
 use native.Mathlib.Omega.{arith}
 use lib.IntN.{ℤ, pos, negsuc, negℤ, natAbs, subℕ, _+ℤ_, _-ℤ_, _*ℤ_}
 use Rattle.laws.proofs.Cases.{lt-or-le}
 use Rattle.laws.proofs.Signed.{subℕ-pos, subℕ-neg}
 
 -- how far a whole number lies above 0, and below
-abbrev pub above : ℤ → ℕ
-above (pos n) = n
-above (negsuc n) = 0
+abbrev pub upward : ℤ → ℕ
+upward (pos n) = n
+upward (negsuc n) = 0
 
-abbrev pub below : ℤ → ℕ
-below (pos n) = 0
-below (negsuc n) = suc n
+abbrev pub downward : ℤ → ℕ
+downward (pos n) = 0
+downward (negsuc n) = suc n
 
 pub record Between (lo hi : ℕ) (z : ℤ) : Type 0 where
-  pub high : above z ≤ hi
-  pub low : below z ≤ lo
+  pub high : upward z ≤ hi
+  pub low : downward z ≤ lo
 
 pub between-subℕ : (a b lo hi : ℕ) → a ≤ b + hi → b ≤ a + lo → Between lo hi (subℕ a b)
 between-subℕ a b lo hi p q =
