@@ -75,7 +75,8 @@ module _ (l : Linear) (near : Near l) where
       row (sumLeftU l) (lit≤ tt) (lit≤ tt) (lit≤ tt) (lit≤ tt)
       (λ w h.
       difference-ranged (finer-ranged 14 (u-ranged w h))
-      (sum-ranged (right-product-ranged (halves-above (colOf w)) (x-ranged w h) (turn-ranged (l .p2) (near .two)) tt) (right-product-ranged (halves-above (rowOf w)) (y-ranged w h) (number-ranged (l .p3) (near .three)) tt) tt)
+      (sum-ranged (right-product-ranged (halves-above (colOf w)) (x-ranged w h) (turn-ranged (l .p2) (near .two)) tt)
+      (right-product-ranged (halves-above (rowOf w)) (y-ranged w h) (number-ranged (l .p3) (near .three)) tt) tt)
       tt)
 
   pub row-left-v : Summable (sumLeftV l)
@@ -83,7 +84,8 @@ module _ (l : Linear) (near : Near l) where
       row (sumLeftV l) (lit≤ tt) (lit≤ tt) (lit≤ tt) (lit≤ tt)
       (λ w h.
       difference-ranged (finer-ranged 14 (v-ranged w h))
-      (sum-ranged (right-product-ranged (halves-above (colOf w)) (x-ranged w h) (number-ranged (l .p4) (near .four)) tt) (right-product-ranged (halves-above (rowOf w)) (y-ranged w h) (turn-ranged (l .p5) (near .five)) tt) tt)
+      (sum-ranged (right-product-ranged (halves-above (colOf w)) (x-ranged w h) (number-ranged (l .p4) (near .four)) tt)
+      (right-product-ranged (halves-above (rowOf w)) (y-ranged w h) (turn-ranged (l .p5) (near .five)) tt) tt)
       tt)
 
 -- ---- a model on the grid is near the identity
