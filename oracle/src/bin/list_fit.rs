@@ -2,12 +2,11 @@
 //! grid numbers; lists of words in several orders. The arguments are the four files to write.
 //! A list of words is remade from a seed: each word of the generator, its bits outside a mask cleared, with fixed bits set.
 
-use oracle::list::{Lcg, List};
+use oracle::list::{Lcg, List, MOST_SAMPLES, tilted_words};
 use std::{env, io};
 
 const SEED: u32 = 6;
 const SINGULAR: u32 = 6;
-const MOST_SAMPLES: usize = 4096;
 
 /// Counts that every shape of list is tried with, and how many random ones besides.
 const COUNTS: [usize; 16] = [0, 1, 2, 3, 4, 5, 6, 7, 8, 9, 16, 33, 125, 500, 1000, MOST_SAMPLES];
@@ -122,13 +121,6 @@ fn orders() -> List {
         }
     }
     list
-}
-
-/// A block for each place, its motion at either end of the range: one list whose AFFINE has two scores in two orders.
-fn tilted_words() -> Vec<u32> {
-    let end = |up: bool| if up { 446 } else { 0 };
-    let word = |q: u32| q << 20 | end(q * q % 3 != 0) << 11 | end((q * q + q / 64) % 5 < 2) << 2;
-    (0..MOST_SAMPLES as u32).map(word).collect()
 }
 
 /// Entries that make pivots tie, vanish or lie about 1e-9, and entries that aren't finite.
