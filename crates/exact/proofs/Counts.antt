@@ -1,6 +1,6 @@
 -- Lists in which each word stands equally often have equal whole-number sums: the first word of one is taken out of the other, wherever it stands, and what is left agrees again.
 -- Assumes nothing.
-use Prim.Native.Nat.{ℕ, suc, _+_, _<_}
+use Prim.Native.Nat.{ℕ, suc, _+_, _≤_, _<_}
 use mathlib.Core.List.{List, [], _∷_}
 use mathlib.Core.Logic.{⊎-elim}
 use mathlib.Core.Path.{_≡_, refl, sym, ap, _∙_, subst}
@@ -11,7 +11,8 @@ use lib.Dec.{eqb}
 use lib.IntN.{ℤ, pos, natAbs, _+ℤ_, +ℤ-assoc, +ℤ-comm}
 use lib.ListN.{length}
 use Rattle.laws.specs.Refusal.{choose}
-use Rattle.laws.proofs.Cases.{eq-or-ne}
+use Rattle.laws.proofs.Cases.{lt-or-le, eq-or-ne}
+use Rattle.sample.specs.Word.{mostSamples}
 use Rattle.laws.specs.Stands.{Each, sumOf}
 use Rattle.exact.specs.Words.{times, SameWords}
 
@@ -69,6 +70,15 @@ same-whole-sum whole (w ∷ ws) vs same =
 module _ {ws vs : List ℕ} (same : SameWords ws vs) where
   pub same-length : length ws ≡ length vs
   same-length = ap natAbs (sym (length-sum ws) ∙ same-whole-sum (λ (v : ℕ). pos 1) ws vs same ∙ length-sum vs)
+
+  -- an answer that refuses every list of over 4,096 words, and that is the same for two shorter ones
+  pub same-or-refused : {A : Type 0} (answer : List ℕ → A) (refused : A) → ((us : List ℕ) → mostSamples < length us → answer us ≡ refused)
+      → (length ws ≤ mostSamples → answer ws ≡ answer vs) → answer ws ≡ answer vs
+  same-or-refused answer refused long short =
+      ⊎-elim
+      (λ (h : mostSamples < length ws). long ws h ∙ sym (long vs (rw same-length at h)))
+      (λ (h : length ws ≤ mostSamples). short h)
+      (lt-or-le mostSamples (length ws))
 
 -- ---- what holds of each word of one holds of each word of the other
 

@@ -1,24 +1,19 @@
 -- Two lists in which each word stands equally often have the same fit of every type, by bits or refused alike: a fit takes the sums and the count, and each sum is one number.
 -- Assumes nothing.
-use Prim.Native.Nat.{ℕ, _≤_, _<_}
+use Prim.Native.Nat.{ℕ, _≤_}
 use mathlib.Core.List.{List}
-use mathlib.Core.Logic.{⊎-elim}
-use mathlib.Core.Path.{_≡_, sym, _∙_}
+use mathlib.Core.Path.{_≡_}
 use borrow.Author.Tests.{lt-ltb}
 use lib.ListN.{length}
-use Rattle.laws.proofs.Cases.{lt-or-le}
 use Rattle.sample.specs.Word.{mostSamples}
 use Rattle.fit.specs.declared.Fitted.{Fitted}
 use Rattle.fit.specs.declared.Fitted.the-variants.{Refused}
 use Rattle.fit.specs.Sums.{translationTotals, rotZoomTotals, affineTotals, translationSums, rotZoomSums, affineSums}
 use Rattle.fit.specs.Fitted.{translationFit, rotZoomFit, affineFit, fitOf, fitted, fitAnswer}
 use Rattle.exact.specs.Words.{Words, SameWords}
-use Rattle.exact.proofs.Counts.{same-length}
+use Rattle.exact.proofs.Counts.{same-length, same-or-refused}
 use Rattle.exact.proofs.Terms.{row-u, row-v, row-x, row-y, row-xx, row-xy, row-yy, row-xu, row-yu, row-xv, row-yv, row-q, row-p1, row-p2}
 use Rattle.exact.proofs.Table.{same-sum}
-
-too-many : (gmType : ℕ) (ws : List ℕ) → mostSamples < length ws → fitted gmType ws ≡ Refused 1
-too-many gmType ws h = rw (lt-ltb mostSamples (length ws) h)
 
 module _ {ws vs : List ℕ} (same : SameWords ws vs) (words : Words ws) where
   module _ (few : length ws ≤ mostSamples) where
@@ -73,21 +68,15 @@ module _ {ws vs : List ℕ} (same : SameWords ws vs) (words : Words ws) where
     pub same-fit-of : (gmType : ℕ) → fitOf gmType ws ≡ fitOf gmType vs
     same-fit-of gmType = rw (same-translation, same-rotzoom, same-affine)
 
-  -- for every type code and any length: a list of more than 4,096 is refused, and so is the other
+  -- for every type code and any length
   pub same-fit : (gmType : ℕ) → fitted gmType ws ≡ fitted gmType vs
   same-fit gmType =
-      ⊎-elim
-      (λ (h : mostSamples < length ws). too-many gmType ws h ∙ sym (too-many gmType vs (rw (same-length same) at h)))
-      (λ (h : length ws ≤ mostSamples). rw (same-length same, same-fit-of h gmType))
-      (lt-or-le mostSamples (length ws))
+      same-or-refused same (fitted gmType) (Refused 1) (λ us h. rw (lt-ltb mostSamples (length us) h)) (λ h. rw (same-length same, same-fit-of h gmType))
 
   -- and each fit called by its name
   same-answer : (fit : List ℕ → Fitted) → (length ws ≤ mostSamples → fit ws ≡ fit vs) → fitAnswer (length ws) (fit ws) ≡ fitAnswer (length vs) (fit vs)
   same-answer fit e =
-      ⊎-elim
-      (λ (h : mostSamples < length ws). let k : mostSamples < length vs = rw (same-length same) at h in rw (lt-ltb mostSamples (length ws) h, lt-ltb mostSamples (length vs) k))
-      (λ (h : length ws ≤ mostSamples). rw (same-length same, e h))
-      (lt-or-le mostSamples (length ws))
+      same-or-refused same (λ us. fitAnswer (length us) (fit us)) (Refused 1) (λ us h. rw (lt-ltb mostSamples (length us) h)) (λ h. rw (same-length same, e h))
 
   pub same-fit-translation : fitAnswer (length ws) (translationFit ws) ≡ fitAnswer (length vs) (translationFit vs)
   same-fit-translation = same-answer translationFit same-translation

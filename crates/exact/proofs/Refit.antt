@@ -1,10 +1,9 @@
 -- The translation refit is exact too: the linear part of a model on the grid is a whole number of at most 8,192 over 2 ^ 16 from the identity, so what it leaves of a motion stands for a whole
 -- number over 2 ^ 17, and the one law of bounded sums serves again. So two orders of the same words have the same model on the grid.
 -- Assumes nothing.
-use Prim.Native.Nat.{ℕ, _+_, _*_, _≤_, _<_, zero-le}
+use Prim.Native.Nat.{ℕ, _+_, _*_, _≤_, zero-le}
 use mathlib.Core.List.{List}
-use mathlib.Core.Logic.{⊎-elim}
-use mathlib.Core.Path.{_≡_, refl, sym, ap, _∙_, subst}
+use mathlib.Core.Path.{_≡_, refl, ap, _∙_, subst}
 use native.Mathlib.Omega.{arith}
 use borrow.Author.Tests.{lt-ltb}
 use lib.Dec.{lit≤}
@@ -12,7 +11,6 @@ use lib.IntN.{ℤ, pos, natAbs, _+ℤ_, _-ℤ_, _*ℤ_, +ℤ-negℤ-cancel, -ℤ
 use lib.ListN.{length}
 use lib.Ieee.{ofBits, fits}
 use Rattle.laws.specs.Binary64.{_⊖_, one}
-use Rattle.laws.proofs.Cases.{lt-or-le}
 use Rattle.laws.proofs.Signed.{natAbs-add-le}
 use Rattle.grid.specs.Grid.{Codable}
 use Rattle.grid.proofs.Table.{row-codable}
@@ -29,7 +27,7 @@ use Rattle.exact.specs.Words.{Words, SameWords}
 use Rattle.exact.specs.Refit.{whole1, mostTurn, sumLeftU, sumLeftV}
 use Rattle.laws.proofs.Stands.{ofInt-stands, sub-exact, div-exact, product-size}
 use Rattle.laws.proofs.Interval.{Between, between-neg, between-size, between-of-size}
-use Rattle.exact.proofs.Counts.{same-length}
+use Rattle.exact.proofs.Counts.{same-length, same-or-refused}
 use Rattle.laws.proofs.Ranged.{Ranged, sum-ranged, difference-ranged, finer-ranged, right-product-ranged}
 use Rattle.exact.proofs.Terms.{Summable, row, x-ranged, y-ranged, u-ranged, v-ranged, halves-above}
 use Rattle.exact.proofs.Table.{same-sum}
@@ -123,9 +121,6 @@ linear-near (Affine m0 m1 m2 m3 m4 m5) flag =
 
 -- ---- two orders
 
-too-many : (f : Fitted) (flag : ℕ) (ws : List ℕ) → mostSamples < length ws → quantizedModel f flag ws ≡ refusedModel 1
-too-many f flag ws h = rw (lt-ltb mostSamples (length ws) h)
-
 module _ {ws vs : List ℕ} (same : SameWords ws vs) (words : Words ws) where
   pub same-refit : length ws ≤ mostSamples → (l : Linear) → Near l → refitted l ws ≡ refitted l vs
   unfolding refitted refitTotals
@@ -135,10 +130,8 @@ module _ {ws vs : List ℕ} (same : SameWords ws vs) (words : Words ws) where
   pub same-model : (f : Fitted) (flag : ℕ) → quantizedModel f flag ws ≡ quantizedModel f flag vs
   unfolding params
   same-model f flag =
-      ⊎-elim
-      (λ (h : mostSamples < length ws). too-many f flag ws h ∙ sym (too-many f flag vs (rw (same-length same) at h)))
-      (λ (h : length ws ≤ mostSamples). rw (same-length same, same-refit h (linearOf f flag) (linear-near f flag)))
-      (lt-or-le mostSamples (length ws))
+      same-or-refused same (quantizedModel f flag) (refusedModel 1) (λ us h. rw (lt-ltb mostSamples (length us) h))
+      (λ h. rw (same-length same, same-refit h (linearOf f flag) (linear-near f flag)))
 
   -- of its own fit
   pub same-fitted-model : (gmType flag : ℕ) → quantizedModel (fitted gmType ws) flag ws ≡ quantizedModel (fitted gmType vs) flag vs
