@@ -2,6 +2,16 @@
 
 use std::{fs, io, path::Path};
 
+/// The samples of the longest list.
+pub const MOST_SAMPLES: usize = 4096;
+
+/// A block for each place, its motion at either end of the range: a list whose AFFINE has two scores in two orders.
+pub fn tilted_words() -> Vec<u32> {
+    let end = |up: bool| if up { 446 } else { 0 };
+    let word = |q: u32| q << 20 | end(q * q % 3 != 0) << 11 | end((q * q + q / 64) % 5 < 2) << 2;
+    (0..MOST_SAMPLES as u32).map(word).collect()
+}
+
 /// The generator of inputs, which a replay program can run too.
 pub struct Lcg(pub u32);
 

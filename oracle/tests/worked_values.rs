@@ -1,8 +1,13 @@
 //! The worked values of docs/RULES.md that the Rust can answer.
 
-use oracle::{IDENTITY, coefficient, quantize_global_param, read_header, search, write_header};
+use oracle::list::tilted_words;
+use oracle::{
+    IDENTITY, coefficient, fit, quantize_global_param, quantize_model, read_header, sample_of, score, search,
+    write_header,
+};
 
 const TRANSLATION: u8 = 1;
+const ROTZOOM: u8 = 2;
 const AFFINE: u8 = 3;
 
 #[test]
@@ -33,6 +38,27 @@ fn header_of_one_translation() {
     assert_eq!(read_header(&[0xa4, 0x20, 0x00], 0, true, &prior), Some((types, models, 17)));
     assert_eq!(read_header(&[0xa4, 0x20], 0, true, &prior), None);
     assert_eq!(read_header(&[], usize::MAX, true, &prior), None);
+}
+
+#[test]
+fn two_orders_of_words() {
+    let forwards = tilted_words().into_iter().map(sample_of).collect::<Vec<_>>();
+    let backwards = forwards.iter().rev().copied().collect::<Vec<_>>();
+    for kind in [TRANSLATION, ROTZOOM, AFFINE] {
+        assert_eq!(fit(kind, &forwards).unwrap().map(f64::to_bits), fit(kind, &backwards).unwrap().map(f64::to_bits));
+    }
+    let model = fit(AFFINE, &forwards).unwrap();
+    let params = quantize_model(&model, AFFINE, true, &forwards);
+    assert_eq!(params, [-272384, 608256, 65466, -136, 0, 65536]);
+    assert_eq!(params, quantize_model(&model, AFFINE, true, &backwards));
+    assert_eq!(score(&params, &forwards).to_bits(), 0x4096_6900_7e75_a16b);
+    assert_eq!(score(&params, &backwards).to_bits(), 0x4096_6900_7e75_a16f);
+}
+
+#[test]
+fn two_orders_of_free_samples() {
+    let mean = |us: [f64; 3]| fit(TRANSLATION, &us.map(|u| [7.5, 7.5, u, 0.0])).unwrap()[0];
+    assert_eq!([mean([1e16, 1.0, -1e16]), mean([1e16, -1e16, 1.0])], [0.0, 1.0 / 3.0]);
 }
 
 #[test]

@@ -7,6 +7,7 @@ use mathlib.Core.Path.{_≡_}
 use lib.Dec.{ltb, eqb}
 use lib.IntN.{ℤ, pos, negsuc, negℤ, natAbs, _+ℤ_, _-ℤ_, _*ℤ_}
 use Rattle.laws.specs.Refusal.{row, choose, either, judge}
+pub use Rattle.laws.specs.Signed.{negative}
 use Rattle.grid.specs.declared.ParamBits.{ParamBits}
 use Rattle.grid.specs.declared.Quantized.{Quantized}
 
@@ -49,10 +50,6 @@ pub record Codable (abs prec c : ℕ) (z : ℤ) : Type 0 where
   pub is : z ≡ number prec c ordinal
 
 -- ---- quantization: to the nearest ordinal, half away from zero, held to 2 ^ absBits on either side
-
-abbrev pub negative : ℤ → Bool
-negative (pos m) = false
-negative (negsuc m) = true
 
 -- a magnitude with its sign
 abbrev pub signed : Bool → ℕ → ℤ

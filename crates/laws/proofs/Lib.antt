@@ -12,3 +12,8 @@ pub mod Parts
 pub mod Floor
 pub mod Below
 pub mod Filled
+pub mod Value
+pub mod Stands
+pub mod Interval
+pub mod ExactSum
+pub mod Ranged

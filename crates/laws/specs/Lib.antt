@@ -6,3 +6,5 @@ pub mod Placed
 pub mod Parts
 pub mod Binary64
 pub mod Below
+pub mod Signed
+pub mod Stands

@@ -1,4 +1,5 @@
-// Replays the oracle's lists of fits, systems and grid numbers, then tries the refusals.
+// Replays the oracle's lists of fits, systems, grid numbers and words in several orders, then tries
+// the refusals.
 ghost use Prim.Native.Nat.{_≤_};
 use fit::Fitted;
 use libc::STDOUT_FILENO;
@@ -16,6 +17,8 @@ const SIGN: u64 = 0x8000_0000_0000_0000;
 const FITS: u8 = 0;
 
 const SYSTEMS: u8 = 1;
+
+const ORDERS: u8 = 2;
 
 // The bits of the values that a fitted model carries, 0 for those that its type doesn't.
 struct Values {
@@ -187,6 +190,30 @@ fn replay_fits(list: i32, flag: u8) -> bool {
     replay_case(list, flag, &mut words)
 }
 
+// Words as the list has them.
+fn copy(words: &mut [u32], list: i32) {
+    let mut i = 0usize;
+    while i < words.len() {
+        words[i] = replay::next_word(list);
+        i += 1;
+    }
+}
+
+// One order of a list of words.
+fn replay_order(list: i32, flag: u8, words: &mut [u32]) -> bool {
+    let count = replay::next_word(list) as usize;
+    if count > words.len() {
+        return false;
+    }
+    copy(&mut words[..count], list);
+    replay_words(list, flag, &words[..count])
+}
+
+fn replay_orders(list: i32, flag: u8) -> bool {
+    let mut words = [0u32; sample::MOST_SAMPLES];
+    replay_order(list, flag, &mut words)
+}
+
 fn next_entries(list: i32) -> System {
     let mut a = [0.0f64; 16];
     let mut i = 0usize;
@@ -238,6 +265,9 @@ fn replay_one(list: i32, which: u8, flag: u8) -> bool {
     }
     if which == SYSTEMS {
         return replay_system(list);
+    }
+    if which == ORDERS {
+        return replay_orders(list, flag);
     }
     replay_grid_number(list)
 }
@@ -320,7 +350,8 @@ fn try_refusals(words: &[u32], few: &[u32]) {
 fn main() {
     replay_list(FITS, b"fits", b"fits.bin");
     replay_list(SYSTEMS, b"systems", b"systems.bin");
-    replay_list(2, b"grid numbers", b"grid_numbers.bin");
+    replay_list(ORDERS, b"orders", b"orders.bin");
+    replay_list(3, b"grid numbers", b"grid_numbers.bin");
     let words = [0u32; 4097];
     let few = [0u32; 8];
     try_refusals(&words, &few);

@@ -1,13 +1,12 @@
 //! The lists for `worked_fit`: fits, quantized models and scores of lists of words; systems for `solve_linear`;
-//! grid numbers. The arguments are the three files to write.
+//! grid numbers; lists of words in several orders. The arguments are the four files to write.
 //! A list of words is remade from a seed: each word of the generator, its bits outside a mask cleared, with fixed bits set.
 
-use oracle::list::{Lcg, List};
+use oracle::list::{Lcg, List, MOST_SAMPLES, tilted_words};
 use std::{env, io};
 
 const SEED: u32 = 6;
 const SINGULAR: u32 = 6;
-const MOST_SAMPLES: usize = 4096;
 
 /// Counts that every shape of list is tried with, and how many random ones besides.
 const COUNTS: [usize; 16] = [0, 1, 2, 3, 4, 5, 6, 7, 8, 9, 16, 33, 125, 500, 1000, MOST_SAMPLES];
@@ -52,10 +51,11 @@ const SHAPES: [(u32, u32); 18] = [
 
 fn main() -> io::Result<()> {
     let mut paths = env::args().skip(1);
-    let mut path = || paths.next().expect("the arguments are the files of fits, systems and grid numbers");
+    let mut path = || paths.next().expect("the arguments are the files of fits, systems, grid numbers and orders");
     fits().write(path())?;
     systems().write(path())?;
-    grid_numbers().write(path())
+    grid_numbers().write(path())?;
+    orders().write(path())
 }
 
 fn fits() -> List {
@@ -98,6 +98,29 @@ fn push_fit(list: &mut List, kind: u8, high: bool, samples: &[[f64; 4]]) {
     let params = oracle::quantize_model(&model, kind, high, samples);
     params.iter().for_each(|&param| list.push_signed(param));
     list.push_float(oracle::score(&params, samples));
+}
+
+/// The same words in several orders, written out, each order with either flag. The fits of one list agree; scores needn't.
+fn orders() -> List {
+    let forwards = [tilted_words(), Lcg(SEED).words(MOST_SAMPLES), Lcg(SEED).words(125)];
+    let cases = forwards.into_iter().flat_map(|words| {
+        let backwards = words.iter().rev().copied().collect::<Vec<_>>();
+        let mut sorted = words.clone();
+        sorted.sort_unstable_by_key(|word| word.rotate_left(16));
+        [words, backwards, sorted].into_iter().flat_map(|order| [order.clone(), order])
+    });
+    let cases = cases.collect::<Vec<_>>();
+    let mut list = List::default();
+    list.push(cases.len() as u32);
+    for (case, words) in cases.iter().enumerate() {
+        list.push(words.len() as u32);
+        words.iter().for_each(|&word| list.push(word));
+        let samples = words.iter().map(|&word| oracle::sample_of(word)).collect::<Vec<_>>();
+        for kind in 1..=3 {
+            push_fit(&mut list, kind, case % 2 == 1, &samples);
+        }
+    }
+    list
 }
 
 /// Entries that make pivots tie, vanish or lie about 1e-9, and entries that aren't finite.

@@ -1,0 +1,29 @@
+-- `worked_fit::replay_order`: the part that is copied to is as long as the count.
+-- Assumes nothing.
+use lib.ListN.{length-take, length-append, length-drop}
+use native.Mathlib.Omega.{arith}
+use borrow.Author.Needs.{needs}
+use Rattle.worked_fit.proofs.replay_order.Statement.{statement}
+use Rattle.worked_fit.proofs.replay_order.Tie as tie
+
+slice-aggregate-copy : tie.Need-slice-aggregate-copy
+slice-aggregate-copy c = simp length-take (omega arith)
+
+slice-aggregate-replay-words : tie.Need-slice-aggregate-replay-words
+slice-aggregate-replay-words c = simp (length-take, length-append, length-drop) (omega (arith, simp length-take at (c .before .before .before .copy .kept .0)))
+
+pub replay-order-spec : {M : Type 1} → statement M
+replay-order-spec =
+    tie.close
+    (tie.spec
+    (search needs)
+    (search needs)
+    (search needs)
+    (search needs)
+    slice-aggregate-copy
+    (search needs)
+    (search needs)
+    slice-aggregate-replay-words
+    (search needs)
+    (search needs)
+    (search needs))
