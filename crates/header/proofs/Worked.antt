@@ -65,6 +65,11 @@ pub record Worked : Type 0 where
   -- high, prior identity: 17 bits, A4 20 00
   pub header-bits : written 0 types params 1 prior 3 ≡ record { refusal = 0; bits = 17 }
   pub header-bytes : headerAfter 0 types params 1 prior (255 ∷ 255 ∷ 255 ∷ []) ≡ 0xA4 ∷ 0x20 ∷ 0x00 ∷ []
+  -- from bits 3 and 7 of a filled first byte on, and from bit 8
+  pub from-bit-3 : headerAfter 3 types params 1 prior (255 ∷ 255 ∷ 255 ∷ 255 ∷ []) ≡ 0xF4 ∷ 0x84 ∷ 0x00 ∷ 0xFF ∷ []
+  pub from-bit-7 : headerAfter 7 types params 1 prior (255 ∷ 255 ∷ 255 ∷ 255 ∷ []) ≡ 0xFF ∷ 0x48 ∷ 0x40 ∷ 0xFF ∷ []
+  pub count-from-bit-7 : written 7 types params 1 prior 3 ≡ record { refusal = 0; bits = 17 }
+  pub no-such-start : written 8 types params 1 prior 3 ≡ record { refusal = 14; bits = 0 }
 
 pub worked : Worked
 unfolding quantize nearestOrdinal symbolOf placeOf putBit bitLength nsBits subexpBits codeOf typesOver modelsWrong modelWrong slotWrong filler priorsOut
@@ -92,4 +97,8 @@ worked =
       centred-5 = refl;
       header-bits = refl;
       header-bytes = refl;
+      from-bit-3 = refl;
+      from-bit-7 = refl;
+      count-from-bit-7 = refl;
+      no-such-start = refl;
     }
