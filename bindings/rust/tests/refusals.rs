@@ -86,8 +86,8 @@ fn job() {
         (short("ref_half", 383, 384), |_, b| b.ref_half.truncate(383)),
         (short("words", 5, 6), |_, b| b.words.truncate(5)),
         (short("blocks", 511, 512), |_, b| b.blocks.truncate(511)),
-        (short("header", 123, 124), |_, b| b.header.truncate(123)),
-        (short("header", 0, 124), |_, b| b.header.clear()),
+        (short("header", 124, 125), |_, b| b.header.truncate(124)),
+        (short("header", 0, 125), |_, b| b.header.clear()),
     ];
     let handed = Handed::new(noisy_plane(48, 32), noisy_plane(48, 32), 48, 32, 1);
     let mut exact = guarded(48, 32);
