@@ -102,14 +102,14 @@ static void print_report(const struct belt_report *report, struct belt_settings 
         printf("\n");
     }
     printf("header:");
-    for (size_t i = 0; i < (report->bits + 7) / 8; i++)
+    for (size_t i = 0; i < (settings.start + report->bits + 7) / 8; i++)
         printf(" %02X", header[i]);
     printf("\n");
 }
 
 static void read_back(const struct belt_report *report, struct belt_settings settings) {
     struct belt_models read =
-        belt_read_global_motion_params(header, BELT_HEADER_BYTES, 0, settings.flag, prior, BELT_NUMBERS);
+        belt_read_global_motion_params(header, BELT_HEADER_BYTES, settings.start, settings.flag, prior, BELT_NUMBERS);
     refused("belt_read_global_motion_params", read.refusal);
     same(read.bits == report->bits && memcmp(read.types, report->types, sizeof read.types) == 0 &&
              memcmp(read.models, report->models, sizeof read.models) == 0,
@@ -231,7 +231,7 @@ int main(void) {
          "sizes");
     draw(4, -2);
     for (uint8_t type = BELT_TRANSLATION; type <= BELT_AFFINE; type++) {
-        const struct belt_settings settings = {5, type, 2, BELT_HIGH_PRECISION, 2 * type};
+        const struct belt_settings settings = {5, type, 2, BELT_HIGH_PRECISION, (size_t)(2 * type)};
         struct belt_report report = run(settings, PELS);
         refused("belt_job", report.refusal);
         print_report(&report, settings);

@@ -200,7 +200,8 @@ fn wanted_bit(bytes: &[u8], from: u16, bits: u16, start: u16, fill: u8, i: u16) 
 fn holds(out: &[u8; 160], bytes: &[u8], from: u16, bits: u16, start: u16, fill: u8) -> bool {
     let mut i = 0u16;
     while i < ROOM_BITS {
-        if bit_of(out[(i / 8) as usize], i as u32) != wanted_bit(bytes, from, bits, start, fill, i)
+        if bit_of(out[(i / 8) as usize], i as u32)
+            != wanted_bit(bytes, from, bits, start, fill, i)
         {
             return false;
         }
@@ -238,7 +239,15 @@ fn is_written(a: Case, start: u16, fill: u8, room: usize) -> bool {
     let prior = a.prior;
     let bytes = a.bytes;
     let mut out = filled(fill);
-    let w = write_first(&types, &params, a.flag, &prior, start as usize, room, &mut out);
+    let w = write_first(
+        &types,
+        &params,
+        a.flag,
+        &prior,
+        start as usize,
+        room,
+        &mut out,
+    );
     w.refusal == 0
         && w.bits == a.bits as usize
         && holds(&out, &bytes, a.start, a.bits, start, fill)
@@ -250,7 +259,15 @@ fn is_too_long(a: Case, start: u16, fill: u8, room: usize) -> bool {
     let params = a.params;
     let prior = a.prior;
     let mut out = filled(fill);
-    let w = write_first(&types, &params, a.flag, &prior, start as usize, room, &mut out);
+    let w = write_first(
+        &types,
+        &params,
+        a.flag,
+        &prior,
+        start as usize,
+        room,
+        &mut out,
+    );
     w.refusal == 3 && w.bits == 0 && holds(&out, &types, 0, 0, 0, fill)
 }
 
@@ -758,7 +775,18 @@ fn is_accepted(a: Ask) -> bool {
     let params = numbers_of(param_words);
     let prior = numbers_of(prior_words);
     let mut out = filled(GUARD);
-    let w = write_lists(&types, 7, &params, 42, a.flag, &prior, 42, 0, ROOM, &mut out);
+    let w = write_lists(
+        &types,
+        7,
+        &params,
+        42,
+        a.flag,
+        &prior,
+        42,
+        0,
+        ROOM,
+        &mut out,
+    );
     w.refusal == 0 && is_read_again(a, &out, w.bits)
 }
 
