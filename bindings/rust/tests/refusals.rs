@@ -14,7 +14,7 @@ fn words(count: usize) -> Vec<u32> {
 #[test]
 fn the_table_is_that_of_the_rules() {
     let numbers = Refusal::TABLE.map(|(number, _)| number);
-    assert_eq!(numbers, [1, 2, 4, 5, 7, 8, 12, 3, 6, 9, 10, 11]);
+    assert_eq!(numbers, [1, 2, 4, 5, 14, 7, 8, 12, 3, 6, 9, 10, 11]);
     for row in [TooLarge, NoSuchCode, NoSuchSlot, OffGrid, PriorOut, NotRising, Singular] {
         assert_eq!(row.to_string(), format!("{}: {}", row.number(), row.condition()));
     }
@@ -300,9 +300,10 @@ fn headers_written_and_read() {
     };
     assert_eq!(write(&types, &params, 1, &IDENTITIES, 5, Ok(17)), [0xA4, 0x20, 0x00, 0xEE, 0xEE]);
     // from each bit of the first byte on: the bits before it stay
-    for (start, bytes) in [0xA42000FF_u32, 0xD21000FF, 0xE90800FF, 0xF48400FF, 0xFA4200FF, 0xFD2100FF, 0xFE9080FF, 0xFF4840FF]
-        .into_iter()
-        .enumerate()
+    for (start, bytes) in
+        [0xA42000FF_u32, 0xD21000FF, 0xE90800FF, 0xF48400FF, 0xFA4200FF, 0xFD2100FF, 0xFE9080FF, 0xFF4840FF]
+            .into_iter()
+            .enumerate()
     {
         let mut header = [0xFF; 4];
         assert_eq!(belt::encode_inter_global_motion(&types, &params, 1, &IDENTITIES, start, &mut header), Ok(17));
@@ -310,9 +311,8 @@ fn headers_written_and_read() {
         let back = belt::read_global_motion_params(&header[..3], start, 1, &IDENTITIES).unwrap();
         assert_eq!((back.types, back.models, back.bits), (types, params, 17));
     }
-    let identities = |start, room: &mut [u8]| {
-        belt::encode_inter_global_motion(&[0; 7], &IDENTITIES, 1, &IDENTITIES, start, room)
-    };
+    let identities =
+        |start, room: &mut [u8]| belt::encode_inter_global_motion(&[0; 7], &IDENTITIES, 1, &IDENTITIES, start, room);
     assert_eq!(identities(2, &mut [0xFF]), Err(short("header", 1, 2)));
     assert_eq!(identities(8, &mut [0xFF; 125]), Err(StartOver));
     assert_eq!(belt::encode_inter_global_motion(&types, &params, 2, &IDENTITIES, 8, &mut [0xFF; 125]), Err(NoSuchCode));
