@@ -1,7 +1,7 @@
 -- A list of bits written at any position and read there: the bits are there, those before are as they were, up to the end of the last byte there are zeros,
 -- and the bytes behind are as they were. The base is position 0.
 -- Assumes nothing.
-use Prim.Native.Nat.{ℕ, suc, _+_, _*_, _≤_, _<_}
+use Prim.Native.Nat.{ℕ, _+_, _*_, _≤_, _<_}
 use mathlib.Core.List.{List, _++_}
 use mathlib.Core.Path.{_≡_}
 use native.Mathlib.Omega.{arith}
