@@ -59,11 +59,11 @@ impl Header {
 
     pub fn write(&self, room: &mut [u8]) -> Result<usize, Refusal> {
         let (models, prior) = (self.models.map(StoredModel), self.prior.map(StoredModel));
-        belt::encode_inter_global_motion(&self.types, &models, HIGH_PRECISION, &prior, room)
+        belt::encode_inter_global_motion(&self.types, &models, HIGH_PRECISION, &prior, 0, room)
     }
 
     pub fn rust_write(&self) -> (Vec<u8>, usize) {
-        oracle::write_header(&self.types, &self.models, true, &self.prior)
+        oracle::write_header(&self.types, &self.models, true, &self.prior, 0)
     }
 
     pub fn read(&self, bytes: &[u8]) -> Result<belt::Models, Refusal> {

@@ -33,7 +33,7 @@
 #define BELT_MOST_EIGHTHS 223     /* no motion passes it either way: 27.875 pels */
 #define BELT_BLOCK_BYTES 512      /* a sample block */
 #define BELT_BLOCK_WORDS 125      /* the most words in it */
-#define BELT_HEADER_BYTES 124     /* enough for every header; a job asks for as many */
+#define BELT_HEADER_BYTES 125     /* enough for every header at every start; a job asks for as many */
 #define BELT_TEXT_BYTES 4096      /* enough for every block's text */
 #define BELT_REFERENCES 7
 #define BELT_NUMBERS 42           /* six for each reference */
@@ -56,6 +56,7 @@ enum belt_refusal {
     BELT_WRONG_LENGTH = 2,
     BELT_NO_SUCH_CODE = 4,
     BELT_NO_SUCH_SLOT = 5,
+    BELT_START_OVER = 14,
     BELT_OFF_GRID = 7,
     BELT_PRIOR_OUT = 8,
     BELT_NOT_RISING = 12,
@@ -74,6 +75,7 @@ static inline const char *belt_refusal_text(uint32_t refusal) {
     case BELT_WRONG_LENGTH: return "plane, class, type, model or prior list of wrong length";
     case BELT_NO_SUCH_CODE: return "type, class or flag code out of range; type 0 for a fit";
     case BELT_NO_SUCH_SLOT: return "slot over 5, reference outside 1 to 7";
+    case BELT_START_OVER: return "start of a header to write over 7";
     case BELT_OFF_GRID: return "model off the grid, uncarried slot or pair wrong";
     case BELT_PRIOR_OUT: return "prior out of range";
     case BELT_NOT_RISING: return "words to store out of range or not rising";
@@ -136,12 +138,13 @@ struct belt_score { uint32_t refusal; double score; };
 struct belt_stored { uint32_t refusal; size_t blocks; };
 struct belt_frame_read { uint32_t refusal; uint16_t frame; size_t samples; };
 struct belt_block_read { uint32_t refusal; uint16_t frame; size_t ordinal; size_t count; };
-/* How many bits were written. */
+/* How many bits were written, without the start. */
 struct belt_written { uint32_t refusal; size_t bits; };
 /* Seven types and models in rising order of reference, and the bits consumed. */
 struct belt_models { uint32_t refusal; uint8_t types[7]; struct belt_stored_model models[7]; size_t bits; };
-/* The frame number of the blocks, the type to fit (1 to 3), the reference of the model (1 to 7), the flag. */
-struct belt_settings { uint16_t frame; uint8_t type; uint8_t reference; uint8_t flag; };
+/* The frame number of the blocks, the type to fit (1 to 3), the reference of the model (1 to 7), the flag, and the bit
+   of the header's first byte at which writing begins (0 to 7). */
+struct belt_settings { uint16_t frame; uint8_t type; uint8_t reference; uint8_t flag; size_t start; };
 /* Seven types and models in rising order of reference; the fitted model's score in square pels; the header's
    bits; how many samples there are. */
 struct belt_report {
@@ -214,15 +217,17 @@ struct belt_block_read belt_judge_block(const uint8_t *bytes, size_t byte_count)
 size_t belt_list_block(const uint8_t *bytes, size_t byte_count, uint8_t text[BELT_TEXT_BYTES]);
 
 /* A header written ('Header').
-   In: 7 types and 7 models (42 numbers), as stored, in rising order of reference, the flag, and a prior for each
-   number. Counts of models are counts of their numbers. Out: the bits from bit 0 of the buffer on, high bit first,
-   the last byte filled up with zeros. The buffer needs the exact bytes; BELT_HEADER_BYTES are always enough.
-   Refuses: 2, 4, 7, 8, 3. */
+   In: 7 types and 7 models (42 numbers), as stored, in rising order of reference, the flag, a prior for each
+   number, and the bit of the first byte at which writing begins, 0 to 7. Counts of models are counts of their
+   numbers. Out: the bits from the start on, high bit first, the last byte filled up with zeros; the bits before
+   the start stay. The buffer needs the exact bytes, those of start and bits; BELT_HEADER_BYTES are always enough.
+   Refuses: 2, 4, 14, 7, 8, 3. */
 struct belt_written belt_encode_inter_global_motion(
     const uint8_t *types, size_t type_count,
     const struct belt_stored_model *models, size_t number_count,
     uint8_t flag,
     const struct belt_stored_model *prior, size_t prior_number_count,
+    size_t start,
     uint8_t *header, size_t header_room);
 
 /* A header read ('Reading by the standard').
@@ -236,9 +241,10 @@ struct belt_models belt_read_global_motion_params(
 /* A whole job: search, fit, grid, score, blocks and header ('Job').
    In: two planes, the settings, a class for each whole 16x16 block, 6 types and 6 models (36 numbers) of the other
    references in rising order, as stored, and the 42 numbers of the prior.
-   Out: the report; half planes and words as the search leaves them; the frame's blocks; the header. The
-   header buffer needs BELT_HEADER_BYTES. A header reads back as the report's models, and blocks as its words.
-   Refuses: 1, 2, 4, 5, 7, 8, 3, 6. After 6 the half planes and the words are in their buffers, and
+   Out: the report; half planes and words as the search leaves them; the frame's blocks; the header, from the
+   settings' start on. The header buffer needs BELT_HEADER_BYTES, whatever the start. A header read from there is the
+   report's models, and blocks read as its words.
+   Refuses: 1, 2, 4, 5, 14, 7, 8, 3, 6. After 6 the half planes and the words are in their buffers, and
    blocks and header are as they were. */
 struct belt_report belt_job(
     const uint16_t *input, size_t input_pels,

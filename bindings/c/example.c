@@ -102,14 +102,14 @@ static void print_report(const struct belt_report *report, struct belt_settings 
         printf("\n");
     }
     printf("header:");
-    for (size_t i = 0; i < (report->bits + 7) / 8; i++)
+    for (size_t i = 0; i < (settings.start + report->bits + 7) / 8; i++)
         printf(" %02X", header[i]);
     printf("\n");
 }
 
 static void read_back(const struct belt_report *report, struct belt_settings settings) {
     struct belt_models read =
-        belt_read_global_motion_params(header, BELT_HEADER_BYTES, 0, settings.flag, prior, BELT_NUMBERS);
+        belt_read_global_motion_params(header, BELT_HEADER_BYTES, settings.start, settings.flag, prior, BELT_NUMBERS);
     refused("belt_read_global_motion_params", read.refusal);
     same(read.bits == report->bits && memcmp(read.types, report->types, sizeof read.types) == 0 &&
              memcmp(read.models, report->models, sizeof read.models) == 0,
@@ -167,10 +167,10 @@ static void by_single_calls(const struct belt_report *report, struct belt_settin
              judged.count == SAMPLES && memcmp(blocks_again, blocks, sizeof blocks) == 0,
          "blocks");
     struct belt_written wrote = belt_encode_inter_global_motion(
-        report->types, BELT_REFERENCES, report->models, BELT_NUMBERS, settings.flag, prior, BELT_NUMBERS, header_again,
-        BELT_HEADER_BYTES);
+        report->types, BELT_REFERENCES, report->models, BELT_NUMBERS, settings.flag, prior, BELT_NUMBERS, settings.start,
+        header_again, BELT_HEADER_BYTES);
     refused("belt_encode_inter_global_motion", wrote.refusal);
-    same(wrote.bits == report->bits && memcmp(header_again, header, (wrote.bits + 7) / 8) == 0, "header");
+    same(wrote.bits == report->bits && memcmp(header_again, header, (settings.start + wrote.bits + 7) / 8) == 0, "header");
 }
 
 /* A pan by 40 columns is beyond the range: no row refuses it, but few samples agree. */
@@ -208,9 +208,14 @@ static void refusals(struct belt_settings settings) {
     wants("a frame of zeros", belt_read_frame(zeros, BELT_BLOCK_BYTES, words, SAMPLES).refusal, BELT_WRONG_CHECK);
     wants("a block of 511 bytes", belt_judge_block(zeros, BELT_BLOCK_BYTES - 1).refusal, BELT_ENDS_FIRST);
     wants("a header into 0 bytes",
-          belt_encode_inter_global_motion(zeros, BELT_REFERENCES, prior, BELT_NUMBERS, 1, prior, BELT_NUMBERS, header, 0)
+          belt_encode_inter_global_motion(zeros, BELT_REFERENCES, prior, BELT_NUMBERS, 1, prior, BELT_NUMBERS, 0, header, 0)
               .refusal,
           BELT_TOO_SHORT);
+    wants("a header from bit 8 on",
+          belt_encode_inter_global_motion(zeros, BELT_REFERENCES, prior, BELT_NUMBERS, 1, prior, BELT_NUMBERS, 8, header,
+                                          BELT_HEADER_BYTES)
+              .refusal,
+          BELT_START_OVER);
     wants("a header of 0 bytes", belt_read_global_motion_params(header, 0, 0, 1, prior, BELT_NUMBERS).refusal,
           BELT_ENDS_FIRST);
 }
@@ -226,7 +231,7 @@ int main(void) {
          "sizes");
     draw(4, -2);
     for (uint8_t type = BELT_TRANSLATION; type <= BELT_AFFINE; type++) {
-        const struct belt_settings settings = {5, type, 2, BELT_HIGH_PRECISION};
+        const struct belt_settings settings = {5, type, 2, BELT_HIGH_PRECISION, (size_t)(2 * type)};
         struct belt_report report = run(settings, PELS);
         refused("belt_job", report.refusal);
         print_report(&report, settings);
@@ -235,7 +240,7 @@ int main(void) {
     }
     size_t length = belt_list_block(blocks, BLOCKS, text);
     fwrite(text, 1, length, stdout);
-    const struct belt_settings settings = {5, BELT_TRANSLATION, 2, BELT_HIGH_PRECISION};
+    const struct belt_settings settings = {5, BELT_TRANSLATION, 2, BELT_HIGH_PRECISION, 0};
     too_far(settings);
     refusals(settings);
     return 0;

@@ -135,15 +135,17 @@ pub fn shear(params: &[i32; 6]) -> Option<(bool, [i32; 4])> {
         .map(|shear| (shear.warp_valid, [shear.alpha, shear.beta, shear.gamma, shear.delta]))
 }
 
-/// `encode_inter_global_motion`: the bytes, padded with zeros, and the number of bits.
-pub fn write_header(types: &[u8; 7], params: &Models, high: bool, prior: &Models) -> (Vec<u8>, usize) {
+/// `encode_inter_global_motion` behind `start` zero bits: the bytes, padded with zeros, and the number of bits behind
+/// the start.
+pub fn write_header(types: &[u8; 7], params: &Models, high: bool, prior: &Models, start: usize) -> (Vec<u8>, usize) {
     let mut gm = GlobalMotionParams::identity();
     gm.short_circuited = false;
     gm.gm_type[1..].copy_from_slice(&types.map(type_of));
     gm.gm_params[1..].copy_from_slice(params);
     let mut writer = BitWriter::new();
+    (0..start).for_each(|_| writer.write_bit(0));
     frame_obu::write(&mut writer, &gm, high, &from_reference_0(prior));
-    let bits = writer.bit_position();
+    let bits = writer.bit_position() - start;
     (writer.finish(), bits)
 }
 

@@ -9,6 +9,8 @@ type Answer<T = String> = Result<T, String>;
 
 /// docs/RULES.md, 'Plane'.
 const LARGEST_SIDE: usize = 1024;
+/// The last bit of a byte.
+const LAST_START: usize = 7;
 
 fn main() -> io::Result<()> {
     let mut out = io::stdout().lock();
@@ -98,10 +100,10 @@ impl Fields<'_> {
     }
 
     fn write(&mut self) -> Answer {
-        let high = self.flag()?;
+        let (high, start) = (self.flag()?, self.up_to(LAST_START)?);
         let types = self.array(Self::code)?;
         let (params, prior) = (self.models()?, self.models()?);
-        let (bytes, bits) = oracle::write_header(&types, &params, high, &prior);
+        let (bytes, bits) = oracle::write_header(&types, &params, high, &prior, start);
         let digits: String = bytes.iter().map(|byte| format!("{byte:02x}")).collect();
         Ok(format!("{bits} .{digits}"))
     }

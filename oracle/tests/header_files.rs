@@ -34,7 +34,7 @@ fn assert_read(header: &Header, place: &str) {
 }
 
 fn assert_written(header: &Header, place: &str) {
-    let (bytes, bits) = write_header(&header.types, &header.params, header.high, &header.prior);
+    let (bytes, bits) = write_header(&header.types, &header.params, header.high, &header.prior, 0);
     assert_eq!(bits, header.bits, "{place}");
     for i in 0..bits {
         assert_eq!(bit(&bytes, i), bit(&header.bytes, header.start + i), "{place} bit {i}");

@@ -46,7 +46,14 @@ fn every_question() {
         (format!("grid_number {ONE}"), "65536"),
         (format!("quantize_model 3 1 {ZERO} {ZERO} {ONE} {ONE} {ONE} {ONE} words"), "0 0 65536 8192 8192 65536"),
         ("quantize 1 1 0 -4096".into(), "-8192"),
-        (format!("write 1 1 0 0 0 0 0 0 8192 -8192 65536 0 0 65536 {} {}", identities(6), identities(7)), "17 .a42000"),
+        (
+            format!("write 1 0 1 0 0 0 0 0 0 8192 -8192 65536 0 0 65536 {} {}", identities(6), identities(7)),
+            "17 .a42000",
+        ),
+        (
+            format!("write 1 3 1 0 0 0 0 0 0 8192 -8192 65536 0 0 65536 {} {}", identities(6), identities(7)),
+            "17 .148400",
+        ),
         (
             format!("read 1 0 {} .a42000", identities(7)),
             &format!("17 1 0 0 0 0 0 0 8192 -8192 65536 0 0 65536 {}", identities(6)),

@@ -34,7 +34,22 @@ fn header_of_one_translation() {
     let mut models = prior;
     models[0] = [8192, -8192, 65536, 0, 0, 65536];
     let types = [TRANSLATION, 0, 0, 0, 0, 0, 0];
-    assert_eq!(write_header(&types, &models, true, &prior), (vec![0xa4, 0x20, 0x00], 17));
+    for (start, bytes) in [
+        [0xa4, 0x20, 0x00],
+        [0x52, 0x10, 0x00],
+        [0x29, 0x08, 0x00],
+        [0x14, 0x84, 0x00],
+        [0x0a, 0x42, 0x00],
+        [0x05, 0x21, 0x00],
+        [0x02, 0x90, 0x80],
+        [0x01, 0x48, 0x40],
+    ]
+    .into_iter()
+    .enumerate()
+    {
+        assert_eq!(write_header(&types, &models, true, &prior, start), (bytes.to_vec(), 17));
+        assert_eq!(read_header(&bytes, start, true, &prior), Some((types, models, 17)));
+    }
     assert_eq!(read_header(&[0xa4, 0x20, 0x00], 0, true, &prior), Some((types, models, 17)));
     assert_eq!(read_header(&[0xa4, 0x20], 0, true, &prior), None);
     assert_eq!(read_header(&[], usize::MAX, true, &prior), None);

@@ -31,7 +31,7 @@ MOST_SAMPLES = 4096
 MOST_EIGHTHS = 223
 BLOCK_BYTES = 512
 BLOCK_WORDS = 125
-HEADER_BYTES = 124
+HEADER_BYTES = 125
 TEXT_BYTES = 4096
 
 IDENTITY, TRANSLATION, ROTZOOM, AFFINE = range(4)
@@ -45,6 +45,7 @@ REFUSALS = {
     2: "plane, class, type, model or prior list of wrong length",
     4: "type, class or flag code out of range; type 0 for a fit",
     5: "slot over 5, reference outside 1 to 7",
+    14: "start of a header to write over 7",
     7: "model off the grid, uncarried slot or pair wrong",
     8: "prior out of range",
     12: "words to store out of range or not rising",
@@ -203,12 +204,14 @@ class Models(NamedTuple):
 
 
 class Settings(NamedTuple):
-    """The frame's number, the type to fit (1 to 3), the reference of the model (1 to 7), the flag."""
+    """The frame's number, the type to fit (1 to 3), the reference of the model (1 to 7), the flag, and the bit of the
+    header's first byte at which writing begins (0 to 7)."""
 
     frame: int
     gm_type: int
     reference: int
     flag: int
+    start: int = 0
 
 
 class Report(NamedTuple):
@@ -395,14 +398,16 @@ def list_block(data):
     return bytes(text[:length]).decode("ascii")
 
 
-def encode_inter_global_motion(types, models, flag, prior, header):
-    """Writes seven types and StoredModels ('Header'); answers how many bits. Refuses 2, 4, 7, 8, 3."""
+def encode_inter_global_motion(types, models, flag, prior, start, header):
+    """Writes seven types and StoredModels from bit start of the first byte on ('Header'); answers how many bits, without
+    the start. Refuses 2, 4, 14, 7, 8, 3."""
     return _call(
         "belt_encode_inter_global_motion",
         _list(types, c_uint8, "types"),
         _numbers(models, "models"),
         _code(flag, "flag"),
         _numbers(prior, "prior"),
+        _code(start, "start", 2**64 - 1),
         _list(header, c_uint8, "header", True),
     ).bits
 
@@ -418,18 +423,19 @@ def job(input_y, reference, width, height, settings, classes, buffers, types=(0,
     """Runs a whole job ('Job'): search, fit, grid, score, blocks and header, into a Buffers or anything with its five
     fields; answers a Report. The six other references are identities unless types and StoredModels are given.
 
-    Refuses 1, 2, 4, 5, 7, 8, 3, 6. After 6 the half planes and the words are in their buffers; blocks and header are
+    Refuses 1, 2, 4, 5, 14, 7, 8, 3, 6. After 6 the half planes and the words are in their buffers; blocks and header are
     as they were.
     """
     frame = _code(settings.frame, "frame", 65535)
-    codes = [_code(code, name) for code, name in zip(settings[1:], ("gm_type", "reference", "flag"))]
+    codes = [_code(code, name) for code, name in zip(settings[1:4], ("gm_type", "reference", "flag"))]
+    start = _code(settings.start, "start", 2**64 - 1)
     report = _call(
         "belt_job",
         _list(input_y, c_uint16, "input_y"),
         _list(reference, c_uint16, "reference"),
         width,
         height,
-        _raw.Settings(frame, *codes),
+        _raw.Settings(frame, *codes, start),
         _list(classes, c_uint8, "classes"),
         _list(types, c_uint8, "types"),
         _numbers(IDENTITIES[:6] if models is None else models, "models"),

@@ -61,7 +61,7 @@ class Models(ctypes.Structure):
 
 
 class Settings(ctypes.Structure):
-    _fields_ = [("frame", c_uint16), ("gm_type", c_uint8), ("reference", c_uint8), ("flag", c_uint8)]
+    _fields_ = [("frame", c_uint16), ("gm_type", c_uint8), ("reference", c_uint8), ("flag", c_uint8), ("start", c_size_t)]
 
 
 class Report(ctypes.Structure):
@@ -98,7 +98,7 @@ CALLS = {
     "belt_read_frame": (_BYTES + _WORDS, FrameRead),
     "belt_judge_block": (_BYTES, BlockRead),
     "belt_list_block": (_BYTES + [POINTER(c_uint8 * 4096)], c_size_t),
-    "belt_encode_inter_global_motion": (_BYTES + _NUMBERS + [c_uint8] + _NUMBERS + _BYTES, Written),
+    "belt_encode_inter_global_motion": (_BYTES + _NUMBERS + [c_uint8] + _NUMBERS + [c_size_t] + _BYTES, Written),
     "belt_read_global_motion_params": (_BYTES + [c_size_t, c_uint8] + _NUMBERS, Models),
     "belt_setup_shear": ([c_uint8] + _NUMBERS, Shear),
     "belt_job": (

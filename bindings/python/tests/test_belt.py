@@ -69,7 +69,7 @@ def task(width=48, height=32, gm_type=1, **changes):
         reference=plane,
         width=width,
         height=height,
-        settings=Settings(4660, gm_type, 3, 1),
+        settings=Settings(4660, gm_type, 3, 1, 5),
         classes=bytes(i % 4 for i in range(samples)),
         types=bytes(6),
         models=IDENTITIES[:6],
@@ -117,12 +117,14 @@ class Jobs(unittest.TestCase):
         for slot, number in enumerate(model):
             self.assertEqual(belt.quantize_global_param(settings.gm_type, settings.flag, slot, number), number)
 
-        read = belt.read_global_motion_params(buffers.header, 0, settings.flag, arguments["prior"])
+        start = settings.start
+        read = belt.read_global_motion_params(buffers.header, start, settings.flag, arguments["prior"])
         self.assertEqual((read.types, read.models, read.bits), (report.types, report.models, report.bits))
-        again = bytearray(belt.HEADER_BYTES)
-        wrote = belt.encode_inter_global_motion(report.types, report.models, settings.flag, arguments["prior"], again)
+        again = bytearray(b"\x5a" * belt.HEADER_BYTES)
+        prior = arguments["prior"]
+        wrote = belt.encode_inter_global_motion(report.types, report.models, settings.flag, prior, start, again)
         self.assertEqual(wrote, report.bits)
-        used = -(-report.bits // 8)
+        used = -(-(start + report.bits) // 8)
         self.assertEqual(again[:used], bytes(buffers.header[:used]))
         self.assertEqual(bytes(buffers.header[used:]), b"\x5a" * (belt.HEADER_BYTES - used))
 
@@ -192,7 +194,7 @@ class Refused(unittest.TestCase):
 
 class Refusals(Refused):
     def test_the_table(self):
-        self.assertEqual(list(belt.REFUSALS), [1, 2, 4, 5, 7, 8, 12, 3, 6, 9, 10, 11])
+        self.assertEqual(list(belt.REFUSALS), [1, 2, 4, 5, 14, 7, 8, 12, 3, 6, 9, 10, 11])
         rules = (Path(__file__).resolve().parents[3] / "docs" / "RULES.md").read_text(encoding="utf-8")
         for number, text in belt.REFUSALS.items():
             self.assertIn(f"| {number} | {text} |", rules)
@@ -220,6 +222,8 @@ class Refusals(Refused):
             (4, dict(types=bytes([0, 0, 0, 0, 0, 4]))),
             (5, dict(settings=Settings(1, 1, 0, 1))),
             (5, dict(settings=Settings(1, 1, 8, 1))),
+            (14, dict(settings=Settings(1, 1, 1, 1, 8))),
+            (14, dict(settings=Settings(1, 1, 1, 1, 2**64 - 1))),
             (7, dict(models=(stored(0, 1),) + IDENTITIES[:5])),
             (7, dict(models=IDENTITIES[:5] + (stored(2, 65537),), types=[0, 0, 0, 0, 0, 3])),
             (8, dict(prior=(stored(3, 8193),) + IDENTITIES[:6])),
@@ -332,8 +336,11 @@ class Refusals(Refused):
         model = StoredModel((8192, -8192, 65536, 0, 0, 65536))
         models, types = (model,) + IDENTITIES[:6], bytes([1, 0, 0, 0, 0, 0, 0])
         header = bytearray(b"\xee" * 5)
-        self.assertEqual(belt.encode_inter_global_motion(types, models, 1, IDENTITIES, header), 17)
+        self.assertEqual(belt.encode_inter_global_motion(types, models, 1, IDENTITIES, 0, header), 17)
         self.assertEqual(header, b"\xa4\x20\x00\xee\xee")
+        later = bytearray(b"\xff" * 4)
+        self.assertEqual(belt.encode_inter_global_motion(types, models, 1, IDENTITIES, 6, later), 17)
+        self.assertEqual(later, b"\xfe\x90\x80\xff")
         off = StoredModel((0, 0, 65537, 0, 0, 65536))
         out = (StoredModel((0, 0, 65536, 8193, 0, 65536)),) + IDENTITIES[:6]
         for number, arguments in [
@@ -344,8 +351,9 @@ class Refusals(Refused):
             (7, (b"\x03" + types[1:], (off,) + IDENTITIES[:6], 1, IDENTITIES)),
             (8, (types, models, 1, out)),
         ]:
-            self.refused(number, belt.encode_inter_global_motion, *arguments, bytearray(30))
-        self.refused(3, belt.encode_inter_global_motion, types, models, 1, IDENTITIES, bytearray(2))
+            self.refused(number, belt.encode_inter_global_motion, *arguments, 0, bytearray(30))
+        self.refused(14, belt.encode_inter_global_motion, types, models, 1, IDENTITIES, 8, bytearray(30))
+        self.refused(3, belt.encode_inter_global_motion, types, models, 1, IDENTITIES, 0, bytearray(2))
         read = belt.read_global_motion_params(b"\xa4\x20\x00", 0, 1, IDENTITIES)
         self.assertEqual(read, (tuple(types), models, 17))
         self.assertEqual(belt.read_global_motion_params(b"\xff\xf4\x84\x00", 11, 1, IDENTITIES), read)
@@ -403,7 +411,7 @@ class Taken(unittest.TestCase):
         with self.assertRaises(TypeError):
             belt.mean_sq_residual(StoredModel(belt.STILL), words(1))
         with self.assertRaises(TypeError):
-            belt.encode_inter_global_motion(bytes(7), (Model(belt.STILL),) * 7, 1, IDENTITIES, bytearray(9))
+            belt.encode_inter_global_motion(bytes(7), (Model(belt.STILL),) * 7, 1, IDENTITIES, 0, bytearray(9))
         with self.assertRaises(ValueError):
             Model((1, 2, 3))
 

@@ -32,7 +32,7 @@
 //!         reference: &reference,
 //!         width: 64,
 //!         height: 48,
-//!         settings: Settings { frame: 5, gm_type: 1, reference: 1, flag: 1 },
+//!         settings: Settings { frame: 5, gm_type: 1, reference: 1, flag: 1, start: 0 },
 //!         classes: &[0; 12],
 //!         types: &[0; 6],
 //!         models: &IDENTITIES[..6],
@@ -73,8 +73,8 @@ pub const MOST_EIGHTHS: u16 = 223;
 pub const BLOCK_BYTES: usize = 512;
 /// The words that a sample block holds.
 pub const BLOCK_WORDS: usize = 125;
-/// The bytes that a header never exceeds, and that a job asks for.
-pub const HEADER_BYTES: usize = 124;
+/// The bytes that a header never exceeds, whatever its start, and that a job asks for.
+pub const HEADER_BYTES: usize = 125;
 
 /// A fitted model: its type, 1 to 3, and two, four or six numbers, zeros after them.
 #[derive(Clone, Copy, Debug, PartialEq)]
@@ -127,6 +127,8 @@ pub struct Settings {
     pub reference: u8,
     /// 1 for high precision, else 0.
     pub flag: u8,
+    /// The bit of the header's first byte at which writing begins, 0 to 7.
+    pub start: usize,
 }
 
 /// What a job is handed.
@@ -140,7 +142,7 @@ pub struct Task<'a> {
     pub width: usize,
     /// The sides of both, in pels, at most [`MOST_SIDE`].
     pub height: usize,
-    /// Frame number, type, reference and flag.
+    /// Frame number, type, reference, flag and start.
     pub settings: Settings,
     /// A class for each whole 16×16 block: [`sample_count`] of them.
     pub classes: &'a [u8],
@@ -432,13 +434,14 @@ pub fn list_block<'a>(bytes: &[u8], text: &'a mut [u8; TEXT_BYTES]) -> &'a str {
     std::str::from_utf8(&text[..length]).expect("the text is ASCII")
 }
 
-/// Writes seven types and models from bit 0 of `header` on ('Header'); answers how many bits. The buffer needs the
-/// exact bytes; [`HEADER_BYTES`] are always enough.
+/// Writes seven types and models from bit `start`, 0 to 7, of the first byte of `header` on ('Header'); answers how many
+/// bits, without the start. The bits before the start stay, and those behind the last one up to its byte's end become 0.
+/// The buffer needs the exact bytes, those of start and bits; [`HEADER_BYTES`] are always enough.
 ///
 /// # Errors
 ///
-/// [`Refusal::WrongLength`], [`Refusal::NoSuchCode`], [`Refusal::OffGrid`], [`Refusal::PriorOut`],
-/// [`Refusal::TooShort`].
+/// [`Refusal::WrongLength`], [`Refusal::NoSuchCode`], [`Refusal::StartOver`], [`Refusal::OffGrid`],
+/// [`Refusal::PriorOut`], [`Refusal::TooShort`].
 ///
 /// ```
 /// use belt::{IDENTITIES, StoredModel};
@@ -447,22 +450,24 @@ pub fn list_block<'a>(bytes: &[u8], text: &'a mut [u8; TEXT_BYTES]) -> &'a str {
 /// models[0] = StoredModel([8192, -8192, 65536, 0, 0, 65536]);
 /// let mut header = [0xFF; 4];
 /// let types = [1, 0, 0, 0, 0, 0, 0];
-/// assert_eq!(belt::encode_inter_global_motion(&types, &models, 1, &IDENTITIES, &mut header), Ok(17));
-/// assert_eq!(header, [0xA4, 0x20, 0x00, 0xFF]);
+/// assert_eq!(belt::encode_inter_global_motion(&types, &models, 1, &IDENTITIES, 3, &mut header), Ok(17));
+/// assert_eq!(header, [0xF4, 0x84, 0x00, 0xFF]);
 /// ```
 pub fn encode_inter_global_motion(
     types: &[u8],
     models: &[StoredModel],
     flag: u8,
     prior: &[StoredModel],
+    start: usize,
     header: &mut [u8],
 ) -> Result<usize, Refusal> {
     let (numbers, prior_numbers) = (raw::numbers(models), raw::numbers(prior));
-    let written = raw::encode_inter_global_motion(types, numbers, flag, prior_numbers, header);
+    let written = raw::encode_inter_global_motion(types, numbers, flag, prior_numbers, start, header);
     // a header that was refused for its room alone, into room that is always enough
     let wanted = || {
         let mut room = [0; HEADER_BYTES];
-        raw::encode_inter_global_motion(types, numbers, flag, prior_numbers, &mut room).bits.div_ceil(8)
+        let bits = raw::encode_inter_global_motion(types, numbers, flag, prior_numbers, start, &mut room).bits;
+        (start + bits).div_ceil(8)
     };
     judged_lists(
         written.refusal,
@@ -479,7 +484,7 @@ pub fn encode_inter_global_motion(
 /// [`Refusal::WrongLength`], [`Refusal::NoSuchCode`], [`Refusal::PriorOut`], [`Refusal::EndsFirst`].
 ///
 /// ```
-/// let read = belt::read_global_motion_params(&[0xA4, 0x20, 0x00], 0, 1, &belt::IDENTITIES)?;
+/// let read = belt::read_global_motion_params(&[0xF4, 0x84, 0x00], 3, 1, &belt::IDENTITIES)?;
 /// assert_eq!((read.types[0], read.bits), (1, 17));
 /// assert_eq!(read.models[0].0[..2], [8192, -8192]);
 /// # Ok::<(), belt::Refusal>(())
@@ -495,16 +500,16 @@ pub fn read_global_motion_params(header: &[u8], at: usize, flag: u8, prior: &[St
 /// # Errors
 ///
 /// [`Refusal::TooLarge`], [`Refusal::WrongLength`], [`Refusal::NoSuchCode`], [`Refusal::NoSuchSlot`],
-/// [`Refusal::OffGrid`], [`Refusal::PriorOut`], [`Refusal::TooShort`], [`Refusal::Singular`]. After the last the half
-/// planes and the words are in their buffers; blocks and header are as they were.
+/// [`Refusal::StartOver`], [`Refusal::OffGrid`], [`Refusal::PriorOut`], [`Refusal::TooShort`], [`Refusal::Singular`].
+/// After the last the half planes and the words are in their buffers; blocks and header are as they were.
 pub fn job(task: &Task<'_>, lent: &mut Lent<'_>) -> Result<Report, Refusal> {
-    let Settings { frame, gm_type, reference, flag } = task.settings;
+    let Settings { frame, gm_type, reference, flag, start } = task.settings;
     let report = raw::job(
         task.input,
         task.reference,
         task.width,
         task.height,
-        raw::Settings { frame, gm_type, reference, flag },
+        raw::Settings { frame, gm_type, reference, flag, start },
         task.classes,
         task.types,
         raw::numbers(task.models),

@@ -96,6 +96,7 @@ pub struct Settings {
     pub gm_type: u8,
     pub reference: u8,
     pub flag: u8,
+    pub start: usize,
 }
 
 #[repr(C)]
@@ -149,6 +150,7 @@ unsafe extern "C" {
         flag: u8,
         prior: *const i32,
         prior_count: usize,
+        start: usize,
         header: *mut u8,
         room: usize,
     ) -> Written;
@@ -280,9 +282,16 @@ pub fn list_block(bytes: &[u8], text: &mut [u8; TEXT_BYTES]) -> usize {
     unsafe { belt_list_block(bytes.as_ptr(), bytes.len(), text) }
 }
 
-pub fn encode_inter_global_motion(types: &[u8], params: &[i32], flag: u8, prior: &[i32], header: &mut [u8]) -> Written {
-    // SAFETY: three slices are read, one written; other counts than 7, 42 and 42 are refused, and so is a header
-    // that is too short, before a byte is written.
+pub fn encode_inter_global_motion(
+    types: &[u8],
+    params: &[i32],
+    flag: u8,
+    prior: &[i32],
+    start: usize,
+    header: &mut [u8],
+) -> Written {
+    // SAFETY: three slices are read, one written; other counts than 7, 42 and 42 are refused, and so is a start over 7
+    // or a header that is too short, before a byte is written.
     unsafe {
         belt_encode_inter_global_motion(
             types.as_ptr(),
@@ -292,6 +301,7 @@ pub fn encode_inter_global_motion(types: &[u8], params: &[i32], flag: u8, prior:
             flag,
             prior.as_ptr(),
             prior.len(),
+            start,
             header.as_mut_ptr(),
             header.len(),
         )

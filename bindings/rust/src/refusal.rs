@@ -15,6 +15,8 @@ pub enum Refusal {
     NoSuchCode,
     /// 5: slot over 5, reference outside 1 to 7.
     NoSuchSlot,
+    /// 14: start of a header to write over 7.
+    StartOver,
     /// 7: model off the grid, uncarried slot or pair wrong.
     OffGrid,
     /// 8: prior out of range.
@@ -55,11 +57,12 @@ impl Length {
 
 impl Refusal {
     /// Every row's number and condition, in the table's order.
-    pub const TABLE: [(u32, &str); 12] = [
+    pub const TABLE: [(u32, &str); 13] = [
         (1, "side over 1,024, or over 4,096 samples"),
         (2, "plane, class, type, model or prior list of wrong length"),
         (4, "type, class or flag code out of range; type 0 for a fit"),
         (5, "slot over 5, reference outside 1 to 7"),
+        (14, "start of a header to write over 7"),
         (7, "model off the grid, uncarried slot or pair wrong"),
         (8, "prior out of range"),
         (12, "words to store out of range or not rising"),
@@ -77,6 +80,7 @@ impl Refusal {
             Refusal::WrongLength(_) => 2,
             Refusal::NoSuchCode => 4,
             Refusal::NoSuchSlot => 5,
+            Refusal::StartOver => 14,
             Refusal::OffGrid => 7,
             Refusal::PriorOut => 8,
             Refusal::NotRising => 12,
@@ -101,6 +105,7 @@ impl Refusal {
             2 => Refusal::WrongLength(length),
             4 => Refusal::NoSuchCode,
             5 => Refusal::NoSuchSlot,
+            14 => Refusal::StartOver,
             7 => Refusal::OffGrid,
             8 => Refusal::PriorOut,
             12 => Refusal::NotRising,

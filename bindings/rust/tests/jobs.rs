@@ -58,15 +58,16 @@ fn run(handed: &Handed) -> (Report, Buffers) {
     assert_eq!(others, handed.models);
 
     // the header reads back as the report, and nothing behind its last byte is written
-    let read = belt::read_global_motion_params(&after.header, 0, settings.flag, &handed.prior).unwrap();
+    let (flag, start, prior) = (settings.flag, settings.start, &handed.prior);
+    let read = belt::read_global_motion_params(&after.header, start, flag, prior).unwrap();
     assert_eq!((read.types, read.models, read.bits), (report.types, report.models, report.bits));
-    let bytes = report.bits.div_ceil(8);
+    let bytes = (start + report.bits).div_ceil(8);
     assert_eq!(after.header[bytes..], before.header[bytes..]);
-    let padding = 8 * bytes - report.bits;
+    let padding = 8 * bytes - start - report.bits;
     assert_eq!(after.header[bytes - 1] & ((1u16 << padding) - 1) as u8, 0);
-    let mut again = vec![0x77; bytes + 2];
-    let wrote =
-        belt::encode_inter_global_motion(&report.types, &report.models, settings.flag, &handed.prior, &mut again);
+    assert_eq!((after.header[0] ^ before.header[0]) & !(0xff >> start), 0);
+    let mut again = [&before.header[..bytes], &[0x77, 0x77]].concat();
+    let wrote = belt::encode_inter_global_motion(&report.types, &report.models, flag, prior, start, &mut again);
     assert_eq!(wrote, Ok(report.bits));
     assert_eq!((&again[..bytes], &again[bytes..]), (&after.header[..bytes], &[0x77, 0x77][..]));
 
@@ -202,6 +203,6 @@ fn a_plane_without_a_whole_block_touches_no_working_memory() {
     let report = belt::job(&handed.task(), &mut after.lend()).unwrap();
     assert_eq!((report.samples, report.score), (0, 0.0));
     assert_eq!(Buffers { header: before.header.clone(), ..after.clone() }, before);
-    let read = belt::read_global_motion_params(&after.header, 0, 1, &handed.prior).unwrap();
+    let read = belt::read_global_motion_params(&after.header, handed.settings.start, 1, &handed.prior).unwrap();
     assert_eq!((read.types, read.models, read.bits), (report.types, report.models, report.bits));
 }

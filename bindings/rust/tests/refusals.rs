@@ -14,7 +14,7 @@ fn words(count: usize) -> Vec<u32> {
 #[test]
 fn the_table_is_that_of_the_rules() {
     let numbers = Refusal::TABLE.map(|(number, _)| number);
-    assert_eq!(numbers, [1, 2, 4, 5, 7, 8, 12, 3, 6, 9, 10, 11]);
+    assert_eq!(numbers, [1, 2, 4, 5, 14, 7, 8, 12, 3, 6, 9, 10, 11]);
     for row in [TooLarge, NoSuchCode, NoSuchSlot, OffGrid, PriorOut, NotRising, Singular] {
         assert_eq!(row.to_string(), format!("{}: {}", row.number(), row.condition()));
     }
@@ -72,6 +72,8 @@ fn job() {
         (NoSuchCode, |h, _| h.types[5] = 4),
         (NoSuchSlot, |h, _| h.settings.reference = 0),
         (NoSuchSlot, |h, _| h.settings.reference = 8),
+        (StartOver, |h, _| h.settings.start = 8),
+        (StartOver, |h, _| h.settings.start = usize::MAX),
         (OffGrid, |h, _| h.models[0].0[0] = 1),
         (OffGrid, |h, _| h.models[5].0[5] = 65538),
         (OffGrid, |h, _| (h.types[1], h.models[1].0[2]) = (3, 65537)),
@@ -86,8 +88,8 @@ fn job() {
         (short("ref_half", 383, 384), |_, b| b.ref_half.truncate(383)),
         (short("words", 5, 6), |_, b| b.words.truncate(5)),
         (short("blocks", 511, 512), |_, b| b.blocks.truncate(511)),
-        (short("header", 123, 124), |_, b| b.header.truncate(123)),
-        (short("header", 0, 124), |_, b| b.header.clear()),
+        (short("header", 124, 125), |_, b| b.header.truncate(124)),
+        (short("header", 0, 125), |_, b| b.header.clear()),
     ];
     let handed = Handed::new(noisy_plane(48, 32), noisy_plane(48, 32), 48, 32, 1);
     let mut exact = guarded(48, 32);
@@ -285,7 +287,7 @@ fn headers_written_and_read() {
     type Stored<'a> = &'a [StoredModel];
     let write = |types: &[u8], params: Stored, flag, prior: Stored, room: usize, row: Result<usize, Refusal>| {
         let mut header = vec![0xEE; room];
-        assert_eq!(belt::encode_inter_global_motion(types, params, flag, prior, &mut header), row);
+        assert_eq!(belt::encode_inter_global_motion(types, params, flag, prior, 0, &mut header), row);
         if row.is_err() {
             assert_eq!(header, vec![0xEE; room]);
         }
@@ -297,6 +299,24 @@ fn headers_written_and_read() {
         numbers
     };
     assert_eq!(write(&types, &params, 1, &IDENTITIES, 5, Ok(17)), [0xA4, 0x20, 0x00, 0xEE, 0xEE]);
+    // from each bit of the first byte on: the bits before it stay
+    for (start, bytes) in
+        [0xA42000FF_u32, 0xD21000FF, 0xE90800FF, 0xF48400FF, 0xFA4200FF, 0xFD2100FF, 0xFE9080FF, 0xFF4840FF]
+            .into_iter()
+            .enumerate()
+    {
+        let mut header = [0xFF; 4];
+        assert_eq!(belt::encode_inter_global_motion(&types, &params, 1, &IDENTITIES, start, &mut header), Ok(17));
+        assert_eq!(header, bytes.to_be_bytes());
+        let back = belt::read_global_motion_params(&header[..3], start, 1, &IDENTITIES).unwrap();
+        assert_eq!((back.types, back.models, back.bits), (types, params, 17));
+    }
+    let identities =
+        |start, room: &mut [u8]| belt::encode_inter_global_motion(&[0; 7], &IDENTITIES, 1, &IDENTITIES, start, room);
+    assert_eq!(identities(2, &mut [0xFF]), Err(short("header", 1, 2)));
+    assert_eq!(identities(8, &mut [0xFF; 125]), Err(StartOver));
+    assert_eq!(belt::encode_inter_global_motion(&types, &params, 2, &IDENTITIES, 8, &mut [0xFF; 125]), Err(NoSuchCode));
+    assert_eq!(belt::encode_inter_global_motion(&[0; 7], &params, 1, &IDENTITIES, 8, &mut [0xFF; 125]), Err(StartOver));
     write(&types[..6], &params, 1, &IDENTITIES, 3, Err(wrong("types", 6, 7)));
     write(&types, &params[..6], 1, &IDENTITIES, 3, Err(wrong("models", 6, 7)));
     write(&types, &params, 1, &IDENTITIES[..6], 3, Err(wrong("prior", 6, 7)));

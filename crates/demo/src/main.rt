@@ -18,8 +18,11 @@ const SAMPLES: usize = 16;
 // The belt goes on beyond the frame: where its first pel lies.
 const FIRST: u32 = 1000;
 
-// The bits that 124 bytes hold.
-const MOST_BITS: usize = 992;
+// The bits that 125 bytes hold.
+const MOST_BITS: usize = 1000;
+
+// The bit of the first byte at which the header begins.
+const START: usize = 0;
 
 const FRAME: u16 = 7;
 
@@ -326,7 +329,7 @@ fn finish(gm_type: u8, r: Report, words: &[u32], blocks: &[u8], header: &[u8], p
     let truth = true_motion(gm_type);
     let models = r.models;
     let measured = own_model(gm_type, models);
-    let read = header_read::read_global_motion_params(header, 0, HIGH_PRECISION, prior);
+    let read = header_read::read_global_motion_params(header, START, HIGH_PRECISION, prior);
     let params = read.params;
     let stored = own_model(gm_type, params);
     print_motion(b"true:", truth);
@@ -347,6 +350,7 @@ fn run(gm_type: u8, input: &[u16], reference: &[u16], prior: &[i32], models: &[i
         gm_type,
         reference: REFERENCE,
         flag: HIGH_PRECISION,
+        start: START,
     };
     let classes = [1u8; SAMPLES];
     let types = [0u8; 6];
@@ -354,7 +358,7 @@ fn run(gm_type: u8, input: &[u16], reference: &[u16], prior: &[i32], models: &[i
     let mut ref_half = [0u16; HALF];
     let mut words = [0u32; SAMPLES];
     let mut blocks = [0u8; 512];
-    let mut header = [0u8; 124];
+    let mut header = [0u8; 125];
     let r = job::job(
         input,
         reference,

@@ -1,9 +1,10 @@
 -- A writing call is refused by no row exactly where the header can be written and there is room for it.
 -- Assumes nothing.
-use Prim.Native.Nat.{ℕ, _≤_}
+use Prim.Native.Nat.{ℕ, _≤_, _<_}
 use mathlib.Core.Bool.{false, not}
 use mathlib.Core.List.{List}
 use mathlib.Core.Path.{_≡_, ap, sym, _∙_}
+use native.Mathlib.Omega.{arith}
 use borrow.Author.Tests.{ltb-false, le-ltb}
 use lib.Dec.{eqb}
 use lib.IntN.{ℤ}
@@ -12,7 +13,7 @@ use Rattle.laws.specs.Refusal.{either, judge}
 use Rattle.laws.proofs.Call.{answered-accepted, answered-refused, left-accepted, left-refused}
 use Rattle.laws.proofs.Refusal.{neither, length-is, quiet, or-else-quiet}
 use Rattle.header.specs.Inner.{Seven, HeaderReady}
-use Rattle.header.specs.Writing.{headerBits, lengthsWrong, bytesFor, bitsPlaced, codeRows, writeRows, writeRefusal, notWritten, written, headerAfter}
+use Rattle.header.specs.Writing.{headerBits, lengthsWrong, bytesFor, bitsPlaced, codeRows, modelRows, roomRows, writeRefusal, notWritten, written, headerAfter}
 use Rattle.header.proofs.RoundTrip.{Writable}
 
 lengths-right : (a b c : ℕ) → lengthsWrong a b c ≡ false → (a ≡ 7) × (b ≡ 42) × (c ≡ 42)
@@ -29,23 +30,33 @@ module _ (types : List ℕ) (ps : List ℤ) (flag : ℕ) (qs : List ℤ) where
       record { seven = l .0; numbers = l .1; places = l .2 }
 
   module _ (start : ℕ) where
+    -- and the second
+    pub start-low : judge (modelRows start types ps flag qs) ≡ 0 → start < 8
+    start-low e = omega (arith, ltb-false 7 start (quiet (modelRows start types ps flag qs) tt e .0))
+
+    pub ready-to-write : judge (codeRows types ps flag qs) ≡ 0 → judge (modelRows start types ps flag qs) ≡ 0 → HeaderReady types ps qs
+    ready-to-write c m = record { all = seven-models c; within = quiet (modelRows start types ps flag qs) tt m .1 .1 .0 }
+
     -- what an accepted call knows
     pub record Accepted (room : ℕ) : Type 0 where
       pub writable : Writable types ps flag qs
       pub flagged : flag ≤ 1
+      pub low : start < 8
       pub roomy : bytesFor start (length (headerBits types ps flag qs)) ≤ room
 
     pub accepted : (room : ℕ) → writeRefusal start types ps flag qs room ≡ 0 → Accepted room
     unfolding writeRefusal
     accepted room e =
-        let both = or-else-quiet (judge (codeRows types ps flag qs)) (judge (writeRows start types ps flag qs room)) e in
-        let codes = quiet (codeRows types ps flag qs) tt (both .0) in
-        let rest = quiet (writeRows start types ps flag qs room) tt (both .1) in
-        let l = seven-models (both .0) in
+        let first = or-else-quiet (judge (codeRows types ps flag qs)) _ e in
+        let rest = or-else-quiet (judge (modelRows start types ps flag qs)) (judge (roomRows start types ps flag qs room)) (first .1) in
+        let codes = quiet (codeRows types ps flag qs) tt (first .0) in
+        let handed = quiet (modelRows start types ps flag qs) tt (rest .0) in
+        let l = seven-models (first .0) in
         record {
-          writable = record { seven = l .seven; models = l .numbers; priors = l .places; known = codes .1 .0; right = rest .0; within = rest .1 .0 };
+          writable = record { seven = l .seven; models = l .numbers; priors = l .places; known = codes .1 .0; right = handed .1 .0; within = handed .1 .1 .0 };
           flagged = ltb-false 1 flag (codes .1 .1 .0);
-          roomy = ltb-false room (bytesFor start (length (headerBits types ps flag qs))) (rest .1 .1 .0);
+          low = start-low (rest .0);
+          roomy = ltb-false room (bytesFor start (length (headerBits types ps flag qs))) (quiet (roomRows start types ps flag qs room) tt (rest .1) .0);
         }
 
     pub header-ready : (room : ℕ) → Accepted room → HeaderReady types ps qs
@@ -63,6 +74,7 @@ module _ (types : List ℕ) (ps : List ℤ) (flag : ℕ) (qs : List ℤ) where
           w .priors,
           w .known,
           le-ltb 1 flag (a .flagged),
+          le-ltb 7 start (let l : start ≤ 7 = omega (arith, a .low) in l),
           w .right,
           w .within,
           le-ltb room (bytesFor start (length (headerBits types ps flag qs))) (a .roomy),

@@ -2,6 +2,7 @@ pub mod Coefficient
 pub mod Valid
 pub mod Worked
 pub mod Reference
+pub mod Placed
 pub mod RoundTrip
 pub mod Count
 pub mod Slots

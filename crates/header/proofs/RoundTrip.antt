@@ -15,9 +15,7 @@ use Rattle.laws.specs.Refusal.{choose}
 use Rattle.laws.proofs.Below.{each-fails}
 use Rattle.bits.specs.Bits.{bitAt}
 use Rattle.bits.proofs.Held.{Holds, AreBits}
-use Rattle.bits.specs.Fields.{padBits, padding}
-use Rattle.bits.proofs.Buffer.{bitAt-lt, holds-front, holds-back, bits-append, putBits-holds}
-use Rattle.bits.proofs.Fields.{fieldBits-are-bits, length-fieldBits}
+use Rattle.bits.proofs.Buffer.{bitAt-lt, holds-front, holds-back, bits-append}
 use Rattle.grid.specs.Grid.{absBits, precBits, centre, Codable, quantized}
 use Rattle.grid.proofs.Table.{row-codable}
 use Rattle.models.specs.Integers.{equal}
@@ -26,6 +24,7 @@ use Rattle.models.proofs.Integers.{same-equal}
 use Rattle.header.specs.Reading.{referenceRead, referencesRead, modelsRead}
 use Rattle.header.specs.Inner.{ValidPrior, ModelReady, HeaderReady}
 use Rattle.header.specs.Writing.{slotOf, referenceBits, referencesBits, headerBits, bitsPlaced, bytesFor}
+use Rattle.header.proofs.Placed.{placed}
 use Rattle.header.proofs.Reference.{reference-back, reference-bits, at-most-141-bits}
 use Rattle.header.proofs.Valid.{ValidModel, sixOf}
 
@@ -127,10 +126,7 @@ module _ (flag : ℕ) (types : List ℕ) (ps qs : List ℤ) where
   unfolding headerBits
   header-bits = references-bits 7 0
 
-  -- 124 bytes suffice from bit 0 on, 125 from any bit of the first byte
-  pub at-most-124-bytes : bytesFor 0 (length (headerBits types ps flag qs)) ≤ 124
-  at-most-124-bytes = omega (arith, at-most-987-bits)
-
+  -- 125 bytes suffice from any bit of the first one on
   pub at-most-125-bytes : (start : ℕ) → start < 8 → bytesFor start (length (headerBits types ps flag qs)) ≤ 125
   at-most-125-bytes start h = omega (arith, at-most-987-bits)
 
@@ -172,9 +168,4 @@ module _ (types : List ℕ) (ps : List ℤ) (flag : ℕ) (qs : List ℤ) (w : Wr
   pub round-trip : (start : ℕ) (old : List ℕ) → bytesFor start (length (headerBits types ps flag qs)) ≤ length old
       → modelsRead (bitsPlaced start (headerBits types ps flag qs) old) start flag qs ≡ record { types = types; params = ps; bits = length (headerBits types ps flag qs) }
   round-trip start old room =
-      let xs : List ℕ = headerBits types ps flag qs in
-      let pad : List ℕ = padBits (start + length xs) in
-      read-back (bitsPlaced start xs old) start
-      (holds-front (bitAt (bitsPlaced start xs old)) start xs pad
-      (putBits-holds old start (xs ++ pad) (bits-append xs pad (header-bits flag types ps qs) (fieldBits-are-bits (padding (start + length xs)) 0))
-      (omega (arith, length-append xs pad, length-fieldBits (padding (start + length xs)) 0))))
+      read-back (bitsPlaced start (headerBits types ps flag qs) old) start (placed start (headerBits types ps flag qs) old (header-bits flag types ps qs) room .there)

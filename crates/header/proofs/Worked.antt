@@ -1,7 +1,7 @@
--- The worked values of docs/RULES.md that are marked *: the quantizations, the coefficients' codes and the header of 17 bits; and four of our own.
+-- The worked values of docs/RULES.md that are marked *: the quantizations, the coefficients' codes, the header of 17 bits from each start on, and rows 14 and 3; and four of our own.
 -- Assumes nothing.
 use Prim.Native.Nat.{ℕ}
-use mathlib.Core.List.{List, [], _∷_}
+use mathlib.Core.List.{List, [], _∷_, map}
 use mathlib.Core.Path.{_≡_, refl}
 use lib.IntN.{ℤ, pos, negsuc}
 use lib.ListN.{replicate}
@@ -35,6 +35,9 @@ types = 1 ∷ 0 ∷ 0 ∷ 0 ∷ 0 ∷ 0 ∷ 0 ∷ []
 abbrev params : List ℤ
 params = pos 8192 ∷ negsuc 8191 ∷ pos 65536 ∷ pos 0 ∷ pos 0 ∷ pos 65536 ∷ identities
 
+abbrev ones : List ℕ
+ones = 0xFF ∷ 0xFF ∷ 0xFF ∷ 0xFF ∷ []
+
 pub record Worked : Type 0 where
   -- slot 2
   pub centre : quantized 3 1 2 (pos 65536) ≡ pos 65536
@@ -65,6 +68,27 @@ pub record Worked : Type 0 where
   -- high, prior identity: 17 bits, A4 20 00
   pub header-bits : written 0 types params 1 prior 3 ≡ record { refusal = 0; bits = 17 }
   pub header-bytes : headerAfter 0 types params 1 prior (255 ∷ 255 ∷ 255 ∷ []) ≡ 0xA4 ∷ 0x20 ∷ 0x00 ∷ []
+  -- from each bit of a filled first byte on
+  pub from-each-bit : map (λ start. headerAfter start types params 1 prior ones) (0 ∷ 1 ∷ 2 ∷ 3 ∷ 4 ∷ 5 ∷ 6 ∷ 7 ∷ [])
+      ≡ (0xA4 ∷ 0x20 ∷ 0x00 ∷ 0xFF ∷ [])
+      ∷ (0xD2 ∷ 0x10 ∷ 0x00 ∷ 0xFF ∷ [])
+      ∷ (0xE9 ∷ 0x08 ∷ 0x00 ∷ 0xFF ∷ [])
+      ∷ (0xF4 ∷ 0x84 ∷ 0x00 ∷ 0xFF ∷ [])
+      ∷ (0xFA ∷ 0x42 ∷ 0x00 ∷ 0xFF ∷ [])
+      ∷ (0xFD ∷ 0x21 ∷ 0x00 ∷ 0xFF ∷ [])
+      ∷ (0xFE ∷ 0x90 ∷ 0x80 ∷ 0xFF ∷ [])
+      ∷ (0xFF ∷ 0x48 ∷ 0x40 ∷ 0xFF ∷ [])
+      ∷ []
+  pub count-from-bit-7 : written 7 types params 1 prior 3 ≡ record { refusal = 0; bits = 17 }
+  -- seven identities
+  pub identities-from-bit-0 : headerAfter 0 (replicate 7 0) prior 1 prior (0xFF ∷ 0xFF ∷ []) ≡ 0x00 ∷ 0xFF ∷ []
+  pub identities-from-bit-1 : headerAfter 1 (replicate 7 0) prior 1 prior (0xFF ∷ 0xFF ∷ []) ≡ 0x80 ∷ 0xFF ∷ []
+  pub identities-from-bit-2 : headerAfter 2 (replicate 7 0) prior 1 prior (0xFF ∷ 0xFF ∷ []) ≡ 0xC0 ∷ 0x00 ∷ []
+  pub a-byte-short : written 2 (replicate 7 0) prior 1 prior 1 ≡ record { refusal = 3; bits = 0 }
+  -- row 14: a flag comes first, a model behind
+  pub no-such-start : written 8 types params 1 prior 3 ≡ record { refusal = 14; bits = 0 }
+  pub flag-first : written 8 types params 2 prior 3 ≡ record { refusal = 4; bits = 0 }
+  pub model-behind : written 8 (replicate 7 0) params 1 prior 3 ≡ record { refusal = 14; bits = 0 }
 
 pub worked : Worked
 unfolding quantize nearestOrdinal symbolOf placeOf putBit bitLength nsBits subexpBits codeOf typesOver modelsWrong modelWrong slotWrong filler priorsOut
@@ -92,4 +116,13 @@ worked =
       centred-5 = refl;
       header-bits = refl;
       header-bytes = refl;
+      from-each-bit = refl;
+      count-from-bit-7 = refl;
+      identities-from-bit-0 = refl;
+      identities-from-bit-1 = refl;
+      identities-from-bit-2 = refl;
+      a-byte-short = refl;
+      no-such-start = refl;
+      flag-first = refl;
+      model-behind = refl;
     }

@@ -12,7 +12,7 @@ use Rattle.laws.specs.Refusal.{Row, row, choose, either, judge, orElse}
 use Rattle.bits.specs.Bits.{putBits}
 use Rattle.bits.specs.Fields.{padBits}
 use Rattle.grid.specs.Slots.{slotsOf}
-use Rattle.models.specs.Models.{typesOver, modelsWrong, priorsOut}
+use Rattle.models.specs.Models.{typesOver, modelsWrong, priorsOut, startOver}
 use Rattle.header.specs.Coefficient.{coefficientBits}
 use Rattle.header.specs.declared.Written.{Written}
 
@@ -73,13 +73,17 @@ abbrev pub codeRows : List ℕ → List ℤ → ℕ → List ℤ → List Row
 codeRows types ps flag qs =
     row 2 (lengthsWrong (length types) (length ps) (length qs)) ∷ row 4 (typesOver types) ∷ row 4 (ltb 1 flag) ∷ []
 
--- row 7 for the models, row 8 for the priors, row 3 for the room
-abbrev pub writeRows : ℕ → List ℕ → List ℤ → ℕ → List ℤ → ℕ → List Row
-writeRows start types ps flag qs room =
-    row 7 (modelsWrong types flag ps) ∷ row 8 (priorsOut qs) ∷ row 3 (tooShort start types ps flag qs room) ∷ []
+-- row 14 for the start, row 7 for the models, row 8 for the priors
+abbrev pub modelRows : ℕ → List ℕ → List ℤ → ℕ → List ℤ → List Row
+modelRows start types ps flag qs = row 14 (startOver start) ∷ row 7 (modelsWrong types flag ps) ∷ row 8 (priorsOut qs) ∷ []
+
+-- row 3 for the room
+abbrev pub roomRows : ℕ → List ℕ → List ℤ → ℕ → List ℤ → ℕ → List Row
+roomRows start types ps flag qs room = row 3 (tooShort start types ps flag qs room) ∷ []
 
 unfoldable pub writeRefusal : ℕ → List ℕ → List ℤ → ℕ → List ℤ → ℕ → ℕ
-writeRefusal start types ps flag qs room = orElse (judge (codeRows types ps flag qs)) (judge (writeRows start types ps flag qs room))
+writeRefusal start types ps flag qs room =
+    orElse (judge (codeRows types ps flag qs)) (orElse (judge (modelRows start types ps flag qs)) (judge (roomRows start types ps flag qs room)))
 
 abbrev pub notWritten : ℕ → Written
 notWritten n = record { refusal = n; bits = 0 }

@@ -1,5 +1,5 @@
 // The header's global motion parameters, written: types and numbers of seven models, the flag and a
-// prior go in, bits come out. Answers to docs/RULES.md, 'Header' and rows 2, 4, 7, 8, 3; clauses 5.9.24
+// prior go in, bits come out. Answers to docs/RULES.md, 'Header' and rows 2, 4, 14, 7, 8, 3; clauses 5.9.24
 // and 5.9.25 of the standard; `encode_inter_global_motion` and `write_global_param` of
 // encoder/frame_obu.rs. `specs/Reading` also states what the standard reads.
 ghost use mathlib.Core.Path.{_≡_};
@@ -12,22 +12,18 @@ ghost use Rattle.header.specs.Coefficient.{coefficientBits};
 ghost use Rattle.header.specs.Count.{slotCount, modelCount, headerCount};
 ghost use Rattle.header.specs.Inner.{ModelReady, Seven, HeaderReady, TypeFieldIs};
 ghost use Rattle.header.specs.Writing.{slotBits, typeBits, modelBits, referenceBits, headerBits, bitsPlaced, written, headerAfter};
-ghost use Rattle.header.specs.Writing.{lengthsWrong, bytesFor, tooShort, codeRows, writeRows, writeRefusal};
+ghost use Rattle.header.specs.Writing.{lengthsWrong, bytesFor, tooShort, codeRows, modelRows, roomRows, writeRefusal};
 use bits::BITS_OF_A_BYTE;
 use bits::BitCursor;
 use grid::IDENTITY;
 use grid::ROTZOOM;
 use grid::TRANSLATION;
-
-pub const REFERENCES: usize = 7;
-
-pub const SLOTS: usize = 6;
-
-// Six numbers for each of seven references.
-pub const NUMBERS: usize = 42;
+use models::NUMBERS;
+use models::REFERENCES;
+use models::SLOTS;
 
 // 987 bits at most, from any bit of the first byte on.
-const MOST_BYTES: usize = 125;
+pub const MOST_BYTES: usize = 125;
 
 // Rows of the rules' table.
 const WRONG_LENGTH: u32 = 2;
@@ -35,6 +31,8 @@ const WRONG_LENGTH: u32 = 2;
 const TOO_SHORT: u32 = 3;
 
 const NO_SUCH_CODE: u32 = 4;
+
+const START_OVER: u32 = 14;
 
 const MODEL_WRONG: u32 = 7;
 
@@ -272,8 +270,24 @@ fn code_refusal(types: &[u8], params: &[i32], flag: u8, prior: &[i32]) -> u32
     0
 }
 
-// Models, priors and room.
-fn write_refusal(
+// Start, models and priors.
+fn model_refusal(start: usize, types: &[u8], params: &[i32], flag: u8, prior: &[i32]) -> u32
+    requires { ⌜ Seven (now types) (now params) (now prior) ⌝ }
+    ensures { λ r. ⌜ r ≡ judge (modelRows start (now (types .entry)) (now (params .entry)) flag (now (prior .entry))) ⌝ }
+{
+    if models::start_over(start) {
+        return START_OVER;
+    }
+    if models::models_wrong(types, flag, params) {
+        return MODEL_WRONG;
+    }
+    if models::priors_out(prior) {
+        return PRIOR_OUT;
+    }
+    0
+}
+
+fn room_refusal(
     start: usize,
     types: &[u8],
     params: &[i32],
@@ -281,15 +295,9 @@ fn write_refusal(
     prior: &[i32],
     room: usize,
 ) -> u32
-    requires { ⌜ Seven (now types) (now params) (now prior) × (start < 8) ⌝ }
-    ensures { λ r. ⌜ r ≡ judge (writeRows start (now (types .entry)) (now (params .entry)) flag (now (prior .entry)) room) ⌝ }
+    requires { ⌜ HeaderReady (now types) (now params) (now prior) × (start < 8) ⌝ }
+    ensures { λ r. ⌜ r ≡ judge (roomRows start (now (types .entry)) (now (params .entry)) flag (now (prior .entry)) room) ⌝ }
 {
-    if models::models_wrong(types, flag, params) {
-        return MODEL_WRONG;
-    }
-    if models::priors_out(prior) {
-        return PRIOR_OUT;
-    }
     if too_short(start, types, params, flag, prior, room) {
         return TOO_SHORT;
     }
@@ -304,14 +312,17 @@ fn refusal_of(
     prior: &[i32],
     room: usize,
 ) -> u32
-    requires { ⌜ start < 8 ⌝ }
     ensures { λ r. ⌜ r ≡ writeRefusal start (now (types .entry)) (now (params .entry)) flag (now (prior .entry)) room ⌝ }
 {
-    let first = code_refusal(types, params, flag, prior);
-    if first != 0 {
-        return first;
+    let codes = code_refusal(types, params, flag, prior);
+    if codes != 0 {
+        return codes;
     }
-    write_refusal(start, types, params, flag, prior, room)
+    let handed = model_refusal(start, types, params, flag, prior);
+    if handed != 0 {
+        return handed;
+    }
+    room_refusal(start, types, params, flag, prior, room)
 }
 
 // The bits from bit `start` on, then zeros up to the end of the last byte; how many bits they are without the zeros.
@@ -333,23 +344,25 @@ fn write_header(
     bits
 }
 
-// Seven types and models in rising order of reference, the flag, and a prior for each number.
+// Seven types and models in rising order of reference, the flag, a prior for each number, and the bit
+// of the first byte at which the header begins.
 pub fn encode_inter_global_motion(
     types: &[u8],
     params: &[i32],
     flag: u8,
     prior: &[i32],
+    start: usize,
     header: &mut [u8],
 ) -> Written
-    ensures { λ r. ⌜ r ≡ written 0 (now (types .entry)) (now (params .entry)) flag (now (prior .entry)) (length (now (header .entry))) ⌝ }
-    ensures { λ r. ⌜ now (header .exit) ≡ headerAfter 0 (now (types .entry)) (now (params .entry)) flag (now (prior .entry)) (now (header .entry)) ⌝ }
+    ensures { λ r. ⌜ r ≡ written start (now (types .entry)) (now (params .entry)) flag (now (prior .entry)) (length (now (header .entry))) ⌝ }
+    ensures { λ r. ⌜ now (header .exit) ≡ headerAfter start (now (types .entry)) (now (params .entry)) flag (now (prior .entry)) (now (header .entry)) ⌝ }
 {
-    let refusal = refusal_of(0, types, params, flag, prior, header.len());
+    let refusal = refusal_of(start, types, params, flag, prior, header.len());
     if refusal != 0 {
         return Written { refusal, bits: 0 };
     }
     Written {
         refusal: 0,
-        bits: write_header(0, types, params, flag, prior, header),
+        bits: write_header(start, types, params, flag, prior, header),
     }
 }

@@ -159,7 +159,7 @@ module _ (header : List ℕ) (at flag : ℕ) (qs : List ℤ) (long : length qs �
       }
 
   -- a writing call with room for it refuses nothing
-  pub not-refused : flag ≤ 1 → (start room : ℕ) → bytesFor start (length (headerBits types params flag qs)) ≤ room
+  pub not-refused : flag ≤ 1 → (start room : ℕ) → start < 8 → bytesFor start (length (headerBits types params flag qs)) ≤ room
       → writeRefusal start types params flag qs room ≡ 0
-  not-refused f start room h =
-      writing.not-refused types params flag qs start room (record { writable = writable; flagged = f; roomy = h })
+  not-refused f start room low h =
+      writing.not-refused types params flag qs start room (record { writable = writable; flagged = f; low = low; roomy = h })

@@ -33,6 +33,9 @@ pub record Worked : Type 0 where
   -- high, prior identity: reference 1 TRANSLATION (8192, −8192), the rest identity
   pub seventeen-bits : models (0xA4 ∷ 0x20 ∷ 0x00 ∷ []) 0 1 prior
       ≡ record { refusal = 0; types = 1 ∷ 0 ∷ 0 ∷ 0 ∷ 0 ∷ 0 ∷ 0 ∷ []; params = pos 8192 ∷ negsuc 8191 ∷ pos 65536 ∷ pos 0 ∷ pos 0 ∷ pos 65536 ∷ identities; bits = 17 }
+  -- and from bit 3 of a byte on
+  pub from-bit-3 : models (0xF4 ∷ 0x84 ∷ 0x00 ∷ []) 3 1 prior
+      ≡ record { refusal = 0; types = 1 ∷ 0 ∷ 0 ∷ 0 ∷ 0 ∷ 0 ∷ 0 ∷ []; params = pos 8192 ∷ negsuc 8191 ∷ pos 65536 ∷ pos 0 ∷ pos 0 ∷ pos 65536 ∷ identities; bits = 17 }
   pub ends-a-byte-early : models (0xA4 ∷ 0x20 ∷ []) 0 1 prior ≡ noModels 9
   pub empty-header : models [] 0 1 prior ≡ noModels 9
   pub short-prior : models [] 0 2 identities ≡ noModels 2
@@ -41,4 +44,4 @@ pub record Worked : Type 0 where
 
 pub worked : Worked
 unfolding bitAt bitLength ns subexp symbolOf placeOf priorsOut filler coefficient sixFilled modelRead referenceRead modelsRead readRefusal models
-worked = record { seventeen-bits = refl; ends-a-byte-early = refl; empty-header = refl; short-prior = refl; no-such-flag = refl; prior-slot-3 = refl }
+worked = record { seventeen-bits = refl; from-bit-3 = refl; ends-a-byte-early = refl; empty-header = refl; short-prior = refl; no-such-flag = refl; prior-slot-3 = refl }

@@ -22,12 +22,10 @@ use grid::AFFINE;
 use grid::IDENTITY;
 use grid::ROTZOOM;
 use grid::TRANSLATION;
+use models::NUMBERS;
 
 // The whole of a number at 16 fraction bits: slots 2 and 5 of the identity.
 const WHOLE: i32 = 65536;
-
-// Six numbers for each of seven references.
-const NUMBERS: usize = 42;
 
 // Rows of the rules' table.
 const WRONG_LENGTH: u32 = 2;

@@ -106,7 +106,7 @@ module _ (j : Task) where
   finished-refused l h = rw (with-none h, ne-eqb (late j) 0 h)
 
   module _ (l : Lent) (r : Ready j l) (z : late j ≡ 0) where
-    report-is : reportOf whole (written 0 (whole .types) (whole .models) (j .settings .flag) (j .prior) (length (l .header)) .bits) (length (words j)) ≡ accepted j
+    report-is : reportOf whole (written (j .settings .start) (whole .types) (whole .models) (j .settings .flag) (j .prior) (length (l .header)) .bits) (length (words j)) ≡ accepted j
     report-is =
         rw (bits-written j (r .sound) z (l .header) (r .header-room))
         (ap (λ (n : ℕ). reportOf whole (length (bits j)) n) (words-length j))
@@ -116,7 +116,7 @@ module _ (j : Task) where
         let n = length (l .blocks) in
         left-accepted (storeRefusal (words j) n) (onto (frameBytes (j .settings .frame) (words j)) (l .blocks)) (l .blocks) (stored j (r .sound) n (r .blocks-room))
 
-    finished-accepted : finishedOf l ≡ finish (accepted j) (onto (frameBytes (j .settings .frame) (words j)) (l .blocks)) (bitsPlaced 0 (bits j) (l .header))
+    finished-accepted : finishedOf l ≡ finish (accepted j) (onto (frameBytes (j .settings .frame) (words j)) (l .blocks)) (bitsPlaced (j .settings .start) (bits j) (l .header))
     unfolding finished
     finished-accepted = rw (with-model z) (finish-same report-is blocks-are (header-written j (r .sound) z (l .header) (r .header-room)))
 

@@ -32,9 +32,9 @@ reportOf m bits samples =
 abbrev pub writtenOut : Modelled → Settings → List ℤ → List ℕ → List ℕ → List ℕ → Finished
 writtenOut m s prior ws blocks header =
     finish
-    (reportOf m (written 0 (m .types) (m .models) (s .flag) prior (length header) .bits) (length ws))
+    (reportOf m (written (s .start) (m .types) (m .models) (s .flag) prior (length header) .bits) (length ws))
     (blocksLeft (s .frame) ws blocks)
-    (headerAfter 0 (m .types) (m .models) (s .flag) prior header)
+    (headerAfter (s .start) (m .types) (m .models) (s .flag) prior header)
 
 -- the model written out; a refused one leaves blocks and header as they were
 abbrev pub finishedAs : Modelled → Settings → List ℤ → List ℕ → List ℕ → List ℕ → Finished

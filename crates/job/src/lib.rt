@@ -44,7 +44,14 @@ fn write_out(
     let types = m.types;
     let models = m.models;
     block::write_frame(settings.frame, words, &mut *blocks);
-    let w = header::encode_inter_global_motion(&types, &models, settings.flag, prior, &mut *header);
+    let w = header::encode_inter_global_motion(
+        &types,
+        &models,
+        settings.flag,
+        prior,
+        settings.start,
+        &mut *header,
+    );
     Report {
         refusal: 0,
         types,

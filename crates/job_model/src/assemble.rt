@@ -8,6 +8,9 @@ ghost use lib.IntN.{pos};
 ghost use lib.ListN.{length, getD};
 ghost use Rattle.job_model.specs.Assemble.{typesWith, modelsWith, inserted};
 ghost use Rattle.job_model.specs.Inner.{Reference};
+use models::NUMBERS;
+use models::REFERENCES;
+use models::SLOTS;
 
 // The type at place i.
 fn type_at(types: &[u8], own: u8, place: usize, i: usize) -> u8
@@ -30,7 +33,7 @@ pub fn types_with(types: &[u8], reference: u8, own: u8) -> [u8; 7]
     let place = reference as usize - 1;
     let mut out = [0u8; 7];
     let mut i = 0;
-    while i < 7 {
+    while i < REFERENCES {
         out[i] = type_at(types, own, place, i);
         i += 1;
     }
@@ -45,20 +48,20 @@ fn number_at(models: &[i32], own: [i32; 6], place: usize, i: usize) -> i32
     if i < place {
         return models[i];
     }
-    if i < place + 6 {
+    if i < place + SLOTS {
         return own[i - place];
     }
-    models[i - 6]
+    models[i - SLOTS]
 }
 
 pub fn models_with(models: &[i32], reference: u8, own: [i32; 6]) -> [i32; 42]
     requires { ⌜ (length (now models) ≡ 36) × Reference reference ⌝ }
     ensures { λ r. ⌜ r ≡ modelsWith reference own (now (models .entry)) ⌝ }
 {
-    let place = 6 * (reference as usize - 1);
+    let place = SLOTS * (reference as usize - 1);
     let mut out = [0i32; 42];
     let mut i = 0;
-    while i < 42 {
+    while i < NUMBERS {
         out[i] = number_at(models, own, place, i);
         i += 1;
     }

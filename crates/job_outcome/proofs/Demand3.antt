@@ -68,7 +68,7 @@ module _ (j : Task) (l : Lent) (r : Ready j l) (fits : late j ≡ 0) where
   count-read : CountRead j o
   count-read =
       let consumed : length (bits j) ≡ headerRead j o .bits = sym (ap (λ (m : ReadModels). m .bits) back) in
-      let parts = counted (o .left .header) 0 flag (j .prior) (s .places) (s .within) in
+      let parts = counted (o .left .header) (j .settings .start) flag (j .prior) (s .places) (s .within) in
       record { consumed = consumed; sum = consumed ∙ parts .adds-up; type-bits = parts .type-bits; coefficient-bits = parts .slot-bits }
 
   pub demand-3 : Demand3 j (ended (accepted j) (leftByJob j l))

@@ -1,4 +1,4 @@
--- The call that reads a header accepts the one that an accepted job left, and gives the models and bits that the job reported.
+-- The call that reads a header accepts, from the job's start on, the one that an accepted job left, and gives the models and bits that the job reported.
 -- Assumes nothing.
 use Prim.Native.Nat.{_+_, _*_, _≤_}
 use mathlib.Core.Path.{_≡_}
@@ -16,20 +16,20 @@ use Rattle.job_outcome.proofs.Demand3.{holds}
 
 -- what is asked of a reading: lengths, flag and prior by the job's rows, the bytes by demand 3
 module _ (j : Task) (s : Sound j) (o : Ended) (d : Demand3 j o) where
-  read-accepted : call.readRefusal (o .left .header) 0 (j .settings .flag) (j .prior) ≡ 0
+  read-accepted : call.readRefusal (o .left .header) (j .settings .start) (j .settings .flag) (j .prior) ≡ 0
   unfolding call.readRefusal
   read-accepted =
       let all = 8 * length (o .left .header) in
-      let taken = 0 + headerRead j o .bits in
+      let taken = j .settings .start + headerRead j o .bits in
       let enough : taken ≤ all = omega (arith, d .header .ends) in
       rw (s .places, le-ltb 1 (j .settings .flag) (s .range .flagged), s .within, le-ltb all taken enough)
 
-  as-reported : call.models (o .left .header) 0 (j .settings .flag) (j .prior)
+  as-reported : call.models (o .left .header) (j .settings .start) (j .settings .flag) (j .prior)
       ≡ record { refusal = 0; types = o .report .types; params = o .report .models; bits = o .report .bits }
   unfolding call.models
   as-reported = rw (read-accepted, ← d .header .types, ← d .header .models, d .count .consumed)
 
 pub header-read-back : (j : Task) (l : Lent) → outcome j l .report .refusal ≡ 0
-    → call.models (outcome j l .left .header) 0 (j .settings .flag) (j .prior)
+    → call.models (outcome j l .left .header) (j .settings .start) (j .settings .flag) (j .prior)
     ≡ record { refusal = 0; types = outcome j l .report .types; params = outcome j l .report .models; bits = outcome j l .report .bits }
 header-read-back j l e = as-reported j (ready j l (accepted-stages j l e .0) .sound) (outcome j l) (holds j l e)

@@ -1,6 +1,6 @@
--- A job's seven models can be written, in 124 bytes, and are read back: the six others pass row 7, and the fitted one is on the grid.
+-- A job's seven models can be written from its start on, in 125 bytes, and are read back there: the six others pass row 7, and the fitted one is on the grid.
 -- Assumes nothing.
-use Prim.Native.Nat.{ℕ, _*_, _-_, _≤_}
+use Prim.Native.Nat.{ℕ, _+_, _*_, _-_, _≤_}
 use mathlib.Core.Bool.{false}
 use mathlib.Core.List.{List}
 use mathlib.Core.Path.{_≡_, ap, _∙_, subst}
@@ -12,7 +12,7 @@ use Rattle.models.specs.Models.{modelWrong}
 use Rattle.header.specs.Reading.{modelsRead}
 use Rattle.header.specs.Writing.{bitsPlaced, bytesFor, writeRefusal, written, headerAfter}
 use Rattle.header.proofs.Accepted.{not-refused, answer-written, bytes-written}
-use Rattle.header.proofs.RoundTrip.{Writable, round-trip, at-most-124-bytes}
+use Rattle.header.proofs.RoundTrip.{Writable, round-trip, at-most-125-bytes}
 use Rattle.fit.specs.Fitted.{typeOf}
 use Rattle.quantize.specs.Quantize.{rowFirst}
 use Rattle.quantize.proofs.Accepted.{row-first-twice}
@@ -32,6 +32,9 @@ module _ (j : Task) (s : Sound j) (fits : late j ≡ 0) where
 
   abbrev flag : ℕ
   flag = j .settings .flag
+
+  abbrev start : ℕ
+  start = j .settings .start
 
   abbrev place : ℕ
   place = j .settings .reference - 1
@@ -81,22 +84,22 @@ module _ (j : Task) (s : Sound j) (fits : late j ≡ 0) where
       ∙ row-first-twice kind fitted (omega (arith, on-grid .six))
 
   module _ (old : List ℕ) (room : headerBytes ≤ length old) where
-    room-enough : bytesFor 0 (length (bits j)) ≤ length old
-    room-enough = omega (arith, at-most-124-bytes flag (types j) (models j) (j .prior))
+    room-enough : bytesFor start (length (bits j)) ≤ length old
+    room-enough = omega (arith, at-most-125-bytes flag (types j) (models j) (j .prior) start (s .range .low))
 
-    pub header-back : modelsRead (bitsPlaced 0 (bits j) old) 0 flag (j .prior) ≡ record { types = types j; params = models j; bits = length (bits j) }
-    header-back = round-trip (types j) (models j) flag (j .prior) writable 0 old room-enough
+    pub header-back : modelsRead (bitsPlaced start (bits j) old) start flag (j .prior) ≡ record { types = types j; params = models j; bits = length (bits j) }
+    header-back = round-trip (types j) (models j) flag (j .prior) writable start old room-enough
 
-    pub bits-end : length (bits j) ≤ 8 * length (bitsPlaced 0 (bits j) old)
-    bits-end = rw (length-putBits old 0 _) (omega (arith, room-enough))
+    pub bits-end : start + length (bits j) ≤ 8 * length (bitsPlaced start (bits j) old)
+    bits-end = rw (length-putBits old start _) (omega (arith, room-enough))
 
-    pub write-accepted : writeRefusal 0 (types j) (models j) flag (j .prior) (length old) ≡ 0
+    pub write-accepted : writeRefusal start (types j) (models j) flag (j .prior) (length old) ≡ 0
     write-accepted =
-        not-refused (types j) (models j) flag (j .prior) 0 (length old)
-        (record { writable = writable; flagged = s .range .flagged; roomy = room-enough })
+        not-refused (types j) (models j) flag (j .prior) start (length old)
+        (record { writable = writable; flagged = s .range .flagged; low = s .range .low; roomy = room-enough })
 
-    pub header-written : headerAfter 0 (types j) (models j) flag (j .prior) old ≡ bitsPlaced 0 (bits j) old
-    header-written = bytes-written (types j) (models j) flag (j .prior) 0 old write-accepted
+    pub header-written : headerAfter start (types j) (models j) flag (j .prior) old ≡ bitsPlaced start (bits j) old
+    header-written = bytes-written (types j) (models j) flag (j .prior) start old write-accepted
 
-    pub bits-written : written 0 (types j) (models j) flag (j .prior) (length old) ≡ record { refusal = 0; bits = length (bits j) }
-    bits-written = answer-written (types j) (models j) flag (j .prior) 0 (length old) write-accepted
+    pub bits-written : written start (types j) (models j) flag (j .prior) (length old) ≡ record { refusal = 0; bits = length (bits j) }
+    bits-written = answer-written (types j) (models j) flag (j .prior) start (length old) write-accepted

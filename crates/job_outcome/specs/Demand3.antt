@@ -65,9 +65,9 @@ pub record BlocksRead (j : Task) (o : Ended) : Type 0 where
 
 -- ---- the header
 
--- what the standard reads from where writing began, with the job's flag and prior
+-- what the standard reads from the job's start, with its flag and prior
 abbrev pub headerRead : Task → Ended → ReadModels
-headerRead j o = modelsRead (o .left .header) 0 (j .settings .flag) (j .prior)
+headerRead j o = modelsRead (o .left .header) (j .settings .start) (j .settings .flag) (j .prior)
 
 -- the place of the job's reference among the seven, from 0, and that of the k-th of the others, in rising order
 abbrev pub ownPlace : Task → ℕ
@@ -84,7 +84,7 @@ pub record HeaderRead (j : Task) (o : Ended) : Type 0 where
   -- exactly the types and models of the report, and no byte is missing
   pub types : headerRead j o .types ≡ o .report .types
   pub models : headerRead j o .params ≡ o .report .models
-  pub ends : headerRead j o .bits ≤ 8 * length (o .left .header)
+  pub ends : j .settings .start + headerRead j o .bits ≤ 8 * length (o .left .header)
   -- the six others are those handed in
   pub other-types : (k : ℕ) → k < 6 → getD (headerRead j o .types) (otherPlace j k) 0 ≡ getD (j .types) k 0
   pub other-models : (k i : ℕ) → k < 6 → i < 6 → getD (headerRead j o .params) (6 * otherPlace j k + i) (pos 0) ≡ getD (j .models) (6 * k + i) (pos 0)

@@ -95,9 +95,9 @@ leftWith j l blocks header = lend (searched j l .inputHalf) (searched j l .refHa
 abbrev pub leftBySearch : Task → Lent → Lent
 leftBySearch j l = leftWith j l (l .blocks) (l .header)
 
--- accepted: the blocks of the words, and the header's bits
+-- accepted: the blocks of the words, and the header's bits from the job's start on
 abbrev pub leftByJob : Task → Lent → Lent
-leftByJob j l = leftWith j l (onto (frameBytes (j .settings .frame) (words j)) (l .blocks)) (bitsPlaced 0 (bits j) (l .header))
+leftByJob j l = leftWith j l (onto (frameBytes (j .settings .frame) (words j)) (l .blocks)) (bitsPlaced (j .settings .start) (bits j) (l .header))
 
 -- ---- the whole outcome, by stages
 

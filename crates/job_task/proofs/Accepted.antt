@@ -75,7 +75,7 @@ lengths z classes types models prior e =
       places = length-is prior priorNumbers (m .1);
     }
 
--- ---- rows 4 and 5
+-- ---- rows 4, 5 and 14
 
 pub record Codes (s : Settings) (classes types : List ℕ) : Type 0 where
   pub classed : search.badClass classes ≡ false
@@ -101,6 +101,7 @@ codes s classes types e =
         some-reference = omega arith;
         last-reference = ltb-false 7 (s .reference) (five .1);
         flagged = ltb-false 1 (s .flag) (over .1);
+        low = omega (arith, ltb-false 7 (s .start) (q .1 .1 .0));
       };
     }
 

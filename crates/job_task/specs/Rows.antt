@@ -1,4 +1,4 @@
--- The rows of the table of refusals that a job meets before its search, in the table's order: 1, 2, 4, 5, 7, 8, 3. docs/RULES.md, 'When a call says no'.
+-- The rows of the table of refusals that a job meets before its search, in the table's order: 1, 2, 4, 5, 14, 7, 8, 3. docs/RULES.md, 'When a call says no'.
 -- Assumes nothing.
 use Prim.Native.Nat.{ℕ, _*_}
 use mathlib.Core.Bool.{Bool, not}
@@ -10,7 +10,7 @@ use Rattle.laws.specs.Refusal.{Row, row, judge, orElse, either}
 use Rattle.search.specs.Search.{sampleCount}
 use Rattle.search.specs.Refusal.{tooLarge, wrongLength, badClass, tooShort}
 use Rattle.fit.specs.Fitted.{noType}
-use Rattle.models.specs.Models.{typesOver, modelsWrong, priorsOut}
+use Rattle.models.specs.Models.{typesOver, modelsWrong, priorsOut, startOver}
 use Rattle.layout.specs.Form.{blockBytes, blocksOf}
 use Rattle.form1.specs.Block.{form1}
 use Rattle.job_task.specs.declared.Settings.{Settings}
@@ -27,9 +27,9 @@ otherNumbers = 36
 abbrev pub priorNumbers : ℕ
 priorNumbers = 42
 
--- what a job's header buffer needs
+-- what a job's header buffer needs, at every start
 abbrev pub headerBytes : ℕ
-headerBytes = 124
+headerBytes = 125
 
 -- ---- the conditions
 
@@ -47,7 +47,7 @@ badCodes s classes types = either (badClass classes) (either (noType (s .«gm_ty
 abbrev pub noReference : ℕ → Bool
 noReference reference = either (eqb reference 0) (ltb 7 reference)
 
--- row 3: half planes and words as the search needs them; 512 bytes for each block; 124 bytes for the header
+-- row 3: half planes and words as the search needs them; 512 bytes for each block; 125 bytes for the header
 abbrev pub tooLittle : Sizes → Bool
 tooLittle z =
     either (tooShort (z .width) (z .height) (z .«input_half») (z .«ref_half») (z .words))
@@ -65,6 +65,7 @@ abbrev pub codeRows : Settings → List ℕ → List ℕ → List Row
 codeRows s classes types =
     row 4 (badCodes s classes types)
     ∷ row 5 (noReference (s .reference))
+    ∷ row 14 (startOver (s .start))
     ∷ []
 
 abbrev pub modelRows : Settings → List ℕ → List ℤ → List ℤ → List Row

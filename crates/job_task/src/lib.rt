@@ -1,8 +1,10 @@
 // What a job is handed, and the rows of the table of refusals that it meets before its search: 1, 2,
-// 4, 5, 7, 8, 3, in the table's order (docs/RULES.md, 'Job', 'When a call says no'). In go the settings,
+// 4, 5, 14, 7, 8, 3, in the table's order (docs/RULES.md, 'Job', 'When a call says no'). In go the settings,
 // how long planes and lent buffers are, and the lists that are looked into; out comes the first row
 // that holds, 0 for none. The rows are judged in groups; a group is a function.
+use header::MOST_BYTES;
 use layout::BLOCK_BYTES;
+use models::NUMBERS;
 ghost use mathlib.Core.Path.{_≡_};
 ghost use Prim.Native.Nat.{_*_, _≤_};
 ghost use lib.ListN.{length};
@@ -12,19 +14,14 @@ ghost use Rattle.job_task.specs.Rows.{wrongLengths, badCodes, noReferenc
 
 const BLOCK: usize = 16;
 
-// Six models beside the job's own, and a prior of seven.
-const OTHER_TYPES: usize = 6;
+// Six models beside the job's own.
+pub const OTHERS: usize = 6;
 
-const OTHER_NUMBERS: usize = 36;
-
-const PRIOR_NUMBERS: usize = 42;
+pub const OTHER_NUMBERS: usize = 36;
 
 const LAST_TYPE: u8 = 3;
 
 const LAST_REFERENCE: u8 = 7;
-
-// What a job's header buffer needs.
-const HEADER_BYTES: usize = 124;
 
 // The rows of the table of refusals.
 const TOO_LARGE: u32 = 1;
@@ -35,20 +32,23 @@ const BAD_CODE: u32 = 4;
 
 const NO_REFERENCE: u32 = 5;
 
+const START_OVER: u32 = 14;
+
 const WRONG_MODEL: u32 = 7;
 
 const PRIOR_OUT: u32 = 8;
 
 const TOO_LITTLE: u32 = 3;
 
-// The frame number of the blocks, the type to fit, the reference that the model is for, and the
-// flag of high precision.
+// The frame number of the blocks, the type to fit, the reference that the model is for, the flag of
+// high precision, and the bit of the header's first byte at which writing begins.
 #[repr(C)]
 pub struct Settings {
     pub frame: u16,
     pub gm_type: u8,
     pub reference: u8,
     pub flag: u8,
+    pub start: usize,
 }
 
 // The sides of the planes, and how long planes and lent buffers are.
@@ -77,13 +77,13 @@ fn wrong_lengths(sizes: Sizes, classes: usize, types: usize, models: usize, prio
     ) {
         return true;
     }
-    if types != OTHER_TYPES {
+    if types != OTHERS {
         return true;
     }
     if models != OTHER_NUMBERS {
         return true;
     }
-    prior != PRIOR_NUMBERS
+    prior != NUMBERS
 }
 
 fn bad_codes(settings: Settings, classes: &[u8], types: &[u8]) -> bool
@@ -130,7 +130,7 @@ fn too_little(sizes: Sizes) -> bool
     if sizes.blocks < BLOCK_BYTES * block::blocks_of(samples) {
         return true;
     }
-    sizes.header < HEADER_BYTES
+    sizes.header < MOST_BYTES
 }
 
 fn sizes_refusal(sizes: Sizes, classes: usize, types: usize, models: usize, prior: usize) -> u32
@@ -153,6 +153,9 @@ fn codes_refusal(settings: Settings, classes: &[u8], types: &[u8]) -> u32
     }
     if no_reference(settings.reference) {
         return NO_REFERENCE;
+    }
+    if models::start_over(settings.start) {
+        return START_OVER;
     }
     0
 }

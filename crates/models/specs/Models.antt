@@ -1,4 +1,4 @@
--- What a header can carry: the slots of a type and what the others hold, and rows 4, 7 and 8 for types, models and priors.
+-- What a header can carry: the slots of a type and what the others hold, and rows 4, 7 and 8 for types, models and priors; row 14 for the bit at which it begins.
 -- docs/RULES.md, 'Header', 'When a call says no'; clause 5.9.24.
 -- Assumes nothing.
 use Prim.Native.Nat.{ℕ, _+_, _*_, _%_}
@@ -55,3 +55,7 @@ typeAt types k = ltb 3 (getD types k 0)
 -- row 4 for a list of types
 unfoldable pub typesOver : List ℕ → Bool
 typesOver types = anyBelow (typeAt types) (length types)
+
+-- row 14 for the bit of the first byte at which a header begins
+abbrev pub startOver : ℕ → Bool
+startOver start = ltb 7 start

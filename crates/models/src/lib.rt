@@ -1,21 +1,28 @@
 // What a header can carry: types, models and priors go in, whether a row of the table of refusals
-// holds comes out. Answers to docs/RULES.md, 'Header' (the slots of a type, the pair) and rows 4, 7
-// and 8; clause 5.9.24; the assertions of `write_global_param` and `encode_inter_global_motion`.
+// holds comes out; so for the bit at which a header begins. Answers to docs/RULES.md, 'Header' (the
+// slots of a type, the pair, the start) and rows 4, 14, 7 and 8; clause 5.9.24; the assertions of
+// `write_global_param` and `encode_inter_global_motion`.
 ghost use mathlib.Core.Path.{_≡_};
 ghost use Prim.Native.Nat.{_+_, _*_, _≤_, _<_};
 ghost use lib.IntN.{negℤ};
 ghost use lib.ListN.{length};
 ghost use Rattle.models.specs.Integers.{equal};
 ghost use Rattle.grid.specs.Symbols.{priorOut};
-ghost use Rattle.models.specs.Models.{carries, slotWrong, slotAt, modelWrong, modelsWrong, priorsOut, typesOver};
+ghost use Rattle.models.specs.Models.{carries, slotWrong, slotAt, modelWrong, modelsWrong, priorsOut, typesOver, startOver};
+use grid::AFFINE;
+use grid::IDENTITY;
+use grid::ROTZOOM;
+use grid::TRANSLATION;
 
-const IDENTITY: u8 = 0;
+pub const REFERENCES: usize = 7;
 
-const TRANSLATION: u8 = 1;
+pub const SLOTS: usize = 6;
 
-const ROTZOOM: u8 = 2;
+// Six numbers for each of seven references.
+pub const NUMBERS: usize = 42;
 
-const AFFINE: u8 = 3;
+// The last bit of the first byte, at which a header may begin.
+const LAST_START: usize = 7;
 
 // docs/RULES.md, 'Header': how far a prior's number may lie from its slot's centre, in slots 0 and 1 and in
 // the others.
@@ -99,7 +106,7 @@ pub fn models_wrong(types: &[u8], flag: u8, params: &[i32]) -> bool
 {
     let mut k = 0;
     while k < types.len() {
-        if model_wrong(types[k], flag, params, 6 * k) {
+        if model_wrong(types[k], flag, params, SLOTS * k) {
             return true;
         }
         k += 1;
@@ -123,7 +130,7 @@ pub fn priors_out(prior: &[i32]) -> bool
 {
     let mut i = 0;
     while i < prior.len() {
-        if prior_out((i % 6) as u8, prior[i]) {
+        if prior_out((i % SLOTS) as u8, prior[i]) {
             return true;
         }
         i += 1;
@@ -142,4 +149,11 @@ pub fn types_over(types: &[u8]) -> bool
         k += 1;
     }
     false
+}
+
+// The bit of the first byte at which writing begins.
+pub fn start_over(start: usize) -> bool
+    ensures { λ r. ⌜ r ≡ startOver start ⌝ }
+{
+    LAST_START < start
 }

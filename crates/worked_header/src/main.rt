@@ -1,6 +1,7 @@
 // Replays the list of headers, those of the list's maker and those of other encoders: each is read
-// at its place, cut short, and written again. Then tries the worked header of docs/RULES.md, and each
-// row of the table by which the two calls say no, alone and with a later row beside it.
+// at its place, cut short, and written again from every bit of a byte on, among ones and among zeros,
+// and read there. Then tries the worked headers of docs/RULES.md, and each row of the table by which
+// the two calls say no, alone and with a later row beside it.
 ghost use Prim.Native.Nat.{_≤_};
 ghost use mathlib.Core.Path.{_≡_};
 ghost use lib.ListN.{length};
@@ -9,6 +10,12 @@ use header_read::Models;
 
 // What a buffer holds where nothing was written.
 const GUARD: u8 = 165;
+
+const ONES: u8 = 255;
+
+const ZEROS: u8 = 0;
+
+const STARTS: u16 = 8;
 
 // Bits of a buffer: 160 bytes.
 const ROOM_BITS: u16 = 1280;
@@ -19,16 +26,18 @@ const ROTZOOM: u8 = 2;
 
 const TRANSLATION: u8 = 1;
 
-// The lists of cases; the first nine are rows of the table, in its order.
-const WRITE_ROWS: usize = 5;
+// The lists of cases; the first ten are rows of the table, in its order.
+const WRITE_ROWS: usize = 6;
 
-const ROWS: usize = 9;
+const READ_ROWS: usize = 4;
 
-const ACCEPTED: usize = 9;
+const ROWS: usize = 10;
 
-const WORKED: usize = 10;
+const ACCEPTED: usize = 10;
 
-const LISTED: usize = 11;
+const WORKED: usize = 11;
+
+const LISTED: usize = 12;
 
 // A header at its place among bytes, and what it holds.
 struct Case {
@@ -40,11 +49,11 @@ struct Case {
     start: u16,
     bits: u16,
     flag: u8,
-    written: bool,
 }
 
 // What a call is asked: lists with one entry to spare and the lengths lent, numbers as words of 32
-// bits; the bytes lent to the writer; the bytes of the worked header and the position for the reader.
+// bits; the bit at which the writer begins and the bytes lent to it; the bytes of the worked header and
+// the position for the reader.
 struct Ask {
     types: [u8; 8],
     params: [u32; 43],
@@ -53,6 +62,7 @@ struct Ask {
     params_length: usize,
     prior_length: usize,
     flag: u8,
+    start: usize,
     room: usize,
     header_length: usize,
     at: usize,
@@ -64,16 +74,10 @@ fn least(a: usize, b: usize) -> usize
     if a < b { a } else { b }
 }
 
-fn guards() -> [u8; 160]
+fn filled(with: u8) -> [u8; 160]
     ensures { λ r. ⌜ 160 ≡ length r ⌝ }
 {
-    [GUARD; 160]
-}
-
-fn no_bytes() -> [u8; 160]
-    ensures { λ r. ⌜ 160 ≡ length r ⌝ }
-{
-    [0; 160]
+    [with; 160]
 }
 
 fn same_bytes(a: &[u8], b: &[u8]) -> bool {
@@ -177,23 +181,28 @@ fn bit_at(bytes: &[u8], at: u32) -> u8 {
     bit_of(bytes[byte], at)
 }
 
-// Bit i of a buffer after so many bits were written: they stand among bytes from bit `start` on. Up to
-// the end of their last byte there are zeros.
-fn wanted_bit(bytes: &[u8], start: u16, bits: u16, i: u16) -> u8 {
-    if i < bits {
-        return bit_at(bytes, start as u32 + i as u32);
+// Bit i of a buffer of equal bytes after so many bits were written from bit `start` on: they stand among
+// bytes from bit `from` on. Up to the end of their last byte there are zeros.
+fn wanted_bit(bytes: &[u8], from: u16, bits: u16, start: u16, fill: u8, i: u16) -> u8 {
+    if i < start {
+        return bit_of(fill, i as u32);
     }
-    if i / 8 * 8 < bits {
+    if i - start < bits {
+        return bit_at(bytes, from as u32 + (i - start) as u32);
+    }
+    if i as u32 / 8 * 8 < start as u32 + bits as u32 {
         return 0;
     }
-    bit_of(GUARD, i as u32)
+    bit_of(fill, i as u32)
 }
 
-// The buffer holds the bits, and guard bytes behind them.
-fn holds(out: &[u8; 160], bytes: &[u8], start: u16, bits: u16) -> bool {
+// The buffer holds the bits, and what it held before and behind them.
+fn holds(out: &[u8; 160], bytes: &[u8], from: u16, bits: u16, start: u16, fill: u8) -> bool {
     let mut i = 0u16;
     while i < ROOM_BITS {
-        if bit_of(out[(i / 8) as usize], i as u32) != wanted_bit(bytes, start, bits, i) {
+        if bit_of(out[(i / 8) as usize], i as u32)
+            != wanted_bit(bytes, from, bits, start, fill, i)
+        {
             return false;
         }
         i += 1;
@@ -207,35 +216,82 @@ fn write_first(
     params: &[i32],
     flag: u8,
     prior: &[i32],
+    start: usize,
     room: usize,
     out: &mut [u8],
 ) -> Written {
     let end = least(room, out.len());
-    header::encode_inter_global_motion(types, params, flag, prior, &mut out[0..end])
+    header::encode_inter_global_motion(types, params, flag, prior, start, &mut out[0..end])
 }
 
-fn is_written(a: Case, room: usize, refusal: u32, bits: u16) -> bool {
+fn is_read_from(a: Case, out: [u8; 160], start: u16, room: usize) -> bool {
+    let types = a.types;
+    let params = a.params;
+    let prior = a.prior;
+    let read = read_first(&out, room, start as usize, a.flag, &prior);
+    is_read(read, 0, &types, &params, a.bits as usize)
+}
+
+// Written, and read where it was written.
+fn is_written(a: Case, start: u16, fill: u8, room: usize) -> bool {
     let types = a.types;
     let params = a.params;
     let prior = a.prior;
     let bytes = a.bytes;
-    let mut out = guards();
-    let w = write_first(&types, &params, a.flag, &prior, room, &mut out);
-    w.refusal == refusal && w.bits == bits as usize && holds(&out, &bytes, a.start, bits)
+    let mut out = filled(fill);
+    let w = write_first(
+        &types,
+        &params,
+        a.flag,
+        &prior,
+        start as usize,
+        room,
+        &mut out,
+    );
+    w.refusal == 0
+        && w.bits == a.bits as usize
+        && holds(&out, &bytes, a.start, a.bits, start, fill)
+        && is_read_from(a, out, start, room)
+}
+
+fn is_too_long(a: Case, start: u16, fill: u8, room: usize) -> bool {
+    let types = a.types;
+    let params = a.params;
+    let prior = a.prior;
+    let mut out = filled(fill);
+    let w = write_first(
+        &types,
+        &params,
+        a.flag,
+        &prior,
+        start as usize,
+        room,
+        &mut out,
+    );
+    w.refusal == 3 && w.bits == 0 && holds(&out, &types, 0, 0, 0, fill)
 }
 
 // Written where there is room, into the exact bytes, and refused with a byte fewer.
-fn is_written_right(a: Case) -> bool {
-    if !a.written {
-        return true;
-    }
-    if a.bits == 0 {
+fn is_written_from(a: Case, start: u16) -> bool {
+    let exact = bytes_for(start, a.bits);
+    if exact == 0 {
         return false;
     }
-    let fewer = (a.bits as usize - 1) / 8;
-    is_written(a, ROOM, 0, a.bits)
-        && is_written(a, fewer + 1, 0, a.bits)
-        && is_written(a, fewer, 3, 0)
+    is_written(a, start, ZEROS, ROOM)
+        && is_written(a, start, ONES, exact)
+        && is_too_long(a, start, GUARD, exact - 1)
+}
+
+// From every bit of the first byte on.
+fn is_written_right(a: Case) -> bool {
+    let mut start = 0u16;
+    while start < STARTS {
+        if !is_written_from(a, start) {
+            return false;
+        }
+        start += 1;
+    }
+    true
 }
 
 fn is_right(a: Case) -> bool {
@@ -286,7 +342,7 @@ fn next_prior(list: i32, given: bool) -> [i32; 42] {
 
 // Bytes packed four to a word.
 fn next_bytes(list: i32, length: usize) -> [u8; 160] {
-    let mut bytes = no_bytes();
+    let mut bytes = filled(ZEROS);
     let end = (least(length, 157) + 3) / 4 * 4;
     io::read_full(list, &mut bytes[0..end]);
     bytes
@@ -318,7 +374,7 @@ fn next_case(list: i32) -> Case {
     let start = next_short(list);
     let bits = next_short(list);
     let bytes = next_bytes(list, length);
-    let prior = next_prior(list, word / 65536 % 2 == 1);
+    let prior = next_prior(list, word / 32768 % 2 == 1);
     let params = next_numbers(list);
     let types = types_of(word);
     Case {
@@ -330,30 +386,34 @@ fn next_case(list: i32) -> Case {
         start,
         bits,
         flag: (word / 16384 % 2) as u8,
-        written: word / 32768 % 2 == 1,
     }
 }
 
-// Reference 1 TRANSLATION (8192, -8192), high, prior identity: 17 bits, A4 20 00 in hexadecimal.
-fn worked_case() -> Case {
-    let mut bytes = no_bytes();
-    bytes[0] = 0xa4;
-    bytes[1] = 0x20;
+// Prior identity, high: reference 1 TRANSLATION (8192, -8192) in 17 bits, A4 20 00 in hexadecimal, or
+// seven identities in 7.
+fn worked_case(case: usize) -> Case {
+    let mut bytes = filled(ZEROS);
     let mut params = identity();
-    params[0] = 8192;
-    params[1] = -8192;
     let prior = identity();
-    let types = [1, 0, 0, 0, 0, 0, 0];
+    let mut types = [0u8; 7];
+    let mut bits = 7u16;
+    if case == 0 {
+        bytes[0] = 0xa4;
+        bytes[1] = 0x20;
+        params[0] = 8192;
+        params[1] = -8192;
+        types[0] = TRANSLATION;
+        bits = 17;
+    }
     Case {
         types,
         params,
         prior,
         bytes,
-        length: 3,
+        length: bytes_for(0, bits),
         start: 0,
-        bits: 17,
+        bits,
         flag: 1,
-        written: true,
     }
 }
 
@@ -401,6 +461,7 @@ fn legal_ask(flag: u8) -> Ask {
         params_length: 42,
         prior_length: 42,
         flag,
+        start: 0,
         room: ROOM,
         header_length: 3,
         at: 0,
@@ -432,6 +493,19 @@ fn with_wrong_code(a: Ask, k: usize) -> Ask {
         15 => b.flag = 254 + a.flag % 2,
         7..=13 => b.types[k % 7] = 255,
         _ => b.types[k % 7] = 4,
+    }
+    b
+}
+
+// Row 14: just beyond the first byte, and far beyond it.
+fn with_start_over(a: Ask, k: usize) -> Ask {
+    let mut b = a;
+    match k {
+        0 => b.start = 8,
+        1 => b.start = 9,
+        2 => b.start = 256,
+        3 => b.start = 0x1_0000_0000,
+        _ => b.start = 0xffff_ffff_ffff_ffff,
     }
     b
 }
@@ -541,9 +615,12 @@ fn with_write_fault(a: Ask, row: usize, k: usize) -> Ask {
         return with_wrong_code(a, k);
     }
     if row == 2 {
-        return with_wrong_model(a, k);
+        return with_start_over(a, k);
     }
     if row == 3 {
+        return with_wrong_model(a, k);
+    }
+    if row == 4 {
         return with_prior_beyond(a, k, 1);
     }
     let mut b = a;
@@ -568,8 +645,9 @@ fn write_refusal(row: usize) -> u32 {
     match row {
         0 => 2,
         1 => 4,
-        2 => 7,
-        3 => 8,
+        2 => 14,
+        3 => 7,
+        4 => 8,
         _ => 3,
     }
 }
@@ -604,13 +682,22 @@ fn write_lists(
     flag: u8,
     prior: &[i32],
     prior_length: usize,
+    start: usize,
     room: usize,
     out: &mut [u8],
 ) -> Written {
     let t = least(types_length, types.len());
     let m = least(params_length, params.len());
     let p = least(prior_length, prior.len());
-    write_first(&types[0..t], &params[0..m], flag, &prior[0..p], room, out)
+    write_first(
+        &types[0..t],
+        &params[0..m],
+        flag,
+        &prior[0..p],
+        start,
+        room,
+        out,
+    )
 }
 
 fn read_lists(
@@ -632,7 +719,7 @@ fn write_is_refused(a: Ask, refusal: u32) -> bool {
     let prior_words = a.prior;
     let params = numbers_of(param_words);
     let prior = numbers_of(prior_words);
-    let mut out = guards();
+    let mut out = filled(GUARD);
     let w = write_lists(
         &types,
         a.types_length,
@@ -641,10 +728,11 @@ fn write_is_refused(a: Ask, refusal: u32) -> bool {
         a.flag,
         &prior,
         a.prior_length,
+        a.start,
         a.room,
         &mut out,
     );
-    w.refusal == refusal && w.bits == 0 && holds(&out, &types, 0, 0)
+    w.refusal == refusal && w.bits == 0 && holds(&out, &types, 0, 0, 0, GUARD)
 }
 
 fn read_is_refused(a: Ask, refusal: u32) -> bool {
@@ -686,36 +774,47 @@ fn is_accepted(a: Ask) -> bool {
     let prior_words = a.prior;
     let params = numbers_of(param_words);
     let prior = numbers_of(prior_words);
-    let mut out = guards();
-    let w = write_lists(&types, 7, &params, 42, a.flag, &prior, 42, ROOM, &mut out);
+    let mut out = filled(GUARD);
+    let w = write_lists(
+        &types,
+        7,
+        &params,
+        42,
+        a.flag,
+        &prior,
+        42,
+        0,
+        ROOM,
+        &mut out,
+    );
     w.refusal == 0 && is_read_again(a, &out, w.bits)
 }
 
 // Fault k of a row, alone or beside the first fault of a later row.
 fn write_row_case(row: usize, case: usize) -> bool {
-    let rows = 5 - row % 5;
+    let rows = WRITE_ROWS - row % WRITE_ROWS;
     let k = case / 2 / rows;
     let beside = case / 2 % rows;
-    let a = with_write_fault(legal_ask((case % 2) as u8), row % 5, k);
+    let a = with_write_fault(legal_ask((case % 2) as u8), row % WRITE_ROWS, k);
     if beside == 0 {
         return write_is_refused(a, write_refusal(row));
     }
     write_is_refused(
-        with_write_fault(a, row % 5 + beside % 5, 0),
+        with_write_fault(a, row % WRITE_ROWS + beside % WRITE_ROWS, 0),
         write_refusal(row),
     )
 }
 
 fn read_row_case(row: usize, case: usize) -> bool {
-    let rows = 4 - row % 4;
+    let rows = READ_ROWS - row % READ_ROWS;
     let k = case / 2 / rows;
     let beside = case / 2 % rows;
-    let a = with_read_fault(legal_ask((case % 2) as u8), row % 4, k);
+    let a = with_read_fault(legal_ask((case % 2) as u8), row % READ_ROWS, k);
     if beside == 0 {
         return read_is_refused(a, read_refusal(row));
     }
     read_is_refused(
-        with_read_fault(a, row % 4 + beside % 4, 0),
+        with_read_fault(a, row % READ_ROWS + beside % READ_ROWS, 0),
         read_refusal(row),
     )
 }
@@ -740,7 +839,7 @@ fn is_right_in(list: i32, group: usize, case: usize) -> bool {
         return accepted_case(case);
     }
     if group == WORKED {
-        return is_right(worked_case());
+        return is_right(worked_case(case));
     }
     is_right(next_case(list))
 }
@@ -772,15 +871,16 @@ fn try_all(list: i32, group: usize, name: &[u8], count: u64) {
 
 // The rows of the table in its order, each with the number of its cases.
 fn try_refusals() {
-    try_all(0, 0, b"written, row 2", 90);
-    try_all(0, 1, b"written, row 4", 128);
-    try_all(0, 2, b"written, row 7", 1260);
-    try_all(0, 3, b"written, row 8", 336);
-    try_all(0, 4, b"written, row 3", 6);
-    try_all(0, 5, b"read, row 2", 24);
-    try_all(0, 6, b"read, row 4", 12);
-    try_all(0, 7, b"read, row 8", 336);
-    try_all(0, 8, b"read, row 9", 16);
+    try_all(0, 0, b"written, row 2", 108);
+    try_all(0, 1, b"written, row 4", 160);
+    try_all(0, 2, b"written, row 14", 40);
+    try_all(0, 3, b"written, row 7", 1260);
+    try_all(0, 4, b"written, row 8", 336);
+    try_all(0, 5, b"written, row 3", 6);
+    try_all(0, 6, b"read, row 2", 24);
+    try_all(0, 7, b"read, row 4", 12);
+    try_all(0, 8, b"read, row 8", 336);
+    try_all(0, 9, b"read, row 9", 16);
 }
 
 fn main() {
@@ -792,7 +892,7 @@ fn main() {
     let count = replay::next_word(list) as u64;
     try_all(list, LISTED, b"headers", count);
     libc::close(list);
-    try_all(0, WORKED, b"worked", 1);
+    try_all(0, WORKED, b"worked", 2);
     try_all(0, ACCEPTED, b"accepted", 170);
     try_refusals();
 }

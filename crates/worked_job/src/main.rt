@@ -181,6 +181,7 @@ fn next_settings(list: i32) -> Settings {
         gm_type: byte_of(replay::next_word(list)),
         reference: byte_of(replay::next_word(list)),
         flag: byte_of(replay::next_word(list)),
+        start: size(list),
     }
 }
 
@@ -515,6 +516,7 @@ struct Small {
     gm_type: u8,
     reference: u8,
     flag: u8,
+    start: usize,
     class: u8,
     other_type: u8,
     number: i32,
@@ -533,6 +535,7 @@ fn right() -> Small {
         gm_type: 1,
         reference: 1,
         flag: 0,
+        start: 0,
         class: 0,
         other_type: 0,
         number: 65536,
@@ -542,7 +545,7 @@ fn right() -> Small {
         half_room: 64,
         word_room: 1,
         block_room: 512,
-        header_room: 124,
+        header_room: 125,
     }
 }
 
@@ -585,24 +588,27 @@ fn with_fault(s: Small, fault: u32) -> Small {
         t.reference = 8;
     }
     if fault == 11 {
-        t.number = 65537;
+        t.start = 8;
     }
     if fault == 12 {
-        t.place = 8193;
+        t.number = 65537;
     }
     if fault == 13 {
-        t.half_room = 63;
+        t.place = 8193;
     }
     if fault == 14 {
-        t.word_room = 0;
+        t.half_room = 63;
     }
     if fault == 15 {
-        t.block_room = 511;
+        t.word_room = 0;
     }
     if fault == 16 {
-        t.header_room = 123;
+        t.block_room = 511;
     }
     if fault == 17 {
+        t.header_room = 124;
+    }
+    if fault == 18 {
         t.gm_type = 2;
     }
     t
@@ -622,12 +628,15 @@ fn row_of(fault: u32) -> u32 {
         return 5;
     }
     if fault == 11 {
-        return 7;
+        return 14;
     }
     if fault == 12 {
+        return 7;
+    }
+    if fault == 13 {
         return 8;
     }
-    if fault < 17 {
+    if fault < 18 {
         return 3;
     }
     6
@@ -668,6 +677,7 @@ fn small_job(
         gm_type: s.gm_type,
         reference: s.reference,
         flag: s.flag,
+        start: s.start,
     };
     let classes = [s.class; 1];
     let pels = least(s.pels, plane.len());
@@ -847,12 +857,12 @@ fn refusal_failed(first: u32, second: u32) -> u64
 }
 
 fn failed_with(first: u32) -> u64
-    requires { ⌜ first < 18 ⌝ }
-    ensures { λ r. ⌜ r ≤ 18 ⌝ }
+    requires { ⌜ first < 19 ⌝ }
+    ensures { λ r. ⌜ r ≤ 19 ⌝ }
 {
     let mut failed = 0u64;
     let mut second = first;
-    while second < 18 {
+    while second < 19 {
         failed += refusal_failed(first, second);
         second += 1;
     }
@@ -862,7 +872,7 @@ fn failed_with(first: u32) -> u64
 fn failed_refusals() -> u64 {
     let mut failed = 0u64;
     let mut first = 1u32;
-    while first < 18 {
+    while first < 19 {
         failed += failed_with(first);
         first += 1;
     }
@@ -878,5 +888,5 @@ fn main() {
     let count = replay::next_word(list) as u64;
     replay::print_count(b"job", count, failures(list, count));
     libc::close(list);
-    replay::print_count(b"refusal", 153, failed_refusals());
+    replay::print_count(b"refusal", 171, failed_refusals());
 }

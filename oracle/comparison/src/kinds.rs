@@ -239,37 +239,50 @@ fn header(case: &mut Case) -> Header {
 }
 
 impl Header {
-    fn write(&self, room: &mut [u8]) -> Result<usize, Refusal> {
+    fn write(&self, start: usize, room: &mut [u8]) -> Result<usize, Refusal> {
         let (models, prior) = (self.params.map(StoredModel), self.prior.map(StoredModel));
-        belt::encode_inter_global_motion(&self.types, &models, self.flag, &prior, room)
+        belt::encode_inter_global_motion(&self.types, &models, self.flag, &prior, start, room)
     }
 
-    /// The Rust's bytes and bits.
-    fn written(&self) -> (Vec<u8>, usize) {
-        oracle::write_header(&self.types, &self.params, self.flag == 1, &self.prior)
+    /// The Rust's bytes from bit `start` on, zeros before it, and bits.
+    fn written(&self, start: usize) -> (Vec<u8>, usize) {
+        oracle::write_header(&self.types, &self.params, self.flag == 1, &self.prior, start)
     }
 }
 
 fn header_written(case: &mut Case) -> Result<(), String> {
     let header = header(case);
-    let (bytes, count) = header.written();
+    let start = start(&mut case.random);
+    let (mut bytes, count) = header.written(start);
     let room = match case.random.below(4) {
         0 => case.random.below(bytes.len()),
         1 => bytes.len(),
         2 => bytes.len() + case.random.below(8),
-        _ => 124 + case.random.below(8),
+        _ => belt::HEADER_BYTES + case.random.below(8),
     };
+    case.note("start", start);
     case.note("room", room);
     let before = case.random.bytes(room);
     let mut after = before.clone();
-    let ours = row(header.write(&mut after));
+    let ours = row(header.write(start, &mut after));
     case.accepted = ours.is_ok();
     if room < bytes.len() {
         same("bits", ours, Err(TOO_SHORT))?;
         return same_list("bytes", &after, &before);
     }
     same("bits", ours, Ok(count))?;
+    keep_before(start, &mut bytes, &before);
     same_list("bytes", &after, &[&bytes, &before[bytes.len()..]].concat())
+}
+
+/// A bit of the first byte, the first one more often than the others.
+fn start(random: &mut Random) -> usize {
+    if random.one_in(4) { 0 } else { random.below(8) }
+}
+
+/// The bits before the start are those that were there.
+fn keep_before(start: usize, bytes: &mut [u8], before: &[u8]) {
+    bytes[0] |= before[0] & !(0xff >> start);
 }
 
 /// Both readings of some bytes from a bit on.
@@ -286,7 +299,7 @@ fn read(case: &mut Case, bytes: &[u8], at: usize, flag: u8, prior: &Models) -> R
 /// The Rust's header from a bit on, with other bits before and behind it.
 fn header_read(case: &mut Case) -> Result<(), String> {
     let header = header(case);
-    let (bytes, count) = header.written();
+    let (bytes, count) = header.written(0);
     let at = if case.random.one_in(3) { 0 } else { case.random.below(70) };
     let room = (at + count).div_ceil(8) + case.random.below(4);
     let mut all = case.random.bytes(room);
@@ -304,7 +317,7 @@ fn header_read(case: &mut Case) -> Result<(), String> {
 /// A header that is cut, has bits flipped, is read with another flag or prior, or is no header at all.
 fn header_damaged(case: &mut Case) -> Result<(), String> {
     let header = header(case);
-    let (mut bytes, _) = header.written();
+    let (mut bytes, _) = header.written(0);
     let (mut at, mut flag, mut prior) = (0, header.flag, header.prior);
     let random = &mut case.random;
     match random.below(6) {
@@ -319,7 +332,7 @@ fn header_damaged(case: &mut Case) -> Result<(), String> {
             }
         }
         3 => {
-            let count = random.pick(&[0, 1, 3, 30, 123, 124, 140]);
+            let count = random.pick(&[0, 1, 3, 30, 123, 124, 125, 140]);
             bytes = random.bytes(count);
         }
         4 => {
@@ -346,7 +359,7 @@ fn header_damaged(case: &mut Case) -> Result<(), String> {
 
 /// The composition of the Rust's answers: what a job reports and leaves.
 fn job_of_the_rust(pair: &Pair, settings: Settings, header: &Header, left: &mut Buffers) -> Result<Report, u32> {
-    let Settings { frame, gm_type, reference, flag } = settings;
+    let Settings { frame, gm_type, reference, flag, start } = settings;
     let words = searched(pair, left);
     let samples = samples(&words);
     let fitted = oracle::fit(gm_type, &samples).ok_or(SINGULAR)?;
@@ -356,7 +369,8 @@ fn job_of_the_rust(pair: &Pair, settings: Settings, header: &Header, left: &mut 
     let mut full = Header { flag, ..*header };
     full.types[place] = gm_type;
     full.params[place] = Model(model).row_first(gm_type).0;
-    let (bytes, bits) = full.written();
+    let (mut bytes, bits) = full.written(start);
+    keep_before(start, &mut bytes, &left.header);
     left.header[..bytes.len()].copy_from_slice(&bytes);
     let stored = blocks::write(frame, &words);
     left.blocks[..stored.len()].copy_from_slice(&stored);
@@ -372,6 +386,7 @@ fn job(case: &mut Case) -> Result<(), String> {
         gm_type: 1 + random.below(3) as u8,
         reference: 1 + random.below(7) as u8,
         flag: header.flag,
+        start: start(random),
     };
     let mut ours = buffers(random, pair.width, pair.height);
     let mut theirs = ours.clone();

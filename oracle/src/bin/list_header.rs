@@ -1,7 +1,7 @@
 //! The list for `worked_header`: a count, then for each case what it holds in one word (two bits for
-//! each type from reference 1 on, the flag, whether it is written again, whether a prior follows), the
-//! number of bytes, the bit that it begins at, the bits, the bytes, the prior unless that is the
-//! identity, the models. The argument is the file to write.
+//! each type from reference 1 on, the flag, whether a prior follows), the number of bytes, the bit that
+//! it begins at, the bits, the bytes, the prior unless that is the identity, the models. The argument is
+//! the file to write.
 
 use oracle::header_files::{Header, headers};
 use oracle::list::{Lcg, List};
@@ -37,19 +37,16 @@ fn main() -> io::Result<()> {
     let libaom = headers("libaom_writer.jsonl");
     let mut list = List::default();
     list.push((made.len() + real.len() + libaom.len()) as u32);
-    for header in made.iter().chain(&libaom) {
-        push(&mut list, header, true);
-    }
-    for header in &real {
-        push(&mut list, header, false);
+    for header in made.iter().chain(&libaom).chain(&real) {
+        push(&mut list, header);
     }
     list.write(path)
 }
 
-fn push(list: &mut List, header: &Header, written: bool) {
+fn push(list: &mut List, header: &Header) {
     let types: u32 = (0..7).map(|i| u32::from(header.types[i]) << (2 * i)).sum();
     let prior_given = header.prior != [IDENTITY; 7];
-    list.push(types | u32::from(header.high) << 14 | u32::from(written) << 15 | u32::from(prior_given) << 16);
+    list.push(types | u32::from(header.high) << 14 | u32::from(prior_given) << 15);
     list.push(header.bytes.len() as u32);
     list.push(header.start as u32);
     list.push(header.bits as u32);
@@ -179,7 +176,7 @@ impl Maker {
 
     /// A header of the oracle, alone in its bytes or with others around it.
     fn written(&mut self, types: [u8; 7], params: Models, high: bool, prior: Models) -> Header {
-        let (written, bits) = write_header(&types, &params, high, &prior);
+        let (written, bits) = write_header(&types, &params, high, &prior, 0);
         let (bytes, start) = self.surrounded(written, bits);
         assert_eq!(read_header(&bytes, start, high, &prior), Some((types, params, bits)));
         Header { bytes, start, high, prior, types, params, bits }

@@ -2,9 +2,9 @@
 //! file to write. Frame pairs are remade from a seed; models, prior and answers are stored.
 //!
 //! A count, then for each case: seed, mask, width, height, kind, four numbers of the picture; frame number, type,
-//! reference, flag; six types and 36 numbers; the prior's 42; then the report (refusal, samples, seven types, 42
+//! reference, flag, start; six types and 36 numbers; the prior's 42; then the report (refusal, samples, seven types, 42
 //! numbers, score in two words, bits), the blocks' length in words and their words, the header's length in bytes and
-//! its bytes, zeros up to a whole word.
+//! its bytes among `UNTOUCHED` bits, zeros up to a whole word.
 
 use oracle::list::{Lcg, List};
 use oracle::{IDENTITY, Models};
@@ -12,6 +12,8 @@ use std::{env, io};
 
 const SEED: u32 = 7;
 const BLOCK_SAMPLES: usize = 125;
+/// The byte that a replay's header buffer is full of.
+const UNTOUCHED: u8 = 165;
 
 /// How the input plane comes from the reference: 0 on its own, 1 mapped, 2 mapped with the two planes exchanged.
 struct Picture {
@@ -82,6 +84,7 @@ fn push_case(list: &mut List, picture: &Picture, kind: u8, lcg: &mut Lcg) {
     let frame = lcg.step();
     let reference = 1 + usize::from(lcg.below(7));
     let high = lcg.below(2) == 1;
+    let start = usize::from(lcg.below(8));
     let (mut types, mut params) = models(high, lcg);
     let prior = prior(lcg);
 
@@ -89,7 +92,7 @@ fn push_case(list: &mut List, picture: &Picture, kind: u8, lcg: &mut Lcg) {
         list.push(word);
     }
     picture.zoom.iter().chain(&picture.shift).for_each(|&n| list.push(n));
-    for word in [u32::from(frame), u32::from(kind), reference as u32, u32::from(high)] {
+    for word in [u32::from(frame), u32::from(kind), reference as u32, u32::from(high), start as u32] {
         list.push(word);
     }
     let others = (0..7).filter(|&i| i != reference - 1);
@@ -118,7 +121,8 @@ fn push_case(list: &mut List, picture: &Picture, kind: u8, lcg: &mut Lcg) {
     }
     types[reference - 1] = kind;
     params[reference - 1] = stored;
-    let (header, bits) = oracle::write_header(&types, &params, high, &prior);
+    let (mut header, bits) = oracle::write_header(&types, &params, high, &prior, start);
+    header[0] |= UNTOUCHED & !(0xff >> start);
 
     list.push(0);
     list.push(words.len() as u32);

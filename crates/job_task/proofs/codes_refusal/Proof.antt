@@ -12,7 +12,20 @@ returns-2 : tie.Need-returns-2
 returns-2 c = rw ((sym (c .before .before .before .bad-codes .ensures) ∙ c .before .before .if1 .left), (sym (c .before .no-reference .ensures) ∙ c .if2 .taken))
 
 returns-3 : tie.Need-returns-3
-returns-3 c = rw ((sym (c .before .before .before .bad-codes .ensures) ∙ c .before .before .if1 .left), (sym (c .before .no-reference .ensures) ∙ c .if2 .left))
+returns-3 c =
+    rw (
+      sym (c .before .before .before .before .before .bad-codes .ensures) ∙ c .before .before .before .before .if1 .left,
+      sym (c .before .before .before .no-reference .ensures) ∙ c .before .before .if2 .left,
+      sym (c .before .start-over .ensures) ∙ c .if3 .taken,
+    )
+
+returns-4 : tie.Need-returns-4
+returns-4 c =
+    rw (
+      sym (c .before .before .before .before .before .bad-codes .ensures) ∙ c .before .before .before .before .if1 .left,
+      sym (c .before .before .before .no-reference .ensures) ∙ c .before .before .if2 .left,
+      sym (c .before .start-over .ensures) ∙ c .if3 .left,
+    )
 
 pub codes-refusal-spec : {M : Type 1} → statement M
-codes-refusal-spec = tie.close (tie.spec (search needs) returns (search needs) returns-2 returns-3)
+codes-refusal-spec = tie.close (tie.spec (search needs) returns (search needs) returns-2 (search needs) returns-3 returns-4)

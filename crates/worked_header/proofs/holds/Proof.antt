@@ -6,10 +6,10 @@ use Rattle.worked_header.proofs.holds.Statement.{statement}
 use Rattle.worked_header.proofs.holds.Tie as tie
 
 abbrev Inv-loop : tie.InvT-loop
-Inv-loop out bytes start bits i₀ i = i ≤ 1280
+Inv-loop out bytes from bits start fill i₀ i = i ≤ 1280
 
 abbrev μ-loop : tie.MeasureT-loop
-μ-loop out bytes start bits i₀ i = 1280 - i
+μ-loop out bytes from bits start fill i₀ i = 1280 - i
 
 pub holds-spec : {M : Type 1} → statement M
 holds-spec =
