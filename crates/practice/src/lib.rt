@@ -84,8 +84,9 @@ fn fill_reference(seed: u32, sides: Sides, reference: &mut [u16])
     let mut state = seed;
     let mut i = 0;
     while i < pels {
-        state = next_state(state);
-        reference[i] = upper_half(state);
+        let next = next_state(state);
+        reference[i] = upper_half(next);
+        state = next;
         i += 1;
     }
 }
@@ -177,13 +178,16 @@ fn too_short(sides: Sides, input: usize, reference: usize) -> bool
 fn refusal_of(sides: Sides, dy: i32, dx: i32, input: usize, reference: usize) -> u32
     ensures { λ r. ⌜ r ≡ refusal (sides .width) (sides .height) dy dx input reference ⌝ }
 {
-    if search::refusals::too_large(sides.width, sides.height) {
+    let large = search::refusals::too_large(sides.width, sides.height);
+    let far = too_far(dy, dx);
+    if large {
         return TOO_LARGE;
     }
-    if too_far(dy, dx) {
+    let short = too_short(sides, input, reference);
+    if far {
         return TOO_FAR;
     }
-    if too_short(sides, input, reference) {
+    if short {
         return TOO_SHORT;
     }
     0
