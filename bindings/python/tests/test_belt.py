@@ -366,6 +366,16 @@ class Shears(Refused):
         self.refused(7, belt.setup_shear, 1, belt.STILL)
 
 
+class Practice(Refused):
+    def test_planes(self):
+        planes = array("H", [7] * 6), array("H", [7] * 6)
+        self.assertEqual(belt.make_practice_planes(1, 2, 2, 1, -1, *planes), 4)
+        self.assertEqual(planes, (array("H", [33046] * 4 + [7, 7]), array("H", [15496, 24200, 33046, 46195, 7, 7])))
+        self.refused(1, belt.make_practice_planes, 1, 1025, 1, 0, -25, *planes)
+        self.refused(18, belt.make_practice_planes, 1, 5, 5, 25, 0, *planes)
+        self.refused(3, belt.make_practice_planes, 1, 5, 5, 24, 0, *planes)
+
+
 class Taken(unittest.TestCase):
     """What is taken as a list, and what isn't."""
 
