@@ -1,10 +1,18 @@
 // Replays the list of practice belts: each is made in two guarded buffers and compared with the plain
 // writing of the rule that the oracle has. What lies behind the part used, and everything where a call
 // is refused, must be as it was.
+ghost use mathlib.Core.Path.{_≡_};
 ghost use Prim.Native.Nat.{_≤_};
+ghost use lib.ListN.{length};
 
 // The largest plane, and what lies behind it.
 const ROOM: usize = 1048640;
+
+fn no_pels() -> [u16; ROOM]
+    ensures { λ r. ⌜ 1048640 ≡ length r ⌝ }
+{
+    [0; ROOM]
+}
 
 fn size(list: i32) -> usize {
     replay::next_word(list) as usize
@@ -67,8 +75,8 @@ fn main() {
         os::fail(b"practice.bin");
         return;
     }
-    let mut input = [0u16; ROOM];
-    let mut reference = [0u16; ROOM];
+    let mut input = no_pels();
+    let mut reference = no_pels();
     let count = replay::next_word(list) as u64;
     let failed = failures(list, count, &mut input, &mut reference);
     replay::print_count(b"practice", count, failed);
