@@ -2,7 +2,7 @@
 -- Assumes nothing.
 use Prim.Native.Nat.{ℕ, zero, suc, _+_, _*_, _/_, _%_, _^_}
 use mathlib.Core.Path.{_≡_, refl, sym, ap, _∙_}
-use native.Mathlib.Nat.{mod-add-mod, add-mul-mod-self-right, mod-add-div', mul-add, mul-assoc}
+use native.Mathlib.Nat.{zero-add, suc-add, mod-add-mod, add-mul-mod-self-right, mod-add-div', mul-add, mul-assoc}
 use Rattle.practice.specs.Generator.{times, stepped}
 
 -- a wrapped factor
@@ -31,5 +31,5 @@ module _ (multiplier increment : ℕ) where
 
 -- i steps more after j, for any step
 pub times-add : (f : ℕ → ℕ) (i j s : ℕ) → times f (i + j) s ≡ times f i (times f j s)
-times-add f zero j s = ap (λ (k : ℕ). times f k s) (native.Mathlib.Nat.zero-add j)
-times-add f (suc i) j s = ap (λ (k : ℕ). times f k s) (native.Mathlib.Nat.suc-add i j) ∙ ap f (times-add f i j s)
+times-add f zero j s = ap (λ (k : ℕ). times f k s) (zero-add j)
+times-add f (suc i) j s = ap (λ (k : ℕ). times f k s) (suc-add i j) ∙ ap f (times-add f i j s)

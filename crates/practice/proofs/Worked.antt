@@ -1,11 +1,10 @@
 -- Worked values: the first states and pels of seed 1, and the planes of two small belts.
 -- Assumes nothing.
-use Prim.Native.Nat.{ℕ}
-use mathlib.Core.List.{List, [], _∷_}
+use mathlib.Core.List.{[], _∷_}
 use mathlib.Core.Path.{_≡_, refl}
-use lib.IntN.{ℤ, pos, negsuc}
+use lib.IntN.{pos, negsuc}
 use Rattle.plane.specs.Clamp.{displaced}
-use Rattle.practice.specs.Generator.{times, next, noise}
+use Rattle.practice.specs.Generator.{times, next}
 use Rattle.practice.specs.Belt.{referencePlane, inputPlane}
 
 states : times next 1 1 ∷ times next 2 1 ∷ times next 3 1 ∷ [] ≡ 1015568748 ∷ 1586005467 ∷ 2165703038 ∷ []

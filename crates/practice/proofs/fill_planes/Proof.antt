@@ -1,6 +1,5 @@
 -- `fill_planes`: the front of the buffer holds the reference plane when the input plane is made from it.
 -- Assumes nothing.
-use mathlib.Core.Path.{ap, _∙_}
 use native.Mathlib.Omega.{arith}
 use borrow.Author.Needs.{needs}
 use Rattle.plane.proofs.Clamped.{plane-small}

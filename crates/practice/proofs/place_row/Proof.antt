@@ -2,9 +2,9 @@
 -- Assumes nothing.
 use Prim.Native.Nat.{ℕ, _+_, _*_, _-_, _≤_}
 use mathlib.Core.List.{List}
-use mathlib.Core.Path.{_≡_, ap, _∙_}
+use mathlib.Core.Path.{sym, ap, _∙_}
 use native.Mathlib.Omega.{arith}
-use lib.ListN.{length, take, drop}
+use lib.ListN.{length}
 use borrow.Author.Needs.{needs}
 use Rattle.laws.proofs.Products.{row-fits}
 use Rattle.plane.specs.declared.Offset.{Offset}
@@ -39,7 +39,7 @@ move-row-requires c κs =
     let s = c .before .before .before .before .before in
     let w = s .args .row .width in
     let long : s .args .row .r * w + w ≤ length (s .args .input .now) = omega (arith, ends (s .pre .0)) in
-    (s .pre .0, mathlib.Core.Path.sym (part-length (s .args .row .r * w) w (s .args .input .now) long))
+    (s .pre .0, sym (part-length (s .args .row .r * w) w (s .args .input .now) long))
 
 returns : tie.Need-returns
 returns c =
