@@ -11,23 +11,23 @@ factor-wraps a s m =
     sym (add-mul-mod-self-right (a * (s % m)) (a * (s / m)) m)
     ∙ ap (λ (t : ℕ). t % m) (ap (λ (t : ℕ). a * (s % m) + t) (mul-assoc a (s / m) m) ∙ sym (mul-add a (s % m) (s / m * m)) ∙ ap (λ (t : ℕ). a * t) (mod-add-div' s m))
 
-module _ (multiplier increment : ℕ) where
+module _ (a c : ℕ) where
   -- the product wrapped, and then the sum
-  pub wrapped-twice : (s : ℕ) → (multiplier * s % 2 ^ 32 + increment) % 2 ^ 32 ≡ stepped multiplier increment s
-  wrapped-twice s = mod-add-mod (multiplier * s) (2 ^ 32) increment
+  pub wrapped-twice : (s : ℕ) → (a * s % 2 ^ 32 + c) % 2 ^ 32 ≡ stepped a c s
+  wrapped-twice s = mod-add-mod (a * s) (2 ^ 32) c
 
-  stepped-wraps : (s : ℕ) → stepped multiplier increment (s % 2 ^ 32) ≡ stepped multiplier increment s
+  stepped-wraps : (s : ℕ) → stepped a c (s % 2 ^ 32) ≡ stepped a c s
   stepped-wraps s =
       sym (wrapped-twice (s % 2 ^ 32))
-      ∙ ap (λ (t : ℕ). (t + increment) % 2 ^ 32) (factor-wraps multiplier s (2 ^ 32))
+      ∙ ap (λ (t : ℕ). (t + c) % 2 ^ 32) (factor-wraps a s (2 ^ 32))
       ∙ wrapped-twice s
 
   -- the state after i steps is that of the numbers that never wrap, wrapped once
   pub wraps-once : (i seed : ℕ) →
-      times (stepped multiplier increment) (suc i) seed ≡ times (λ s. multiplier * s + increment) (suc i) seed % 2 ^ 32
+      times (stepped a c) (suc i) seed ≡ times (λ s. a * s + c) (suc i) seed % 2 ^ 32
   wraps-once zero seed = refl
   wraps-once (suc i) seed =
-      ap (stepped multiplier increment) (wraps-once i seed) ∙ stepped-wraps (times (λ s. multiplier * s + increment) (suc i) seed)
+      ap (stepped a c) (wraps-once i seed) ∙ stepped-wraps (times (λ s. a * s + c) (suc i) seed)
 
 -- i steps more after j, for any step
 pub times-add : (f : ℕ → ℕ) (i j s : ℕ) → times f (i + j) s ≡ times f i (times f j s)

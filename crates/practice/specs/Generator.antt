@@ -7,12 +7,19 @@ abbrev pub times : (ℕ → ℕ) → ℕ → ℕ → ℕ
 times f zero s = s
 times f (suc i) s = f (times f i s)
 
--- multiplied and increased, wrapping at 32 bits
+-- a times the state plus c, wrapping at 32 bits
 abbrev pub stepped : ℕ → ℕ → ℕ → ℕ
-stepped multiplier increment s = (multiplier * s + increment) % 2 ^ 32
+stepped a c s = (a * s + c) % 2 ^ 32
 
+abbrev pub multiplier : ℕ
+multiplier = 1664525
+
+abbrev pub increment : ℕ
+increment = 1013904223
+
+-- one step of the generator
 abbrev pub next : ℕ → ℕ
-next s = stepped 1664525 1013904223 s
+next s = stepped multiplier increment s
 
 -- bits 16 to 31 of a state
 abbrev pub upperHalf : ℕ → ℕ

@@ -13,7 +13,7 @@ ghost use Rattle.plane.specs.Inner.{Small};
 ghost use Rattle.practice.specs.Generator.{stepped, next, upperHalf};
 ghost use Rattle.practice.specs.Belt.{referencePlane, inputPlane};
 ghost use Rattle.practice.specs.Call.{largestShift, tooFar, tooShort, refusal, made, inputLeft, referenceLeft};
-ghost use Rattle.practice.specs.Inner.{Biased, Room, MovedRow, Lent, Ready, moved};
+ghost use Rattle.practice.specs.Inner.{Biased, PlaneRoom, MovedRow, Moving, Ready, moved};
 use plane::Offset;
 use plane::Place;
 use plane::Sides;
@@ -77,7 +77,7 @@ fn upper_half(state: u32) -> u16
 
 // The reference plane from the front of the buffer: each pel is the upper half of the next state.
 fn fill_reference(seed: u32, sides: Sides, reference: &mut [u16])
-    requires { ⌜ Room sides (length (now reference)) ⌝ }
+    requires { ⌜ PlaneRoom sides (length (now reference)) ⌝ }
     ensures { λ _. ⌜ now (reference .exit) ≡ onto (referencePlane seed (sides .width) (sides .height)) (now (reference .entry)) ⌝ }
 {
     let pels = sides.height * sides.width;
@@ -117,7 +117,7 @@ fn place_row(reference: &[u16], row: Place, by: Offset, input: &mut [u16])
 
 // The input plane from the front of the buffer, row by row.
 fn fill_input(reference: &[u16], sides: Sides, by: Offset, input: &mut [u16])
-    requires { ⌜ Lent (now reference) sides by (length (now input)) ⌝ }
+    requires { ⌜ Moving (now reference) sides by (length (now input)) ⌝ }
     ensures { λ _. ⌜ now (input .exit) ≡ onto (inputPlane (now (reference .entry)) (sides .width) (sides .height) (offset largestShift (by .y)) (offset largestShift (by .x))) (now (input .entry)) ⌝ }
 {
     let mut r = 0;
