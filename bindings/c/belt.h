@@ -31,6 +31,7 @@
 #define BELT_BLOCK_SIDE 16        /* the side of the blocks that a plane is searched in */
 #define BELT_MOST_SAMPLES 4096    /* the most samples of a frame or a list */
 #define BELT_MOST_EIGHTHS 223     /* no motion passes it either way: 27.875 pels */
+#define BELT_MOST_SHIFT 24        /* the largest component of a practice belt's motion, in pels */
 #define BELT_BLOCK_BYTES 512      /* a sample block */
 #define BELT_BLOCK_WORDS 125      /* the most words in it */
 #define BELT_HEADER_BYTES 125     /* enough for every header at every start; a job asks for as many */
@@ -53,6 +54,7 @@ enum belt_flag { BELT_LOW_PRECISION = 0, BELT_HIGH_PRECISION = 1 };
 enum belt_refusal {
     BELT_ACCEPTED = 0,
     BELT_TOO_LARGE = 1,
+    BELT_TOO_FAR = 18,
     BELT_WRONG_LENGTH = 2,
     BELT_NO_SUCH_CODE = 4,
     BELT_NO_SUCH_SLOT = 5,
@@ -72,6 +74,7 @@ static inline const char *belt_refusal_text(uint32_t refusal) {
     switch (refusal) {
     case BELT_ACCEPTED: return "accepted";
     case BELT_TOO_LARGE: return "side over 1,024, or over 4,096 samples";
+    case BELT_TOO_FAR: return "motion of a practice belt beyond 24 pels";
     case BELT_WRONG_LENGTH: return "plane, class, type, model or prior list of wrong length";
     case BELT_NO_SUCH_CODE: return "type, class or flag code out of range; type 0 for a fit";
     case BELT_NO_SUCH_SLOT: return "slot over 5, reference outside 1 to 7";
@@ -152,6 +155,9 @@ struct belt_report {
 };
 /* Whether a decoder keeps the warp (1 or 0), and its shear numbers, whether it does or not. */
 struct belt_shear { uint32_t refusal; uint32_t valid; int32_t alpha; int32_t beta; int32_t gamma; int32_t delta; };
+
+/* How many pels each plane has. */
+struct belt_made { uint32_t refusal; size_t pels; };
 
 /* Motion search ('Search').
    In: two planes of width x height pels, row by row, and a class for each whole 16x16 block.
@@ -266,6 +272,17 @@ struct belt_report belt_job(
    at 16 fraction bits.
    Refuses: 2, 4, 7 (types 0 and 1 too). */
 struct belt_shear belt_setup_shear(uint8_t type, const int32_t *params, size_t param_count);
+
+/* A belt to practise on ('Practice belt').
+   In: a seed, the sides of both planes, and a motion of dy rows and dx columns, each at most BELT_MOST_SHIFT pels
+   either way. Out: a reference plane of noise, width x height pels row by row, and the input plane, whose pel at a
+   place is the reference pel dy rows further down and dx columns further right, coordinates clamped. A search of the
+   two looks for v = 8 dy and u = 8 dx.
+   Refuses: 1, 18, 3. */
+struct belt_made belt_make_practice_planes(
+    uint32_t seed, size_t width, size_t height, int32_t dy, int32_t dx,
+    uint16_t *input, size_t input_room,
+    uint16_t *reference, size_t reference_room);
 
 #ifdef __cplusplus
 }

@@ -218,6 +218,17 @@ static void refusals(struct belt_settings settings) {
           BELT_START_OVER);
     wants("a header of 0 bytes", belt_read_global_motion_params(header, 0, 0, 1, prior, BELT_NUMBERS).refusal,
           BELT_ENDS_FIRST);
+    wants("the shear of a translation", belt_setup_shear(BELT_TRANSLATION, identity.params, 6).refusal, BELT_OFF_GRID);
+    wants("a practice belt that moves by 25 pels",
+          belt_make_practice_planes(1, WIDTH, HEIGHT, 0, -25, input, PELS, reference, PELS).refusal, BELT_TOO_FAR);
+}
+
+/* The same belt on every machine. */
+static void practise(void) {
+    struct belt_made made = belt_make_practice_planes(1, 2, 2, 1, -1, input, PELS, reference, PELS);
+    refused("belt_make_practice_planes", made.refusal);
+    same(made.pels == 4 && reference[0] == 15496 && reference[3] == 46195 && input[0] == 33046 && input[3] == 33046,
+         "practice belt");
 }
 
 int main(void) {
@@ -243,5 +254,6 @@ int main(void) {
     const struct belt_settings settings = {5, BELT_TRANSLATION, 2, BELT_HIGH_PRECISION, 0};
     too_far(settings);
     refusals(settings);
+    practise();
     return 0;
 }

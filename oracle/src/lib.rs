@@ -6,6 +6,7 @@ pub mod blocks;
 pub mod header_files;
 pub mod list;
 mod ported;
+pub mod practice;
 pub mod shear_files;
 mod stand_ins;
 

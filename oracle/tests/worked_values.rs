@@ -102,3 +102,40 @@ fn shear_by_the_clause() {
         assert_eq!(oracle::shear(&[0, 0, p2, p3, p4, p5]), Some((valid, numbers)));
     }
 }
+
+#[test]
+fn practice_belts() {
+    use oracle::practice::{planes, refusal};
+
+    let mut generator = oracle::list::Lcg(1);
+    let states = [(); 3].map(|()| {
+        generator.step();
+        generator.0
+    });
+    assert_eq!(states, [1015568748, 1586005467, 2165703038]);
+    assert_eq!(planes(1, 2, 2, 1, -1), (vec![33046; 4], vec![15496, 24200, 33046, 46195]));
+    let (input, reference) = planes(u32::MAX, 4, 2, -1, 1);
+    assert_eq!(reference, [15445, 12311, 8835, 41343, 47029, 57284, 59813, 47440]);
+    assert_eq!(input, [12311, 8835, 41343, 41343, 12311, 8835, 41343, 41343]);
+    let (input, reference) = planes(1, 64, 64, 3, -5);
+    let sum = |plane: &[u16]| plane.iter().map(|&pel| u32::from(pel)).sum::<u32>();
+    assert_eq!((sum(&reference), sum(&input), reference[4095]), (133584103, 134109200, 34182));
+    let motions = search(&input, &reference, 64, 64).into_iter().map(|[_, _, u, v]| [v * 8.0, u * 8.0]);
+    let printed = include_str!("../../crates/practice_belt/stdout");
+    let found = printed.lines().map(|line| {
+        let numbers: Vec<f64> = line.split(' ').map(|number| number.parse().unwrap()).collect();
+        assert_eq!(numbers[4..], [24.0, -40.0]);
+        [numbers[2], numbers[3]]
+    });
+    assert!(motions.eq(found));
+    let rows = [
+        (1, 1, 0, -25, 1, 18),
+        (1025, 1, 0, -25, 1, 1),
+        (5, 5, 25, 0, 10, 18),
+        (5, 5, 24, 0, 10, 3),
+        (0, 1024, 0, 0, 0, 0),
+    ];
+    for (width, height, dy, dx, room, row) in rows {
+        assert_eq!(refusal(width, height, dy, dx, room, room), row);
+    }
+}

@@ -29,6 +29,7 @@ MOST_SIDE = 1024
 BLOCK_SIDE = 16
 MOST_SAMPLES = 4096
 MOST_EIGHTHS = 223
+MOST_SHIFT = 24
 BLOCK_BYTES = 512
 BLOCK_WORDS = 125
 HEADER_BYTES = 125
@@ -42,6 +43,7 @@ _ONE = 65536
 # The rows in the order in which they are judged.
 REFUSALS = {
     1: "side over 1,024, or over 4,096 samples",
+    18: "motion of a practice belt beyond 24 pels",
     2: "plane, class, type, model or prior list of wrong length",
     4: "type, class or flag code out of range; type 0 for a fit",
     5: "slot over 5, reference outside 1 to 7",
@@ -298,9 +300,9 @@ def _numbers(models, name):
     return [(c_int32 * len(flat))(*map(_signed, flat)), len(flat)]
 
 
-def _signed(number):
+def _signed(number, name="a model's number"):
     if not -(2**31) <= number < 2**31:
-        raise ValueError(f"a model's number: {number} isn't one of 32 bits with sign")
+        raise ValueError(f"{name}: {number} isn't one of 32 bits with sign")
     return number
 
 
@@ -455,3 +457,19 @@ def setup_shear(gm_type, params):
     numbers = [(c_int32 * len(params))(*map(_signed, params)), len(params)]
     read = _call("belt_setup_shear", _code(gm_type, "gm_type"), numbers)
     return Shear(read.valid == 1, read.alpha, read.beta, read.gamma, read.delta)
+
+
+def make_practice_planes(seed, width, height, dy, dx, input_y, reference):
+    """Makes a belt to practise on ('Practice belt'): a reference plane of noise, and an input plane whose pel at a place
+    is the reference pel dy rows further down and dx columns further right, clamped. Answers how many pels each has.
+    Refuses 1, 18, 3."""
+    return _call(
+        "belt_make_practice_planes",
+        _code(seed, "seed", 2**32 - 1),
+        _code(width, "width", 2**64 - 1),
+        _code(height, "height", 2**64 - 1),
+        _signed(dy, "dy"),
+        _signed(dx, "dx"),
+        _list(input_y, c_uint16, "input_y", True),
+        _list(reference, c_uint16, "reference", True),
+    ).pels

@@ -60,6 +60,10 @@ class Models(ctypes.Structure):
     _fields_ = [("refusal", c_uint32), ("types", c_uint8 * 7), ("params", c_int32 * 42), ("bits", c_size_t)]
 
 
+class Made(ctypes.Structure):
+    _fields_ = [("refusal", c_uint32), ("pels", c_size_t)]
+
+
 class Settings(ctypes.Structure):
     _fields_ = [("frame", c_uint16), ("gm_type", c_uint8), ("reference", c_uint8), ("flag", c_uint8), ("start", c_size_t)]
 
@@ -101,6 +105,7 @@ CALLS = {
     "belt_encode_inter_global_motion": (_BYTES + _NUMBERS + [c_uint8] + _NUMBERS + [c_size_t] + _BYTES, Written),
     "belt_read_global_motion_params": (_BYTES + [c_size_t, c_uint8] + _NUMBERS, Models),
     "belt_setup_shear": ([c_uint8] + _NUMBERS, Shear),
+    "belt_make_practice_planes": ([c_uint32, c_size_t, c_size_t, c_int32, c_int32] + _PELS + _PELS, Made),
     "belt_job": (
         _PELS
         + _PELS

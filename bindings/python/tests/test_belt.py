@@ -194,7 +194,7 @@ class Refused(unittest.TestCase):
 
 class Refusals(Refused):
     def test_the_table(self):
-        self.assertEqual(list(belt.REFUSALS), [1, 2, 4, 5, 14, 7, 8, 12, 3, 6, 9, 10, 11])
+        self.assertEqual(list(belt.REFUSALS), [1, 18, 2, 4, 5, 14, 7, 8, 12, 3, 6, 9, 10, 11])
         rules = (Path(__file__).resolve().parents[3] / "docs" / "RULES.md").read_text(encoding="utf-8")
         for number, text in belt.REFUSALS.items():
             self.assertIn(f"| {number} | {text} |", rules)
@@ -372,6 +372,16 @@ class Shears(Refused):
         self.refused(2, belt.setup_shear, 3, belt.STILL[:5])
         self.refused(4, belt.setup_shear, 4, belt.STILL)
         self.refused(7, belt.setup_shear, 1, belt.STILL)
+
+
+class Practice(Refused):
+    def test_planes(self):
+        planes = array("H", [7] * 6), array("H", [7] * 6)
+        self.assertEqual(belt.make_practice_planes(1, 2, 2, 1, -1, *planes), 4)
+        self.assertEqual(planes, (array("H", [33046] * 4 + [7, 7]), array("H", [15496, 24200, 33046, 46195, 7, 7])))
+        self.refused(1, belt.make_practice_planes, 1, 1025, 1, 0, -25, *planes)
+        self.refused(18, belt.make_practice_planes, 1, 5, 5, 25, 0, *planes)
+        self.refused(3, belt.make_practice_planes, 1, 5, 5, 24, 0, *planes)
 
 
 class Taken(unittest.TestCase):

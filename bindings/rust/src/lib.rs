@@ -69,6 +69,8 @@ pub const BLOCK_SIDE: usize = 16;
 pub const MOST_SAMPLES: usize = 4096;
 /// No motion passes so many eighths either way: 27.875 pels.
 pub const MOST_EIGHTHS: u16 = 223;
+/// The largest component of a practice belt's motion either way, in pels.
+pub const MOST_SHIFT: i32 = 24;
 /// The bytes of a sample block.
 pub const BLOCK_BYTES: usize = 512;
 /// The words that a sample block holds.
@@ -570,4 +572,36 @@ pub fn setup_shear(gm_type: u8, params: &[i32]) -> Result<Shear, Refusal> {
     let raw::Shear { refusal, valid, alpha, beta, gamma, delta } = raw::setup_shear(gm_type, params);
     let shear = Shear { valid: valid == 1, alpha, beta, gamma, delta };
     judged_lists(refusal, shear, || [Length::of("params", params, 6)], || [])
+}
+
+/// Makes a belt to practise on ('Practice belt'): a reference plane of noise, and the input plane whose pel at a place
+/// is the reference pel `dy` rows further down and `dx` columns further right, coordinates clamped. Answers how many
+/// pels each has. A search of the two looks for v = 8 `dy` and u = 8 `dx`.
+///
+/// # Errors
+///
+/// [`Refusal::TooLarge`], [`Refusal::TooFar`], [`Refusal::TooShort`].
+///
+/// ```
+/// let (mut input, mut reference) = ([0; 4], [0; 4]);
+/// assert_eq!(belt::make_practice_planes(1, 2, 2, 1, -1, &mut input, &mut reference), Ok(4));
+/// assert_eq!(reference, [15496, 24200, 33046, 46195]);
+/// assert_eq!(input, [33046; 4]);
+/// ```
+pub fn make_practice_planes(
+    seed: u32,
+    width: usize,
+    height: usize,
+    dy: i32,
+    dx: i32,
+    input: &mut [u16],
+    reference: &mut [u16],
+) -> Result<usize, Refusal> {
+    let made = raw::make_practice_planes(seed, width, height, dy, dx, input, reference);
+    judged_lists(
+        made.refusal,
+        made.pels,
+        || [],
+        || [Length::of("input", input, width * height), Length::of("reference", reference, width * height)],
+    )
 }

@@ -50,6 +50,12 @@ pub struct Shear {
 }
 
 #[repr(C)]
+pub struct Made {
+    pub refusal: u32,
+    pub pels: usize,
+}
+
+#[repr(C)]
 pub struct Score {
     pub refusal: u32,
     pub score: f64,
@@ -163,6 +169,17 @@ unsafe extern "C" {
         prior_count: usize,
     ) -> Models;
     fn belt_setup_shear(gm_type: u8, params: *const i32, count: usize) -> Shear;
+    fn belt_make_practice_planes(
+        seed: u32,
+        width: usize,
+        height: usize,
+        dy: i32,
+        dx: i32,
+        input: *mut u16,
+        input_room: usize,
+        reference: *mut u16,
+        reference_room: usize,
+    ) -> Made;
     fn belt_job(
         input: *const u16,
         input_pels: usize,
@@ -365,4 +382,29 @@ pub fn job(
 pub fn setup_shear(gm_type: u8, params: &[i32]) -> Shear {
     // SAFETY: one slice is read.
     unsafe { belt_setup_shear(gm_type, params.as_ptr(), params.len()) }
+}
+
+pub fn make_practice_planes(
+    seed: u32,
+    width: usize,
+    height: usize,
+    dy: i32,
+    dx: i32,
+    input: &mut [u16],
+    reference: &mut [u16],
+) -> Made {
+    // SAFETY: two slices are written.
+    unsafe {
+        belt_make_practice_planes(
+            seed,
+            width,
+            height,
+            dy,
+            dx,
+            input.as_mut_ptr(),
+            input.len(),
+            reference.as_mut_ptr(),
+            reference.len(),
+        )
+    }
 }

@@ -9,6 +9,8 @@ use std::fmt;
 pub enum Refusal {
     /// 1: side over 1,024, or over 4,096 samples.
     TooLarge,
+    /// 18: motion of a practice belt beyond 24 pels.
+    TooFar,
     /// 2: plane, class, type, model or prior list of wrong length.
     WrongLength(Length),
     /// 4: type, class or flag code out of range; type 0 for a fit.
@@ -57,8 +59,9 @@ impl Length {
 
 impl Refusal {
     /// Every row's number and condition, in the table's order.
-    pub const TABLE: [(u32, &str); 13] = [
+    pub const TABLE: [(u32, &str); 14] = [
         (1, "side over 1,024, or over 4,096 samples"),
+        (18, "motion of a practice belt beyond 24 pels"),
         (2, "plane, class, type, model or prior list of wrong length"),
         (4, "type, class or flag code out of range; type 0 for a fit"),
         (5, "slot over 5, reference outside 1 to 7"),
@@ -77,6 +80,7 @@ impl Refusal {
     pub fn number(self) -> u32 {
         match self {
             Refusal::TooLarge => 1,
+            Refusal::TooFar => 18,
             Refusal::WrongLength(_) => 2,
             Refusal::NoSuchCode => 4,
             Refusal::NoSuchSlot => 5,
@@ -102,6 +106,7 @@ impl Refusal {
     fn of_number(number: u32, length: Length) -> Option<Refusal> {
         Some(match number {
             1 => Refusal::TooLarge,
+            18 => Refusal::TooFar,
             2 => Refusal::WrongLength(length),
             4 => Refusal::NoSuchCode,
             5 => Refusal::NoSuchSlot,

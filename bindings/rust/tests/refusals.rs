@@ -14,8 +14,8 @@ fn words(count: usize) -> Vec<u32> {
 #[test]
 fn the_table_is_that_of_the_rules() {
     let numbers = Refusal::TABLE.map(|(number, _)| number);
-    assert_eq!(numbers, [1, 2, 4, 5, 14, 7, 8, 12, 3, 6, 9, 10, 11]);
-    for row in [TooLarge, NoSuchCode, NoSuchSlot, OffGrid, PriorOut, NotRising, Singular] {
+    assert_eq!(numbers, [1, 18, 2, 4, 5, 14, 7, 8, 12, 3, 6, 9, 10, 11]);
+    for row in [TooLarge, TooFar, NoSuchCode, NoSuchSlot, OffGrid, PriorOut, NotRising, Singular] {
         assert_eq!(row.to_string(), format!("{}: {}", row.number(), row.condition()));
     }
     for row in [EndsFirst, WrongCheck, WrongBlock] {
@@ -364,4 +364,32 @@ fn setup_shear() {
     assert_eq!(belt::setup_shear(1, &still), Err(OffGrid));
     assert_eq!(belt::setup_shear(3, &model([65537, 0, 0, 65536])), Err(OffGrid));
     assert_eq!(belt::setup_shear(2, &model([65536, 2, 2, 65536])), Err(OffGrid));
+}
+
+#[test]
+fn make_practice_planes() {
+    let make = |width, height, dy, dx, input_room, reference_room| {
+        let (mut input, mut reference) = (vec![0xA55A; input_room], vec![0x5AA5; reference_room]);
+        let made = belt::make_practice_planes(u32::MAX, width, height, dy, dx, &mut input, &mut reference);
+        (made, input, reference)
+    };
+    let (made, input, reference) = make(4, 2, -1, 1, 8 + 3, 8 + 3);
+    assert_eq!(made, Ok(8));
+    assert_eq!(input, [12311, 8835, 41343, 41343, 12311, 8835, 41343, 41343, 0xA55A, 0xA55A, 0xA55A]);
+    assert_eq!(reference, [15445, 12311, 8835, 41343, 47029, 57284, 59813, 47440, 0x5AA5, 0x5AA5, 0x5AA5]);
+    for (width, height, dy, dx, input_room, reference_room, row) in [
+        (1025, 1, 0, -25, 0, 0, TooLarge),
+        (1, 1025, 25, 0, 0, 0, TooLarge),
+        (usize::MAX, usize::MAX, 0, 0, 0, 0, TooLarge),
+        (5, 5, 25, 0, 10, 10, TooFar),
+        (5, 5, i32::MIN, 0, 10, 10, TooFar),
+        (5, 5, 0, -25, 10, 10, TooFar),
+        (5, 5, 24, -24, 10, 10, short("input", 10, 25)),
+        (5, 5, -24, 24, 25, 24, short("reference", 24, 25)),
+    ] {
+        let (made, input, reference) = make(width, height, dy, dx, input_room, reference_room);
+        assert_eq!(made, Err(row));
+        assert!(input.iter().all(|&pel| pel == 0xA55A) && reference.iter().all(|&pel| pel == 0x5AA5));
+    }
+    assert_eq!(make(0, 1024, 24, 24, 0, 0).0, Ok(0));
 }

@@ -1,10 +1,12 @@
 // What the programs that replay a stored list of questions and answers share: big-endian words from
-// a list, the generator that remakes the oracle's inputs, and the lines that they print.
+// a list, guarded buffers of pels, and the lines that they print.
 ghost use mathlib.Core.Path.{_≡_};
-ghost use Prim.Native.Nat.{_+_, _*_, _%_, _^_};
+ghost use Prim.Native.Nat.{_+_, _*_, _≤_};
 ghost use mir.Syntax.{w32};
 ghost use mir.Val.{toZ};
 use libc::STDOUT_FILENO;
+
+pub const UNTOUCHED_PEL: u16 = 42405;
 
 // The next four bytes of a list, high byte first; 0 where the list has ended.
 pub fn next_word(list: i32) -> u32 {
@@ -30,12 +32,56 @@ pub fn signed(word: u32) -> i32
     }
 }
 
-// One step of the generator that the oracle's lists are made with.
-pub fn next_state(state: u32) -> u32
-    ensures { λ r. ⌜ r ≡ (state * 1664525 + 1013904223) % 2 ^ 32 ⌝ }
+pub fn least(a: usize, b: usize) -> usize
+    ensures { λ r. ⌜ (r ≤ a) × (r ≤ b) ⌝ }
 {
-    ((state as u64 * 1664525 + 1013904223) % 0x1_0000_0000) as u32
+    if a < b { a } else { b }
 }
+
+// ---- guarded buffers of pels
+
+// Guards a buffer: a call must leave this where it doesn't write.
+pub fn guard(pels: &mut [u16]) {
+    let mut i = 0;
+    while i < pels.len() {
+        pels[i] = UNTOUCHED_PEL;
+        i += 1;
+    }
+}
+
+fn untouched(pels: &[u16]) -> bool {
+    let mut i = 0;
+    while i < pels.len() {
+        if pels[i] != UNTOUCHED_PEL {
+            return false;
+        }
+        i += 1;
+    }
+    true
+}
+
+fn wide(pel: u16) -> u32 {
+    pel as u32
+}
+
+// A sum that depends on the order.
+fn sum_of_pels(pels: &[u16]) -> u32 {
+    let mut sum = 1u32;
+    let mut i = 0;
+    while i < pels.len() {
+        sum = practice::next_state(std::num::wrapping_add_u32(sum, wide(pels[i])));
+        i += 1;
+    }
+    sum
+}
+
+// The first values have this sum, the others are as they were.
+pub fn plane_holds(pels: &[u16], written: usize, sum: u32) -> bool {
+    let end = least(written, pels.len());
+    sum_of_pels(&pels[0..end]) == sum && untouched(&pels[end..])
+}
+
+// ---- lines
 
 // A line for a case that failed: the list's name and the case's number.
 pub fn print_failure(name: &[u8], case: u64) {

@@ -76,7 +76,7 @@ fn sum_of_bytes(bytes: &[u8]) -> u32 {
     let mut sum = 1u32;
     let mut i = 0;
     while i < bytes.len() {
-        sum = replay::next_state(std::num::wrapping_add_u32(sum, wide(bytes[i])));
+        sum = practice::next_state(std::num::wrapping_add_u32(sum, wide(bytes[i])));
         i += 1;
     }
     sum
@@ -86,7 +86,7 @@ fn sum_of_words(words: &[u32]) -> u32 {
     let mut sum = 1u32;
     let mut i = 0;
     while i < words.len() {
-        sum = replay::next_state(std::num::wrapping_add_u32(sum, words[i]));
+        sum = practice::next_state(std::num::wrapping_add_u32(sum, words[i]));
         i += 1;
     }
     sum
@@ -108,10 +108,10 @@ fn make_words(seed: u32, step: u32, words: &mut [u32]) {
     let mut base = 0u32;
     let mut i = 0;
     while i < words.len() {
-        let at = replay::next_state(state);
-        let v = replay::next_state(at);
-        let u = replay::next_state(v);
-        state = replay::next_state(u);
+        let at = practice::next_state(state);
+        let v = practice::next_state(at);
+        let u = practice::next_state(v);
+        state = practice::next_state(u);
         let place = (base % PLACES + below(number(at), step)) % PLACES;
         words[i] = sample::word_of(
             place / 64,

@@ -70,7 +70,7 @@ fn fill_plane(seed: u32, mask: u32, plane: &mut [u16]) -> u32 {
     let mut state = seed;
     let mut i = 0;
     while i < plane.len() {
-        state = replay::next_state(state);
+        state = practice::next_state(state);
         plane[i] = shade(state, mask);
         i += 1;
     }

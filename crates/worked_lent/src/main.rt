@@ -27,7 +27,7 @@ fn bytes_from(seed: u32) -> [u8; 24] {
     let mut state = seed;
     let mut i = 0usize;
     while i < BYTES {
-        state = replay::next_state(state);
+        state = practice::next_state(state);
         bytes[i] = (upper(state) % 256) as u8;
         i += 1;
     }
@@ -39,9 +39,9 @@ fn words_from(seed: u32) -> [u32; 64] {
     let mut state = seed;
     let mut i = 0usize;
     while i < WORDS {
-        state = replay::next_state(state);
+        state = practice::next_state(state);
         let high = upper(state);
-        state = replay::next_state(state);
+        state = practice::next_state(state);
         words[i] = high * 65536 + upper(state);
         i += 1;
     }
@@ -70,12 +70,12 @@ fn small(state: u32) -> i32 {
 }
 
 fn params_from(seed: u32) -> [i32; 6] {
-    let a = replay::next_state(seed);
-    let b = replay::next_state(a);
-    let c = replay::next_state(b);
-    let d = replay::next_state(c);
-    let e = replay::next_state(d);
-    let f = replay::next_state(e);
+    let a = practice::next_state(seed);
+    let b = practice::next_state(a);
+    let c = practice::next_state(b);
+    let d = practice::next_state(c);
+    let e = practice::next_state(d);
+    let f = practice::next_state(e);
     let x = replay::signed(a);
     let y = replay::signed(b);
     [x, y, about_one(c), small(d), small(e), about_one(f)]
@@ -108,7 +108,7 @@ fn prior_from(seed: u32) -> [i32; 42] {
     let mut state = seed;
     let mut i = 0usize;
     while i < NUMBERS {
-        state = replay::next_state(state);
+        state = practice::next_state(state);
         prior[i] = prior_number(i % 6, state);
         i += 1;
     }
@@ -156,9 +156,9 @@ fn models_agree(lent: Models, core: Models) -> bool {
 }
 
 fn models_case(case: u64) -> bool {
-    let seed = replay::next_state((case % 0x1_0000_0000) as u32);
-    let place = replay::next_state(seed);
-    let code = replay::next_state(place);
+    let seed = practice::next_state((case % 0x1_0000_0000) as u32);
+    let place = practice::next_state(seed);
+    let code = practice::next_state(place);
     let at = (upper(place) % 200) as usize;
     let flag = (upper(code) % 3) as u8;
     let bytes = bytes_from(seed);
@@ -182,8 +182,8 @@ fn scores_agree(params: [i32; 6], words: [u32; 64], n: usize) -> bool
 }
 
 fn score_case(case: u64) -> bool {
-    let seed = replay::next_state((case % 0x1_0000_0000) as u32);
-    let n = replay::next_state(seed);
+    let seed = practice::next_state((case % 0x1_0000_0000) as u32);
+    let n = practice::next_state(seed);
     scores_agree(params_from(seed), words_from(n), (upper(n) % 65) as usize)
 }
 

@@ -6,8 +6,6 @@ ghost use mathlib.Core.Path.{_≡_};
 ghost use lib.ListN.{length};
 use search::Searched;
 
-const UNTOUCHED_PEL: u16 = 42405;
-
 const UNTOUCHED_WORD: u32 = 2779096485;
 
 // What a texture looks like. It repeats in both directions, and each place has a number below 65536:
@@ -47,12 +45,6 @@ struct Case {
     input_half_room: usize,
     ref_half_room: usize,
     word_room: usize,
-}
-
-fn least(a: usize, b: usize) -> usize
-    ensures { λ r. ⌜ (r ≤ a) × (r ≤ b) ⌝ }
-{
-    if a < b { a } else { b }
 }
 
 fn no_pels() -> [u16; 6400]
@@ -106,7 +98,7 @@ fn next_case(list: i32) -> Case {
 }
 
 fn mixed(state: u32, word: u32) -> u32 {
-    let next = replay::next_state(state ^ word);
+    let next = practice::next_state(state ^ word);
     next ^ next / 65536
 }
 
@@ -149,7 +141,7 @@ fn pel(t: Texture, w: Window, r: u32, c: u32) -> u16 {
         mixed(w.seed, repeated(row, t.period)),
         repeated(column, t.period),
     );
-    shade(t, replay::next_state(at) / 65536)
+    shade(t, practice::next_state(at) / 65536)
 }
 
 // The place in a row or a column, as a word.
@@ -201,12 +193,12 @@ fn searched(
     ref_half: &mut [u16],
     words: &mut [u32],
 ) -> Searched {
-    let input_pels = least(a.input_pels, input.len());
-    let ref_pels = least(a.ref_pels, reference.len());
-    let count = least(a.classes, classes.len());
-    let input_room = least(a.input_half_room, input_half.len());
-    let ref_room = least(a.ref_half_room, ref_half.len());
-    let word_room = least(a.word_room, words.len());
+    let input_pels = replay::least(a.input_pels, input.len());
+    let ref_pels = replay::least(a.ref_pels, reference.len());
+    let count = replay::least(a.classes, classes.len());
+    let input_room = replay::least(a.input_half_room, input_half.len());
+    let ref_room = replay::least(a.ref_half_room, ref_half.len());
+    let word_room = replay::least(a.word_room, words.len());
     search::collect_motion_samples(
         &input[0..input_pels],
         &reference[0..ref_pels],
@@ -217,38 +209,6 @@ fn searched(
         &mut ref_half[0..ref_room],
         &mut words[0..word_room],
     )
-}
-
-fn wide(pel: u16) -> u32 {
-    pel as u32
-}
-
-// A sum that depends on the order.
-fn sum_of_pels(pels: &[u16]) -> u32 {
-    let mut sum = 1u32;
-    let mut i = 0;
-    while i < pels.len() {
-        sum = replay::next_state(std::num::wrapping_add_u32(sum, wide(pels[i])));
-        i += 1;
-    }
-    sum
-}
-
-fn untouched(pels: &[u16]) -> bool {
-    let mut i = 0;
-    while i < pels.len() {
-        if pels[i] != UNTOUCHED_PEL {
-            return false;
-        }
-        i += 1;
-    }
-    true
-}
-
-// The first values have this sum, the others are as they were.
-fn half_plane_holds(pels: &[u16], written: usize, sum: u32) -> bool {
-    let end = least(written, pels.len());
-    sum_of_pels(&pels[0..end]) == sum && untouched(&pels[end..])
 }
 
 fn wanted_word(list: i32, listed: bool) -> u32 {
@@ -281,16 +241,16 @@ fn holds(list: i32, s: Searched, input_half: &[u16], ref_half: &[u16], words: &[
     let words_right = words_hold(list, words, samples);
     s.refusal == refusal
         && s.samples == samples
-        && half_plane_holds(input_half, written, input_sum)
-        && half_plane_holds(ref_half, written, ref_sum)
+        && replay::plane_holds(input_half, written, input_sum)
+        && replay::plane_holds(ref_half, written, ref_sum)
         && words_right
 }
 
 fn replay_one(list: i32, input: &mut [u16], reference: &mut [u16]) -> bool {
     let a = next_case(list);
     let mut classes = [0u8; 32];
-    let mut input_half = [UNTOUCHED_PEL; 1632];
-    let mut ref_half = [UNTOUCHED_PEL; 1632];
+    let mut input_half = [replay::UNTOUCHED_PEL; 1632];
+    let mut ref_half = [replay::UNTOUCHED_PEL; 1632];
     let mut words = [UNTOUCHED_WORD; 32];
     make(a, &mut *input, &mut *reference, &mut classes);
     let s = searched(

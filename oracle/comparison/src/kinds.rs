@@ -3,7 +3,7 @@
 use crate::inputs::{self, Scene, float, number, prior, sides, stored_model};
 use crate::random::Random;
 use belt::{Buffers, Fitted, Frame, Lent, Model, Refusal, Report, Settings, StoredModel, Task};
-use oracle::{Models, blocks};
+use oracle::{Models, blocks, practice};
 use std::fmt::{Debug, Write};
 
 /// An input that is being made, in words for the one that shows a difference.
@@ -26,7 +26,7 @@ pub struct Kind {
     pub compare: fn(&mut Case) -> Result<(), String>,
 }
 
-pub const KINDS: [Kind; 13] = [
+pub const KINDS: [Kind; 14] = [
     Kind { name: "search", share: 4, compare: search },
     Kind { name: "fit translation", share: 4, compare: |case| fit(case, 1) },
     Kind { name: "fit rotation-zoom", share: 4, compare: |case| fit(case, 2) },
@@ -40,7 +40,11 @@ pub const KINDS: [Kind; 13] = [
     Kind { name: "job", share: 6, compare: job },
     Kind { name: "blocks, by docs/RULES.md", share: 4, compare: stored_frame },
     Kind { name: "shear, by clause 7.11.3.6", share: 6, compare: shear },
+    Kind { name: "practice belt, by docs/RULES.md", share: 4, compare: practice },
 ];
+
+/// The sides of practice belts that are likely to differ.
+const SIDES: [usize; 9] = [0, 1, 2, 24, 25, 64, 1023, 1024, 1025];
 
 fn same<T: PartialEq + Debug>(what: &str, library: T, rust: T) -> Result<(), String> {
     if library == rust {
@@ -508,4 +512,35 @@ fn shear(case: &mut Case) -> Result<(), String> {
     let ours =
         belt::setup_shear(kind, &model).map(|shear| (shear.valid, [shear.alpha, shear.beta, shear.gamma, shear.delta]));
     same("shear", ours.ok(), oracle::shear(&model))
+}
+
+/// A practice belt in guarded buffers, against a writing of the rule.
+fn practice(case: &mut Case) -> Result<(), String> {
+    let random = &mut case.random;
+    let seed = random.below(1 << 32) as u32;
+    let (width, height) = (random.pick(&SIDES), random.pick(&SIDES));
+    let (width, height) = if random.one_in(2) { (width, height) } else { (random.below(70), random.below(70)) };
+    let mut component = || random.below(51) as i32 - 25;
+    let (dy, dx) = (component(), component());
+    let mut room =
+        || if random.one_in(8) { random.below(width * height + 1) } else { width * height + random.below(9) };
+    let (input_room, reference_room) = (room(), room());
+    case.note("seed, width, height, dy, dx", (seed, width, height, dy, dx));
+    case.note("room", (input_room, reference_room));
+    let (mut input, mut reference) = (vec![0xA55A; input_room], vec![0x5AA5; reference_room]);
+    let (mut wanted_input, mut wanted_reference) = (input.clone(), reference.clone());
+    let ours = row(belt::make_practice_planes(seed, width, height, dy, dx, &mut input, &mut reference));
+    case.accepted = ours.is_ok();
+    let theirs = match practice::refusal(width, height, dy, dx, input_room, reference_room) {
+        0 => {
+            let (moved, noise) = practice::planes(seed, width, height, dy, dx);
+            wanted_input[..moved.len()].copy_from_slice(&moved);
+            wanted_reference[..noise.len()].copy_from_slice(&noise);
+            Ok(noise.len())
+        }
+        refusal => Err(refusal),
+    };
+    same("pels", ours, theirs)?;
+    same_list("input", &input, &wanted_input)?;
+    same_list("reference", &reference, &wanted_reference)
 }

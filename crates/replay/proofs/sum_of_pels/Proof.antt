@@ -1,9 +1,9 @@
--- `worked_search::sum_of_pels`: each turn adds one pel, wrapping, and the counter rises to their number. Assumes nothing.
+-- `replay::sum_of_pels`: each turn adds one pel, wrapping, and the counter rises to their number. Assumes nothing.
 use borrow.Author.Needs.{needs}
 use Prim.Native.Nat.{_≤_, _-_}
 use lib.ListN.{length}
-use Rattle.worked_search.proofs.sum_of_pels.Statement.{statement}
-use Rattle.worked_search.proofs.sum_of_pels.Tie as tie
+use Rattle.replay.proofs.sum_of_pels.Statement.{statement}
+use Rattle.replay.proofs.sum_of_pels.Tie as tie
 
 abbrev Inv-loop : tie.InvT-loop
 Inv-loop pels sum₀ i₀ sum i = i ≤ length pels

@@ -1,9 +1,9 @@
--- `worked_search::untouched`: each turn tests one pel, and the counter rises to the number of pels. Assumes nothing.
+-- `replay::untouched`: each turn tests one pel, and the counter rises to the number of pels. Assumes nothing.
 use borrow.Author.Needs.{needs}
 use Prim.Native.Nat.{_≤_, _-_}
 use lib.ListN.{length}
-use Rattle.worked_search.proofs.untouched.Statement.{statement}
-use Rattle.worked_search.proofs.untouched.Tie as tie
+use Rattle.replay.proofs.untouched.Statement.{statement}
+use Rattle.replay.proofs.untouched.Tie as tie
 
 abbrev Inv-loop : tie.InvT-loop
 Inv-loop pels i₀ i = i ≤ length pels

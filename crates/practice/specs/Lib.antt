@@ -1,0 +1,4 @@
+pub mod Generator
+pub mod Belt
+pub mod Call
+pub mod Inner
