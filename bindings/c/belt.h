@@ -18,6 +18,7 @@
 #ifndef BELT_H
 #define BELT_H
 
+#include <stdbool.h>
 #include <stddef.h>
 #include <stdint.h>
 
@@ -241,6 +242,24 @@ struct belt_written belt_encode_inter_global_motion(
    models, as stored, and the bits consumed.
    Refuses: 2, 4, 8, 9. */
 struct belt_models belt_read_global_motion_params(
+    const uint8_t *header, size_t header_bytes, size_t at, uint8_t flag,
+    const struct belt_stored_model *prior, size_t prior_number_count);
+
+/* A header of a frame of either kind, written and read ('Key frames'). An inter frame, intra false, is written and read
+   as by the two calls above. A key frame, intra true (FrameIsIntra of the standard), has no bits.
+   In: of a key frame 7 types 0 and 7 identities; its prior may be anything. Out: 0 bits, and no byte is needed or
+   touched. Read: seven identities and 0 bits, whatever the bytes, the position and the prior.
+   Refuses of a key frame: 2, 4, 14, 7 (a model that isn't the identity); read 4. */
+struct belt_written belt_encode_global_motion(
+    bool intra,
+    const uint8_t *types, size_t type_count,
+    const struct belt_stored_model *models, size_t number_count,
+    uint8_t flag,
+    const struct belt_stored_model *prior, size_t prior_number_count,
+    size_t start,
+    uint8_t *header, size_t header_room);
+struct belt_models belt_read_global_motion(
+    bool intra,
     const uint8_t *header, size_t header_bytes, size_t at, uint8_t flag,
     const struct belt_stored_model *prior, size_t prior_number_count);
 

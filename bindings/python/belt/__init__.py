@@ -421,6 +421,30 @@ def read_global_motion_params(header, at, flag, prior):
     return Models(tuple(read.types), _models(read.params), read.bits)
 
 
+def encode_global_motion(intra, types, models, flag, prior, start, header):
+    """Writes the header of a frame of either kind ('Key frames'); answers how many bits. Where intra is true there are
+    none, no byte is touched and the prior isn't looked at. Refuses of a key frame 2, 4, 14, 7."""
+    return _call(
+        "belt_encode_global_motion",
+        bool(intra),
+        _list(types, c_uint8, "types"),
+        _numbers(models, "models"),
+        _code(flag, "flag"),
+        _numbers(prior, "prior"),
+        _code(start, "start", 2**64 - 1),
+        _list(header, c_uint8, "header", True),
+    ).bits
+
+
+def read_global_motion(intra, header, at, flag, prior):
+    """Reads the Models of a frame of either kind ('Key frames'): seven identities and no bits where intra is true. Refuses
+    of a key frame 4."""
+    header, prior = _list(header, c_uint8, "header"), _numbers(prior, "prior")
+    at, flag = _code(at, "at", 2**64 - 1), _code(flag, "flag")
+    read = _call("belt_read_global_motion", bool(intra), header, at, flag, prior)
+    return Models(tuple(read.types), _models(read.params), read.bits)
+
+
 def job(input_y, reference, width, height, settings, classes, buffers, types=(0,) * 6, models=None, prior=IDENTITIES):
     """Runs a whole job ('Job'): search, fit, grid, score, blocks and header, into a Buffers or anything with its five
     fields; answers a Report. The six other references are identities unless types and StoredModels are given.

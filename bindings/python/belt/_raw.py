@@ -5,7 +5,7 @@
 
 import ctypes
 import os
-from ctypes import POINTER, c_double, c_int32, c_size_t, c_uint8, c_uint16, c_uint32
+from ctypes import POINTER, c_bool, c_double, c_int32, c_size_t, c_uint8, c_uint16, c_uint32
 from pathlib import Path
 
 
@@ -102,6 +102,8 @@ CALLS = {
     "belt_read_frame": (_BYTES + _WORDS, FrameRead),
     "belt_judge_block": (_BYTES, BlockRead),
     "belt_list_block": (_BYTES + [POINTER(c_uint8 * 4096)], c_size_t),
+    "belt_encode_global_motion": ([c_bool] + _BYTES + _NUMBERS + [c_uint8] + _NUMBERS + [c_size_t] + _BYTES, Written),
+    "belt_read_global_motion": ([c_bool] + _BYTES + [c_size_t, c_uint8] + _NUMBERS, Models),
     "belt_encode_inter_global_motion": (_BYTES + _NUMBERS + [c_uint8] + _NUMBERS + [c_size_t] + _BYTES, Written),
     "belt_read_global_motion_params": (_BYTES + [c_size_t, c_uint8] + _NUMBERS, Models),
     "belt_setup_shear": ([c_uint8] + _NUMBERS, Shear),

@@ -332,6 +332,18 @@ class Refusals(Refused):
         self.assertEqual(belt.list_block(block), "frame 5 block 0 count 1\n0 0 0 0 0\n")
         self.assertEqual(block[508:], bytes([0x00, 0x0C, 0xFC, 0x7E]))
 
+    def test_key_frames(self):
+        header = bytearray(b"\xff")
+        self.assertEqual(belt.encode_global_motion(True, bytes(7), IDENTITIES, 1, IDENTITIES[:1], 3, header), 0)
+        self.assertEqual(header, b"\xff")
+        self.assertEqual(belt.read_global_motion(True, b"", 99, 1, ()), ((0,) * 7, IDENTITIES, 0))
+        self.refused(4, belt.read_global_motion, True, b"", 99, 2, ())
+        self.refused(14, belt.encode_global_motion, True, b"\x01" + bytes(6), IDENTITIES, 1, (), 8, header)
+        self.refused(7, belt.encode_global_motion, True, b"\x01" + bytes(6), IDENTITIES, 1, (), 0, header)
+        self.assertEqual(belt.encode_global_motion(False, bytes(7), IDENTITIES, 1, IDENTITIES, 0, header), 7)
+        self.assertEqual(header, b"\x00")
+        self.assertEqual(belt.read_global_motion(False, header, 0, 1, IDENTITIES).bits, 7)
+
     def test_headers(self):
         model = StoredModel((8192, -8192, 65536, 0, 0, 65536))
         models, types = (model,) + IDENTITIES[:6], bytes([1, 0, 0, 0, 0, 0, 0])

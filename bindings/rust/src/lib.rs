@@ -497,6 +497,77 @@ pub fn read_global_motion_params(header: &[u8], at: usize, flag: u8, prior: &[St
     judged_lists(read.refusal, models, || [Length::of("prior", prior, 7)], || [])
 }
 
+/// The kind of a frame.
+#[derive(Clone, Copy, Debug, PartialEq, Eq)]
+pub enum Kind {
+    /// Seven references are coded.
+    Inter,
+    /// None is: FrameIsIntra of the standard holds.
+    Key,
+}
+
+/// Writes the header of a frame of either kind ('Key frames'); answers how many bits. An inter frame's is what
+/// [`encode_inter_global_motion`] writes. A key frame has no bits: its models must be seven identities of type 0, its
+/// prior isn't looked at, and no byte is needed or touched.
+///
+/// # Errors
+///
+/// Of an inter frame those of [`encode_inter_global_motion`]; of a key frame [`Refusal::WrongLength`],
+/// [`Refusal::NoSuchCode`], [`Refusal::StartOver`], [`Refusal::OffGrid`].
+///
+/// ```
+/// use belt::{IDENTITIES, Kind};
+///
+/// let mut header = [0xFF];
+/// assert_eq!(belt::encode_global_motion(Kind::Key, &[0; 7], &IDENTITIES, 1, &[], 3, &mut header), Ok(0));
+/// assert_eq!(header, [0xFF]);
+/// assert_eq!(belt::encode_global_motion(Kind::Inter, &[0; 7], &IDENTITIES, 1, &IDENTITIES, 0, &mut header), Ok(7));
+/// assert_eq!(header, [0x00]);
+/// ```
+pub fn encode_global_motion(
+    kind: Kind,
+    types: &[u8],
+    models: &[StoredModel],
+    flag: u8,
+    prior: &[StoredModel],
+    start: usize,
+    header: &mut [u8],
+) -> Result<usize, Refusal> {
+    if kind == Kind::Inter {
+        return encode_inter_global_motion(types, models, flag, prior, start, header);
+    }
+    let written =
+        raw::encode_global_motion(true, types, raw::numbers(models), flag, raw::numbers(prior), start, header);
+    let lists = || [Length::of("types", types, 7), Length::of("models", models, 7)];
+    judged_lists(written.refusal, written.bits, lists, || [])
+}
+
+/// Reads the models of a frame of either kind ('Key frames'). An inter frame's are what [`read_global_motion_params`]
+/// reads; a key frame's are seven identities and no bits, whatever the bytes, the position and the prior.
+///
+/// # Errors
+///
+/// Of an inter frame those of [`read_global_motion_params`]; of a key frame [`Refusal::NoSuchCode`].
+///
+/// ```
+/// let read = belt::read_global_motion(belt::Kind::Key, &[], 99, 1, &[])?;
+/// assert_eq!((read.types, read.models, read.bits), ([0; 7], belt::IDENTITIES, 0));
+/// # Ok::<(), belt::Refusal>(())
+/// ```
+pub fn read_global_motion(
+    kind: Kind,
+    header: &[u8],
+    at: usize,
+    flag: u8,
+    prior: &[StoredModel],
+) -> Result<Models, Refusal> {
+    if kind == Kind::Inter {
+        return read_global_motion_params(header, at, flag, prior);
+    }
+    let read = raw::read_global_motion(true, header, at, flag, raw::numbers(prior));
+    judged(read.refusal, Models { types: read.types, models: read.params, bits: read.bits })
+}
+
 /// Runs a whole job: search, fit, grid, score, blocks and header ('Job'). The crate's head has an example.
 ///
 /// # Errors

@@ -3,7 +3,7 @@
 mod frames;
 
 use belt::Refusal::{self, *};
-use belt::{Buffers, Fitted, IDENTITIES, Length, Model, Shear, StoredModel};
+use belt::{Buffers, Fitted, IDENTITIES, Kind, Length, Model, Shear, StoredModel};
 use frames::{Handed, guarded, noisy_plane};
 
 /// Words that rise, at zero motion.
@@ -343,6 +343,45 @@ fn headers_written_and_read() {
     assert_eq!(read(&[], 0, 1, &IDENTITIES), Err(EndsFirst));
     assert_eq!(read(&header, 24, 1, &IDENTITIES), Err(EndsFirst));
     assert_eq!(read(&header, usize::MAX, 1, &IDENTITIES), Err(EndsFirst));
+}
+
+#[test]
+fn key_frames_written_and_read() {
+    let key = |types: &[u8], models: &[StoredModel], flag, prior: &[StoredModel], start, room: usize| {
+        let mut header = vec![0xEE; room];
+        let wrote = belt::encode_global_motion(Kind::Key, types, models, flag, prior, start, &mut header);
+        assert_eq!(header, vec![0xEE; room], "no byte is touched");
+        wrote
+    };
+    let wild = [StoredModel([i32::MIN; 6]); 7];
+    let mut moved = IDENTITIES;
+    moved[0].0[0] = 8192;
+    for (prior, start, room) in [(&IDENTITIES[..], 3, 1), (&wild[..1], 0, 0), (&wild[..], 7, 125), (&[][..], 0, 9)] {
+        assert_eq!(key(&[0; 7], &IDENTITIES, 1, prior, start, room), Ok(0));
+    }
+    assert_eq!(key(&[0; 6], &IDENTITIES, 2, &wild, 8, 0), Err(wrong("types", 6, 7)));
+    assert_eq!(key(&[0; 7], &IDENTITIES[..6], 2, &wild, 8, 0), Err(wrong("models", 6, 7)));
+    assert_eq!(key(&[4, 0, 0, 0, 0, 0, 0], &IDENTITIES, 1, &wild, 8, 0), Err(NoSuchCode));
+    assert_eq!(key(&[0; 7], &IDENTITIES, 2, &wild, 8, 0), Err(NoSuchCode));
+    assert_eq!(key(&[1, 0, 0, 0, 0, 0, 0], &IDENTITIES, 1, &wild, 8, 0), Err(StartOver));
+    assert_eq!(key(&[1, 0, 0, 0, 0, 0, 0], &IDENTITIES, 1, &wild, 0, 0), Err(OffGrid));
+    assert_eq!(key(&[0; 7], &moved, 1, &wild, 0, 0), Err(OffGrid));
+
+    for (bytes, at, prior) in
+        [(&[][..], 99, &wild[..]), (&[0xFF; 9][..], 0, &[][..]), (&[][..], usize::MAX, &wild[..1])]
+    {
+        let read = belt::read_global_motion(Kind::Key, bytes, at, 0, prior).unwrap();
+        assert_eq!((read.types, read.models, read.bits), ([0; 7], IDENTITIES, 0));
+        assert_eq!(belt::read_global_motion(Kind::Key, bytes, at, 2, prior), Err(NoSuchCode));
+    }
+
+    // an inter frame as ever
+    let mut header = [0xEE; 2];
+    assert_eq!(belt::encode_global_motion(Kind::Inter, &[0; 7], &IDENTITIES, 1, &IDENTITIES, 0, &mut header), Ok(7));
+    assert_eq!(header, [0x00, 0xEE]);
+    assert_eq!(belt::encode_global_motion(Kind::Inter, &[0; 7], &IDENTITIES, 1, &wild, 0, &mut header), Err(PriorOut));
+    let read = |at| belt::read_global_motion(Kind::Inter, &header, at, 1, &IDENTITIES).map(|read| read.bits);
+    assert_eq!((read(0), read(99)), (Ok(7), Err(EndsFirst)));
 }
 
 #[test]

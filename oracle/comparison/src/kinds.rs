@@ -2,7 +2,7 @@
 
 use crate::inputs::{self, Scene, float, number, prior, sides, stored_model};
 use crate::random::Random;
-use belt::{Buffers, Fitted, Frame, Lent, Model, Refusal, Report, Settings, StoredModel, Task};
+use belt::{Buffers, Fitted, Frame, Kind as FrameKind, Lent, Model, Refusal, Report, Settings, StoredModel, Task};
 use oracle::{Models, blocks, practice};
 use std::fmt::{Debug, Write};
 
@@ -26,7 +26,7 @@ pub struct Kind {
     pub compare: fn(&mut Case) -> Result<(), String>,
 }
 
-pub const KINDS: [Kind; 14] = [
+pub const KINDS: [Kind; 15] = [
     Kind { name: "search", share: 4, compare: search },
     Kind { name: "fit translation", share: 4, compare: |case| fit(case, 1) },
     Kind { name: "fit rotation-zoom", share: 4, compare: |case| fit(case, 2) },
@@ -37,6 +37,7 @@ pub const KINDS: [Kind; 14] = [
     Kind { name: "header written", share: 8, compare: header_written },
     Kind { name: "header read", share: 6, compare: header_read },
     Kind { name: "header read, damaged", share: 8, compare: header_damaged },
+    Kind { name: "key frame", share: 4, compare: key_frame },
     Kind { name: "job", share: 6, compare: job },
     Kind { name: "blocks, by docs/RULES.md", share: 4, compare: stored_frame },
     Kind { name: "shear, by clause 7.11.3.6", share: 6, compare: shear },
@@ -80,6 +81,9 @@ fn row<T>(answer: Result<T, Refusal>) -> Result<T, u32> {
 const TOO_SHORT: u32 = 3;
 const SINGULAR: u32 = 6;
 const ENDS_FIRST: u32 = 9;
+/// Those that only the rules have.
+const OFF_GRID: u32 = 7;
+const START_OVER: u32 = 14;
 
 /// A job's buffers full of a pattern: just long enough, or longer.
 fn buffers(random: &mut Random, width: usize, height: usize) -> Buffers {
@@ -359,6 +363,37 @@ fn header_damaged(case: &mut Case) -> Result<(), String> {
     case.note("damaged: flag", flag);
     case.note("damaged: prior", prior);
     read(case, &bytes, at, flag, &prior)
+}
+
+/// A key frame written, which leaves every byte, and read from anywhere. A model that isn't the identity is refused.
+fn key_frame(case: &mut Case) -> Result<(), String> {
+    let random = &mut case.random;
+    let flag = random.below(2) as u8;
+    let reference = random.below(7);
+    let (mut types, mut models) = ([0; 7], belt::IDENTITIES);
+    if random.one_in(4) {
+        types[reference] = random.below(4) as u8;
+        models[reference] = StoredModel(stored_model(random, types[reference], flag == 1));
+    }
+    let prior: Vec<StoredModel> = (0..random.below(9)).map(|_| StoredModel([number(random); 6])).collect();
+    let start = random.below(10);
+    let before = {
+        let room = random.below(4);
+        random.bytes(room)
+    };
+    let at = if random.one_in(2) { start } else { random.bits() as usize };
+    case.note("types, models", (types, models));
+    case.note("flag, prior", (flag, &prior));
+    case.note("start, position, bytes", (start, at, &before));
+    let mut after = before.clone();
+    let ours = row(belt::encode_global_motion(FrameKind::Key, &types, &models, flag, &prior, start, &mut after));
+    case.accepted = ours.is_ok();
+    let plain = (types, models) == ([0; 7], belt::IDENTITIES);
+    same("bits", ours, if start > 7 { Err(START_OVER) } else if plain { Ok(0) } else { Err(OFF_GRID) })?;
+    same_list("bytes", &after, &before)?;
+    let read = row(belt::read_global_motion(FrameKind::Key, &after, at, flag, &prior));
+    let read = read.map(|read| (read.types, read.models.map(|model| model.0), read.bits));
+    same("types, models and bits", read, Ok(oracle::read_key_frame(&after, at)))
 }
 
 /// The composition of the Rust's answers: what a job reports and leaves.
