@@ -46,7 +46,7 @@ REFUSALS = {
     18: "motion of a practice belt beyond 24 pels",
     2: "plane, class, type, model or prior list of wrong length",
     4: "type, class or flag code out of range; type 0 for a fit",
-    5: "slot over 5, reference outside 1 to 7",
+    5: "slot over 5, or to price one that the type doesn't carry; reference outside 1 to 7",
     14: "start of a header to write over 7",
     7: "model off the grid, uncarried slot or pair wrong",
     8: "prior out of range",
@@ -443,6 +443,26 @@ def read_global_motion(intra, header, at, flag, prior):
     at, flag = _code(at, "at", 2**64 - 1), _code(flag, "flag")
     read = _call("belt_read_global_motion", bool(intra), header, at, flag, prior)
     return Models(tuple(read.types), _models(read.params), read.bits)
+
+
+def coefficient_prices(gm_type, flag, slot, prior):
+    """How many of a slot's ordinals have a code of 4 bits, of 5 and so on ('Prices'), a tuple. Refuses 4, 5, 8."""
+    codes = [_code(code, name) for code, name in zip((gm_type, flag, slot), ("gm_type", "flag", "slot"))]
+    listed = _call("belt_coefficient_prices", *codes, prior)
+    return tuple(listed.ordinals[: listed.lengths])
+
+
+def frame_price(intra, types, models, flag, prior):
+    """The bits that encode_global_motion writes, from every start, without writing them ('Prices'). Refuses 2, 4, 7, 8; of
+    a key frame 2, 4, 7."""
+    return _call(
+        "belt_frame_price",
+        bool(intra),
+        _list(types, c_uint8, "types"),
+        _numbers(models, "models"),
+        _code(flag, "flag"),
+        _numbers(prior, "prior"),
+    ).bits
 
 
 def job(input_y, reference, width, height, settings, classes, buffers, types=(0,) * 6, models=None, prior=IDENTITIES):

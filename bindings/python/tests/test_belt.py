@@ -386,6 +386,22 @@ class Shears(Refused):
         self.refused(7, belt.setup_shear, 1, belt.STILL)
 
 
+class Prices(Refused):
+    def test_coefficient(self):
+        self.assertEqual(belt.coefficient_prices(1, 1, 0, 0), (8, 8, 0, 16, 0, 32, 0, 64, 0, 128, 0, 256, 511, 2))
+        self.assertEqual(sum(belt.coefficient_prices(3, 0, 2, 65536)), 2 * 4096 + 1)
+        self.refused(4, belt.coefficient_prices, 3, 2, 6, 0)
+        self.refused(5, belt.coefficient_prices, 2, 1, 4, 99999)
+        self.refused(8, belt.coefficient_prices, 3, 0, 5, 57343)
+
+    def test_frame(self):
+        still = (0,) * 7
+        self.assertEqual(belt.frame_price(False, still, belt.IDENTITIES, 0, belt.IDENTITIES), 7)
+        self.assertEqual(belt.frame_price(True, still, belt.IDENTITIES, 0, ()), 0)
+        self.refused(7, belt.frame_price, True, (1,) + (0,) * 6, belt.IDENTITIES, 0, ())
+        self.refused(2, belt.frame_price, False, still, belt.IDENTITIES, 0, belt.IDENTITIES[:6])
+
+
 class Practice(Refused):
     def test_planes(self):
         planes = array("H", [7] * 6), array("H", [7] * 6)

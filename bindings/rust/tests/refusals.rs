@@ -432,3 +432,42 @@ fn make_practice_planes() {
     }
     assert_eq!(make(0, 1024, 24, 24, 0, 0).0, Ok(0));
 }
+
+#[test]
+fn prices() {
+    let of = |gm_type, flag, slot, prior| belt::coefficient_prices(gm_type, flag, slot, prior);
+    let whole = of(3, 0, 5, 65536).unwrap();
+    assert_eq!(whole.ordinals().len(), 20);
+    assert_eq!(whole.ordinals().iter().sum::<u32>(), 2 * 4096 + 1);
+    assert_eq!((whole.at(3), whole.at(4), whole.at(22), whole.at(23), whole.at(24)), (0, 8, 4095, 2, 0));
+    assert_eq!(of(1, 0, 1, 0).unwrap().ordinals(), [8, 8, 0, 16, 0, 32, 0, 64, 0, 128, 255, 2]);
+    assert_eq!(of(2, 1, 3, 8193), Err(PriorOut));
+    assert_eq!(of(2, 1, 4, 99999), Err(NoSuchSlot));
+    assert_eq!(of(0, 0, 0, 0), Err(NoSuchSlot));
+    assert_eq!(of(3, 2, 6, 0), Err(NoSuchCode));
+}
+
+#[test]
+fn price_of_a_frame() {
+    let mut types = [0; 7];
+    let mut models = IDENTITIES;
+    types[0] = 1;
+    models[0] = StoredModel([8192, -8192, 65536, 0, 0, 65536]);
+    let price = |kind, types: &[u8], models: &[StoredModel], flag, prior: &[StoredModel]| {
+        belt::frame_price(kind, types, models, flag, prior)
+    };
+    assert_eq!(price(Kind::Inter, &types, &models, 1, &IDENTITIES), Ok(17));
+    for start in 0..8 {
+        let mut header = [0; 125];
+        assert_eq!(belt::encode_global_motion(Kind::Inter, &types, &models, 1, &IDENTITIES, start, &mut header), Ok(17));
+    }
+    assert_eq!(price(Kind::Inter, &types, &models, 2, &IDENTITIES), Err(NoSuchCode));
+    assert_eq!(price(Kind::Inter, &types, &models, 0, &IDENTITIES), Err(OffGrid));
+    assert_eq!(price(Kind::Inter, &types, &models, 1, &IDENTITIES[..6]), Err(wrong("prior", 6, 7)));
+    assert_eq!(price(Kind::Key, &types, &models, 1, &IDENTITIES), Err(OffGrid));
+    assert_eq!(price(Kind::Key, &[0; 6], &IDENTITIES, 1, &[]), Err(wrong("types", 6, 7)));
+    assert_eq!(price(Kind::Key, &[0; 7], &IDENTITIES, 1, &[]), Ok(0));
+    let far = [StoredModel([4_194_305, 0, 65536, 0, 0, 65536]); 7];
+    assert_eq!(price(Kind::Inter, &types, &models, 1, &far), Err(PriorOut));
+    assert_eq!(price(Kind::Key, &[0; 7], &IDENTITIES, 1, &far), Ok(0));
+}

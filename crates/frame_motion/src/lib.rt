@@ -94,7 +94,7 @@ fn key_model_refusal(start: usize, types: &[u8], params: &[i32], flag: u8) -> u3
     0
 }
 
-fn key_refusal(start: usize, types: &[u8], params: &[i32], flag: u8) -> u32
+pub fn key_refusal(start: usize, types: &[u8], params: &[i32], flag: u8) -> u32
     ensures { λ r. ⌜ r ≡ keyRefusal start (now (types .entry)) (now (params .entry)) flag ⌝ }
 {
     let codes = key_code_refusal(types, params, flag);

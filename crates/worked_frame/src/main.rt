@@ -11,6 +11,9 @@ const GUARD: u8 = 165;
 
 const NUMBERS: usize = 42;
 
+// The row of a start over 7, which a price has not.
+const START_OVER: u32 = 14;
+
 // Seven types of which the first is listed, seven identities of which slot 0 of the first is listed, a
 // prior of equal numbers; how many of each are lent, and bytes; then the answers of writing and reading.
 struct Case {
@@ -151,6 +154,15 @@ fn write_first(a: Case, types: &[u8], params: &[i32], prior: &[i32], out: &mut [
     )
 }
 
+// A price of 0, refused as the writer refuses but for its start.
+fn is_priced(a: Case, types: &[u8], params: &[i32], prior: &[i32]) -> bool {
+    let t = least(a.types, types.len());
+    let m = least(a.numbers, params.len());
+    let p = least(a.places, prior.len());
+    let price = price::frame_price(true, &types[0..t], &params[0..m], a.flag, &prior[0..p]);
+    price.bits == 0 && (a.refusal == START_OVER || price.refusal == a.refusal)
+}
+
 fn is_right(a: Case) -> bool {
     let mut types = [0u8; 8];
     types[0] = a.first_type;
@@ -161,7 +173,11 @@ fn is_right(a: Case) -> bool {
     let prior = [place; 43];
     let mut out = [GUARD; 8];
     let w = write_first(a, &types, &params, &prior, &mut out);
-    w.refusal == a.refusal && w.bits == 0 && untouched(&out) && is_read(a, &out, &prior)
+    w.refusal == a.refusal
+        && w.bits == 0
+        && untouched(&out)
+        && is_read(a, &out, &prior)
+        && is_priced(a, &types, &params, &prior)
 }
 
 // 1 for a case that failed, which gets a line.

@@ -26,7 +26,7 @@ pub struct Kind {
     pub compare: fn(&mut Case) -> Result<(), String>,
 }
 
-pub const KINDS: [Kind; 15] = [
+pub const KINDS: [Kind; 17] = [
     Kind { name: "search", share: 4, compare: search },
     Kind { name: "fit translation", share: 4, compare: |case| fit(case, 1) },
     Kind { name: "fit rotation-zoom", share: 4, compare: |case| fit(case, 2) },
@@ -38,6 +38,8 @@ pub const KINDS: [Kind; 15] = [
     Kind { name: "header read", share: 6, compare: header_read },
     Kind { name: "header read, damaged", share: 8, compare: header_damaged },
     Kind { name: "key frame", share: 4, compare: key_frame },
+    Kind { name: "price list", share: 1, compare: price_list },
+    Kind { name: "price of a frame", share: 4, compare: frame_price },
     Kind { name: "job", share: 6, compare: job },
     Kind { name: "blocks, by docs/RULES.md", share: 4, compare: stored_frame },
     Kind { name: "shear, by clause 7.11.3.6", share: 6, compare: shear },
@@ -281,6 +283,36 @@ fn header_written(case: &mut Case) -> Result<(), String> {
     same("bits", ours, Ok(count))?;
     keep_before(start, &mut bytes, &before);
     same_list("bytes", &after, &[&bytes, &before[bytes.len()..]].concat())
+}
+
+/// The lengths of the codes that the Rust writes for every ordinal of a slot, counted.
+fn price_list(case: &mut Case) -> Result<(), String> {
+    let random = &mut case.random;
+    let (kind, flag) = (1 + random.below(3) as u8, random.below(2) as u8);
+    let slot = random.below([2, 4, 6][kind as usize - 1]);
+    let model = stored_model(random, kind, flag == 1);
+    let prior = prior(random, &model)[slot];
+    case.note("type, flag, slot, prior", (kind, flag, slot, prior));
+    let ours = row(belt::coefficient_prices(kind, flag, slot as u8, prior));
+    case.accepted = ours.is_ok();
+    let (high, translation) = (flag == 1, kind == 1 && slot < 2);
+    let abs_bits = if translation { 8 + u32::from(high) } else { 12 };
+    let step = if translation { 1 << (14 - u32::from(high)) } else { 1 << if slot < 2 { 10 } else { 1 } };
+    let centre = if slot == 2 || slot == 5 { 65536 } else { 0 };
+    let mut counts = vec![0; 2 * abs_bits as usize - belt::PriceList::SHORTEST];
+    for ordinal in -(1 << abs_bits)..=1 << abs_bits {
+        let code = oracle::coefficient(kind, high, slot, prior, ordinal * step + centre);
+        counts[code.len() - belt::PriceList::SHORTEST] += 1;
+    }
+    same("ordinals", ours.map(|list| list.ordinals().to_vec()), Ok(counts))
+}
+
+fn frame_price(case: &mut Case) -> Result<(), String> {
+    let header = header(case);
+    let (models, prior) = (header.params.map(StoredModel), header.prior.map(StoredModel));
+    let ours = row(belt::frame_price(FrameKind::Inter, &header.types, &models, header.flag, &prior));
+    case.accepted = ours.is_ok();
+    same("bits", ours, Ok(header.written(0).1))
 }
 
 /// A bit of the first byte, the first one more often than the others.
