@@ -18,6 +18,7 @@
 #ifndef BELT_H
 #define BELT_H
 
+#include <stdbool.h>
 #include <stddef.h>
 #include <stdint.h>
 
@@ -80,7 +81,7 @@ static inline const char *belt_refusal_text(uint32_t refusal) {
     case BELT_TOO_FAR: return "motion of a practice belt beyond 24 pels";
     case BELT_WRONG_LENGTH: return "plane, class, type, model or prior list of wrong length";
     case BELT_NO_SUCH_CODE: return "type, class or flag code out of range; type 0 for a fit";
-    case BELT_NO_SUCH_SLOT: return "slot over 5, reference outside 1 to 7";
+    case BELT_NO_SUCH_SLOT: return "slot over 5, or to price one that the type doesn't carry; reference outside 1 to 7";
     case BELT_START_OVER: return "start of a header to write over 7";
     case BELT_OFF_GRID: return "model off the grid, uncarried slot or pair wrong";
     case BELT_PRIOR_OUT: return "prior out of range";
@@ -174,6 +175,15 @@ struct belt_report {
 };
 /* Whether a decoder keeps the warp (1 or 0), and its shear numbers, whether it does or not. */
 struct belt_shear { uint32_t refusal; uint32_t valid; int32_t alpha; int32_t beta; int32_t gamma; int32_t delta; };
+
+/* Lengths of the longest price list, and the bits of its first. */
+#define BELT_PRICE_LENGTHS 20
+#define BELT_SHORTEST_CODE 4
+/* How many lengths a slot's codes have; the ordinals whose code takes BELT_SHORTEST_CODE bits, one more and so on, zeros
+   behind the last length. */
+struct belt_price_list { uint32_t refusal; size_t lengths; uint32_t ordinals[BELT_PRICE_LENGTHS]; };
+/* The bits of a frame's header. */
+struct belt_price { uint32_t refusal; size_t bits; };
 
 /* How many pels each plane has. */
 struct belt_made { uint32_t refusal; size_t pels; };
@@ -277,6 +287,40 @@ struct belt_written belt_encode_inter_global_motion(
    Refuses: 2, 4, 8, 9. */
 struct belt_models belt_read_global_motion_params(
     const uint8_t *header, size_t header_bytes, size_t at, uint8_t flag,
+    const struct belt_stored_model *prior, size_t prior_number_count);
+
+/* A header of a frame of either kind, written and read ('Key frames'). An inter frame, intra false, is written and read
+   as by the two calls above. A key frame, intra true (FrameIsIntra of the standard), has no bits.
+   In: of a key frame 7 types 0 and 7 identities; its prior may be anything. Out: 0 bits, and no byte is needed or
+   touched. Read: seven identities and 0 bits, whatever the bytes, the position and the prior.
+   Refuses of a key frame: 2, 4, 14, 7 (a model that isn't the identity); read 4. */
+struct belt_written belt_encode_global_motion(
+    bool intra,
+    const uint8_t *types, size_t type_count,
+    const struct belt_stored_model *models, size_t number_count,
+    uint8_t flag,
+    const struct belt_stored_model *prior, size_t prior_number_count,
+    size_t start,
+    uint8_t *header, size_t header_room);
+struct belt_models belt_read_global_motion(
+    bool intra,
+    const uint8_t *header, size_t header_bytes, size_t at, uint8_t flag,
+    const struct belt_stored_model *prior, size_t prior_number_count);
+
+/* The price list of a coefficient ('Prices').
+   In: a type, the flag, a slot that the type carries, and the slot's prior. Out: how many of the slot's ordinals have a
+   code of each length.
+   Refuses: 4, 5 (type 0, or a slot that the type doesn't carry), 8. */
+struct belt_price_list belt_coefficient_prices(uint8_t type, uint8_t flag, uint8_t slot, int32_t prior);
+
+/* The price of a frame ('Prices'): the bits that belt_encode_global_motion writes, from every start.
+   In: what that takes, without start and buffer. Of a key frame the price is 0.
+   Refuses: 2, 4, 7, 8; of a key frame 2, 4, 7. */
+struct belt_price belt_frame_price(
+    bool intra,
+    const uint8_t *types, size_t type_count,
+    const struct belt_stored_model *models, size_t number_count,
+    uint8_t flag,
     const struct belt_stored_model *prior, size_t prior_number_count);
 
 /* A whole job: search, fit, grid, score, blocks and header ('Job').

@@ -210,6 +210,9 @@ static void refusals(struct belt_settings settings) {
     static const uint32_t falling[2] = {1u << 20, 0};
     static const double numbers[6] = {0};
     const struct belt_model still = {BELT_IDENTITY_PARAMS};
+    struct belt_stored_model moving[BELT_REFERENCES];
+    memcpy(moving, prior, sizeof moving);
+    moving[0].params[0] = 8192;
     wants("a job on a plane that is a pel short", run(settings, PELS - 1).refusal, BELT_WRONG_LENGTH);
     wants("a search of a plane 1,025 wide",
           belt_collect_motion_samples(input, PELS, reference, PELS, 1025, HEIGHT, classes, SAMPLES, input_half, HALF,
@@ -239,6 +242,14 @@ static void refusals(struct belt_settings settings) {
                                           BELT_HEADER_BYTES)
               .refusal,
           BELT_START_OVER);
+    struct belt_models read = belt_read_global_motion(true, header, 0, 99, 1, prior, 0);
+    same(belt_encode_global_motion(true, zeros, BELT_REFERENCES, prior, BELT_NUMBERS, 1, prior, 0, 0, header, 0).refusal ==
+                 BELT_ACCEPTED &&
+             read.refusal == BELT_ACCEPTED && read.bits == 0 && memcmp(read.models, prior, sizeof read.models) == 0,
+         "a key frame of no bytes");
+    wants("a key frame with a moving model",
+          belt_encode_global_motion(true, zeros, BELT_REFERENCES, moving, BELT_NUMBERS, 1, prior, 0, 0, header, 0).refusal,
+          BELT_OFF_GRID);
     wants("a header of 0 bytes", belt_read_global_motion_params(header, 0, 0, 1, prior, BELT_NUMBERS).refusal,
           BELT_ENDS_FIRST);
     wants("the shear of a translation", belt_setup_shear(BELT_TRANSLATION, identity.params, 6).refusal, BELT_OFF_GRID);

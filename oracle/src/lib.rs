@@ -150,8 +150,17 @@ pub fn write_header(types: &[u8; 7], params: &Models, high: bool, prior: &Models
 
 /// `read_global_motion_params` from bit `at`: types, models and bits consumed; none if the bytes end first.
 pub fn read_header(bytes: &[u8], at: usize, high: bool, prior: &Models) -> Option<([u8; 7], Models, usize)> {
+    read(bytes, at, false, high, prior)
+}
+
+/// The same where the frame is intra.
+pub fn read_key_frame(bytes: &[u8], at: usize) -> ([u8; 7], Models, usize) {
+    read(bytes, at, true, false, &[IDENTITY; 7]).expect("no bit is read")
+}
+
+fn read(bytes: &[u8], at: usize, intra: bool, high: bool, prior: &Models) -> Option<([u8; 7], Models, usize)> {
     let mut reader = BitReader::at(bytes, at);
-    let gm = uncompressed_header_tail::read(&mut reader, high, &from_reference_0(prior)).ok()?;
+    let gm = uncompressed_header_tail::read(&mut reader, intra, high, &from_reference_0(prior)).ok()?;
     let types = std::array::from_fn(|i| gm.gm_type[i + 1].as_u8());
     let params = std::array::from_fn(|i| gm.gm_params[i + 1]);
     Some((types, params, reader.position() - at))

@@ -7,10 +7,11 @@ pub mod uncompressed_header_tail {
 
     pub fn read(
         br: &mut BitReader<'_>,
+        intra: bool,
         high: bool,
         prior: &[[i32; 6]; TOTAL_REFS_PER_FRAME],
     ) -> Result<GlobalMotionParams, Error> {
-        read_global_motion_params(br, false, high, prior)
+        read_global_motion_params(br, intra, high, prior)
     }
 }
 

@@ -48,7 +48,7 @@ REFUSALS = {
     18: "motion of a practice belt beyond 24 pels",
     2: "plane, class, type, model or prior list of wrong length",
     4: "type, class or flag code out of range; type 0 for a fit",
-    5: "slot over 5, reference outside 1 to 7",
+    5: "slot over 5, or to price one that the type doesn't carry; reference outside 1 to 7",
     14: "start of a header to write over 7",
     7: "model off the grid, uncarried slot or pair wrong",
     8: "prior out of range",
@@ -459,6 +459,50 @@ def read_global_motion_params(header, at, flag, prior):
     header, prior = _list(header, c_uint8, "header"), _numbers(prior, "prior")
     read = _call("belt_read_global_motion_params", header, _code(at, "at", 2**64 - 1), _code(flag, "flag"), prior)
     return Models(tuple(read.types), _models(read.params), read.bits)
+
+
+def encode_global_motion(intra, types, models, flag, prior, start, header):
+    """Writes the header of a frame of either kind ('Key frames'); answers how many bits. Where intra is true there are
+    none, no byte is touched and the prior isn't looked at. Refuses of a key frame 2, 4, 14, 7."""
+    return _call(
+        "belt_encode_global_motion",
+        bool(intra),
+        _list(types, c_uint8, "types"),
+        _numbers(models, "models"),
+        _code(flag, "flag"),
+        _numbers(prior, "prior"),
+        _code(start, "start", 2**64 - 1),
+        _list(header, c_uint8, "header", True),
+    ).bits
+
+
+def read_global_motion(intra, header, at, flag, prior):
+    """Reads the Models of a frame of either kind ('Key frames'): seven identities and no bits where intra is true. Refuses
+    of a key frame 4."""
+    header, prior = _list(header, c_uint8, "header"), _numbers(prior, "prior")
+    at, flag = _code(at, "at", 2**64 - 1), _code(flag, "flag")
+    read = _call("belt_read_global_motion", bool(intra), header, at, flag, prior)
+    return Models(tuple(read.types), _models(read.params), read.bits)
+
+
+def coefficient_prices(gm_type, flag, slot, prior):
+    """How many of a slot's ordinals have a code of 4 bits, of 5 and so on ('Prices'), a tuple. Refuses 4, 5, 8."""
+    codes = [_code(code, name) for code, name in zip((gm_type, flag, slot), ("gm_type", "flag", "slot"))]
+    listed = _call("belt_coefficient_prices", *codes, prior)
+    return tuple(listed.ordinals[: listed.lengths])
+
+
+def frame_price(intra, types, models, flag, prior):
+    """The bits that encode_global_motion writes, from every start, without writing them ('Prices'). Refuses 2, 4, 7, 8; of
+    a key frame 2, 4, 7."""
+    return _call(
+        "belt_frame_price",
+        bool(intra),
+        _list(types, c_uint8, "types"),
+        _numbers(models, "models"),
+        _code(flag, "flag"),
+        _numbers(prior, "prior"),
+    ).bits
 
 
 def job(input_y, reference, width, height, settings, classes, buffers, types=(0,) * 6, models=None, prior=IDENTITIES):

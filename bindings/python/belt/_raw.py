@@ -5,7 +5,7 @@
 
 import ctypes
 import os
-from ctypes import POINTER, c_double, c_int32, c_size_t, c_uint8, c_uint16, c_uint32
+from ctypes import POINTER, c_bool, c_double, c_int32, c_size_t, c_uint8, c_uint16, c_uint32
 from pathlib import Path
 
 
@@ -60,6 +60,14 @@ class Models(ctypes.Structure):
     _fields_ = [("refusal", c_uint32), ("types", c_uint8 * 7), ("params", c_int32 * 42), ("bits", c_size_t)]
 
 
+class PriceList(ctypes.Structure):
+    _fields_ = [("refusal", c_uint32), ("lengths", c_size_t), ("ordinals", c_uint32 * 20)]
+
+
+class Price(ctypes.Structure):
+    _fields_ = [("refusal", c_uint32), ("bits", c_size_t)]
+
+
 class Made(ctypes.Structure):
     _fields_ = [("refusal", c_uint32), ("pels", c_size_t)]
 
@@ -105,8 +113,12 @@ CALLS = {
     "belt_to_form2": (_BYTES + _BYTES, Stored),
     "belt_judge_block": (_BYTES, BlockRead),
     "belt_list_block": (_BYTES + [POINTER(c_uint8 * 4096)], c_size_t),
+    "belt_encode_global_motion": ([c_bool] + _BYTES + _NUMBERS + [c_uint8] + _NUMBERS + [c_size_t] + _BYTES, Written),
+    "belt_read_global_motion": ([c_bool] + _BYTES + [c_size_t, c_uint8] + _NUMBERS, Models),
     "belt_encode_inter_global_motion": (_BYTES + _NUMBERS + [c_uint8] + _NUMBERS + [c_size_t] + _BYTES, Written),
     "belt_read_global_motion_params": (_BYTES + [c_size_t, c_uint8] + _NUMBERS, Models),
+    "belt_coefficient_prices": ([c_uint8, c_uint8, c_uint8, c_int32], PriceList),
+    "belt_frame_price": ([c_bool] + _BYTES + _NUMBERS + [c_uint8] + _NUMBERS, Price),
     "belt_setup_shear": ([c_uint8] + _NUMBERS, Shear),
     "belt_make_practice_planes": ([c_uint32, c_size_t, c_size_t, c_int32, c_int32] + _PELS + _PELS, Made),
     "belt_job": (

@@ -386,6 +386,18 @@ class Refusals(Refused):
             self.assertEqual([belt.blocks_of(samples, form) for samples in (100, 101, 126, 4096)], wanted)
         self.assertEqual(belt.CLASSES[belt.FILM], "film")
 
+    def test_key_frames(self):
+        header = bytearray(b"\xff")
+        self.assertEqual(belt.encode_global_motion(True, bytes(7), IDENTITIES, 1, IDENTITIES[:1], 3, header), 0)
+        self.assertEqual(header, b"\xff")
+        self.assertEqual(belt.read_global_motion(True, b"", 99, 1, ()), ((0,) * 7, IDENTITIES, 0))
+        self.refused(4, belt.read_global_motion, True, b"", 99, 2, ())
+        self.refused(14, belt.encode_global_motion, True, b"\x01" + bytes(6), IDENTITIES, 1, (), 8, header)
+        self.refused(7, belt.encode_global_motion, True, b"\x01" + bytes(6), IDENTITIES, 1, (), 0, header)
+        self.assertEqual(belt.encode_global_motion(False, bytes(7), IDENTITIES, 1, IDENTITIES, 0, header), 7)
+        self.assertEqual(header, b"\x00")
+        self.assertEqual(belt.read_global_motion(False, header, 0, 1, IDENTITIES).bits, 7)
+
     def test_headers(self):
         model = StoredModel((8192, -8192, 65536, 0, 0, 65536))
         models, types = (model,) + IDENTITIES[:6], bytes([1, 0, 0, 0, 0, 0, 0])
@@ -426,6 +438,22 @@ class Shears(Refused):
         self.refused(2, belt.setup_shear, 3, belt.STILL[:5])
         self.refused(4, belt.setup_shear, 4, belt.STILL)
         self.refused(7, belt.setup_shear, 1, belt.STILL)
+
+
+class Prices(Refused):
+    def test_coefficient(self):
+        self.assertEqual(belt.coefficient_prices(1, 1, 0, 0), (8, 8, 0, 16, 0, 32, 0, 64, 0, 128, 0, 256, 511, 2))
+        self.assertEqual(sum(belt.coefficient_prices(3, 0, 2, 65536)), 2 * 4096 + 1)
+        self.refused(4, belt.coefficient_prices, 3, 2, 6, 0)
+        self.refused(5, belt.coefficient_prices, 2, 1, 4, 99999)
+        self.refused(8, belt.coefficient_prices, 3, 0, 5, 57343)
+
+    def test_frame(self):
+        still = (0,) * 7
+        self.assertEqual(belt.frame_price(False, still, belt.IDENTITIES, 0, belt.IDENTITIES), 7)
+        self.assertEqual(belt.frame_price(True, still, belt.IDENTITIES, 0, ()), 0)
+        self.refused(7, belt.frame_price, True, (1,) + (0,) * 6, belt.IDENTITIES, 0, ())
+        self.refused(2, belt.frame_price, False, still, belt.IDENTITIES, 0, belt.IDENTITIES[:6])
 
 
 class Practice(Refused):

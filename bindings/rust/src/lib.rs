@@ -605,6 +605,146 @@ pub fn read_global_motion_params(header: &[u8], at: usize, flag: u8, prior: &[St
     judged_lists(read.refusal, models, || [Length::of("prior", prior, 7)], || [])
 }
 
+/// The kind of a frame.
+#[derive(Clone, Copy, Debug, PartialEq, Eq)]
+pub enum Kind {
+    /// Seven references are coded.
+    Inter,
+    /// None is: FrameIsIntra of the standard holds.
+    Key,
+}
+
+/// Writes the header of a frame of either kind ('Key frames'); answers how many bits. An inter frame's is what
+/// [`encode_inter_global_motion`] writes. A key frame has no bits: its models must be seven identities of type 0, its
+/// prior isn't looked at, and no byte is needed or touched.
+///
+/// # Errors
+///
+/// Of an inter frame those of [`encode_inter_global_motion`]; of a key frame [`Refusal::WrongLength`],
+/// [`Refusal::NoSuchCode`], [`Refusal::StartOver`], [`Refusal::OffGrid`].
+///
+/// ```
+/// use belt::{IDENTITIES, Kind};
+///
+/// let mut header = [0xFF];
+/// assert_eq!(belt::encode_global_motion(Kind::Key, &[0; 7], &IDENTITIES, 1, &[], 3, &mut header), Ok(0));
+/// assert_eq!(header, [0xFF]);
+/// assert_eq!(belt::encode_global_motion(Kind::Inter, &[0; 7], &IDENTITIES, 1, &IDENTITIES, 0, &mut header), Ok(7));
+/// assert_eq!(header, [0x00]);
+/// ```
+pub fn encode_global_motion(
+    kind: Kind,
+    types: &[u8],
+    models: &[StoredModel],
+    flag: u8,
+    prior: &[StoredModel],
+    start: usize,
+    header: &mut [u8],
+) -> Result<usize, Refusal> {
+    if kind == Kind::Inter {
+        return encode_inter_global_motion(types, models, flag, prior, start, header);
+    }
+    let written =
+        raw::encode_global_motion(true, types, raw::numbers(models), flag, raw::numbers(prior), start, header);
+    let lists = || [Length::of("types", types, 7), Length::of("models", models, 7)];
+    judged_lists(written.refusal, written.bits, lists, || [])
+}
+
+/// Reads the models of a frame of either kind ('Key frames'). An inter frame's are what [`read_global_motion_params`]
+/// reads; a key frame's are seven identities and no bits, whatever the bytes, the position and the prior.
+///
+/// # Errors
+///
+/// Of an inter frame those of [`read_global_motion_params`]; of a key frame [`Refusal::NoSuchCode`].
+///
+/// ```
+/// let read = belt::read_global_motion(belt::Kind::Key, &[], 99, 1, &[])?;
+/// assert_eq!((read.types, read.models, read.bits), ([0; 7], belt::IDENTITIES, 0));
+/// # Ok::<(), belt::Refusal>(())
+/// ```
+pub fn read_global_motion(
+    kind: Kind,
+    header: &[u8],
+    at: usize,
+    flag: u8,
+    prior: &[StoredModel],
+) -> Result<Models, Refusal> {
+    if kind == Kind::Inter {
+        return read_global_motion_params(header, at, flag, prior);
+    }
+    let read = raw::read_global_motion(true, header, at, flag, raw::numbers(prior));
+    judged(read.refusal, Models { types: read.types, models: read.params, bits: read.bits })
+}
+
+/// How many ordinals of a slot have a code of each length ('Prices').
+#[derive(Clone, Copy, Debug, PartialEq, Eq)]
+pub struct PriceList {
+    lengths: usize,
+    ordinals: [u32; 20],
+}
+
+impl PriceList {
+    /// The bits of the shortest code.
+    pub const SHORTEST: usize = 4;
+
+    /// The ordinals whose code takes [`Self::SHORTEST`] bits, one more and so on.
+    pub fn ordinals(&self) -> &[u32] {
+        &self.ordinals[..self.lengths]
+    }
+
+    /// How many ordinals cost so many bits.
+    pub fn at(&self, bits: usize) -> u32 {
+        bits.checked_sub(Self::SHORTEST).and_then(|place| self.ordinals().get(place)).copied().unwrap_or(0)
+    }
+}
+
+/// Lists what the coefficients of a slot cost about a prior ('Prices').
+///
+/// # Errors
+///
+/// [`Refusal::NoSuchCode`], [`Refusal::NoSuchSlot`] (also a slot that the type doesn't carry), [`Refusal::PriorOut`].
+///
+/// ```
+/// let prices = belt::coefficient_prices(1, 1, 0, 0)?;
+/// assert_eq!(prices.ordinals(), [8, 8, 0, 16, 0, 32, 0, 64, 0, 128, 0, 256, 511, 2]);
+/// assert_eq!(prices.at(16), 511);
+/// assert_eq!(belt::coefficient_prices(0, 0, 0, 0), Err(belt::Refusal::NoSuchSlot));
+/// # Ok::<(), belt::Refusal>(())
+/// ```
+pub fn coefficient_prices(gm_type: u8, flag: u8, slot: u8, prior: i32) -> Result<PriceList, Refusal> {
+    let raw::PriceList { refusal, lengths, ordinals } = raw::coefficient_prices(gm_type, flag, slot, prior);
+    judged(refusal, PriceList { lengths, ordinals })
+}
+
+/// Prices a frame without writing it ('Prices'): the bits that [`encode_global_motion`] writes, from every start.
+///
+/// # Errors
+///
+/// [`Refusal::WrongLength`], [`Refusal::NoSuchCode`], [`Refusal::OffGrid`], [`Refusal::PriorOut`]; of a key frame not the
+/// last.
+///
+/// ```
+/// use belt::{IDENTITIES, Kind};
+///
+/// assert_eq!(belt::frame_price(Kind::Inter, &[0; 7], &IDENTITIES, 1, &IDENTITIES), Ok(7));
+/// assert_eq!(belt::frame_price(Kind::Key, &[0; 7], &IDENTITIES, 1, &[]), Ok(0));
+/// ```
+pub fn frame_price(
+    kind: Kind,
+    types: &[u8],
+    models: &[StoredModel],
+    flag: u8,
+    prior: &[StoredModel],
+) -> Result<usize, Refusal> {
+    let key = kind == Kind::Key;
+    let price = raw::frame_price(key, types, raw::numbers(models), flag, raw::numbers(prior));
+    let lists = || {
+        let prior = if key { Length::of("types", types, 7) } else { Length::of("prior", prior, 7) };
+        [Length::of("types", types, 7), Length::of("models", models, 7), prior]
+    };
+    judged_lists(price.refusal, price.bits, lists, || [])
+}
+
 /// Runs a whole job: search, fit, grid, score, blocks and header ('Job'). The crate's head has an example.
 ///
 /// # Errors

@@ -50,6 +50,19 @@ pub struct Shear {
 }
 
 #[repr(C)]
+pub struct PriceList {
+    pub refusal: u32,
+    pub lengths: usize,
+    pub ordinals: [u32; 20],
+}
+
+#[repr(C)]
+pub struct Price {
+    pub refusal: u32,
+    pub bits: usize,
+}
+
+#[repr(C)]
 pub struct Made {
     pub refusal: u32,
     pub pels: usize,
@@ -178,6 +191,39 @@ unsafe extern "C" {
         header: *mut u8,
         room: usize,
     ) -> Written;
+    fn belt_encode_global_motion(
+        intra: bool,
+        types: *const u8,
+        type_count: usize,
+        params: *const i32,
+        param_count: usize,
+        flag: u8,
+        prior: *const i32,
+        prior_count: usize,
+        start: usize,
+        header: *mut u8,
+        room: usize,
+    ) -> Written;
+    fn belt_read_global_motion(
+        intra: bool,
+        header: *const u8,
+        length: usize,
+        at: usize,
+        flag: u8,
+        prior: *const i32,
+        prior_count: usize,
+    ) -> Models;
+    fn belt_coefficient_prices(gm_type: u8, flag: u8, slot: u8, prior: i32) -> PriceList;
+    fn belt_frame_price(
+        intra: bool,
+        types: *const u8,
+        type_count: usize,
+        params: *const i32,
+        param_count: usize,
+        flag: u8,
+        prior: *const i32,
+        prior_count: usize,
+    ) -> Price;
     fn belt_read_global_motion_params(
         header: *const u8,
         length: usize,
@@ -380,6 +426,59 @@ pub fn encode_inter_global_motion(
 pub fn read_global_motion_params(header: &[u8], at: usize, flag: u8, prior: &[i32]) -> Models {
     // SAFETY: two slices are read; a position past the bytes, however large, is refused.
     unsafe { belt_read_global_motion_params(header.as_ptr(), header.len(), at, flag, prior.as_ptr(), prior.len()) }
+}
+
+pub fn encode_global_motion(
+    intra: bool,
+    types: &[u8],
+    params: &[i32],
+    flag: u8,
+    prior: &[i32],
+    start: usize,
+    header: &mut [u8],
+) -> Written {
+    // SAFETY: as for `encode_inter_global_motion`; of a key frame neither prior nor header is touched.
+    unsafe {
+        belt_encode_global_motion(
+            intra,
+            types.as_ptr(),
+            types.len(),
+            params.as_ptr(),
+            params.len(),
+            flag,
+            prior.as_ptr(),
+            prior.len(),
+            start,
+            header.as_mut_ptr(),
+            header.len(),
+        )
+    }
+}
+
+pub fn read_global_motion(intra: bool, header: &[u8], at: usize, flag: u8, prior: &[i32]) -> Models {
+    // SAFETY: as for `read_global_motion_params`; of a key frame neither slice is read.
+    unsafe { belt_read_global_motion(intra, header.as_ptr(), header.len(), at, flag, prior.as_ptr(), prior.len()) }
+}
+
+pub fn coefficient_prices(gm_type: u8, flag: u8, slot: u8, prior: i32) -> PriceList {
+    // SAFETY: numbers alone.
+    unsafe { belt_coefficient_prices(gm_type, flag, slot, prior) }
+}
+
+pub fn frame_price(intra: bool, types: &[u8], params: &[i32], flag: u8, prior: &[i32]) -> Price {
+    // SAFETY: three slices are read.
+    unsafe {
+        belt_frame_price(
+            intra,
+            types.as_ptr(),
+            types.len(),
+            params.as_ptr(),
+            params.len(),
+            flag,
+            prior.as_ptr(),
+            prior.len(),
+        )
+    }
 }
 
 #[allow(clippy::too_many_arguments)]

@@ -15,7 +15,7 @@ pub enum Refusal {
     WrongLength(Length),
     /// 4: type, class or flag code out of range; type 0 for a fit.
     NoSuchCode,
-    /// 5: slot over 5, reference outside 1 to 7.
+    /// 5: slot over 5, or to price one that the type doesn't carry; reference outside 1 to 7.
     NoSuchSlot,
     /// 14: start of a header to write over 7.
     StartOver,
@@ -66,7 +66,7 @@ impl Refusal {
         (18, "motion of a practice belt beyond 24 pels"),
         (2, "plane, class, type, model or prior list of wrong length"),
         (4, "type, class or flag code out of range; type 0 for a fit"),
-        (5, "slot over 5, reference outside 1 to 7"),
+        (5, "slot over 5, or to price one that the type doesn't carry; reference outside 1 to 7"),
         (14, "start of a header to write over 7"),
         (7, "model off the grid, uncarried slot or pair wrong"),
         (8, "prior out of range"),

@@ -3,7 +3,7 @@
 mod frames;
 
 use belt::Refusal::{self, *};
-use belt::{Buffers, FILM, Fitted, Form, IDENTITIES, Length, METAL, Model, Shear, StoredModel};
+use belt::{Buffers, FILM, Fitted, Form, IDENTITIES, Kind, Length, METAL, Model, Shear, StoredModel};
 use frames::{Handed, guarded, noisy_plane};
 
 /// Words that rise, at zero motion.
@@ -424,6 +424,45 @@ fn headers_written_and_read() {
 }
 
 #[test]
+fn key_frames_written_and_read() {
+    let key = |types: &[u8], models: &[StoredModel], flag, prior: &[StoredModel], start, room: usize| {
+        let mut header = vec![0xEE; room];
+        let wrote = belt::encode_global_motion(Kind::Key, types, models, flag, prior, start, &mut header);
+        assert_eq!(header, vec![0xEE; room], "no byte is touched");
+        wrote
+    };
+    let wild = [StoredModel([i32::MIN; 6]); 7];
+    let mut moved = IDENTITIES;
+    moved[0].0[0] = 8192;
+    for (prior, start, room) in [(&IDENTITIES[..], 3, 1), (&wild[..1], 0, 0), (&wild[..], 7, 125), (&[][..], 0, 9)] {
+        assert_eq!(key(&[0; 7], &IDENTITIES, 1, prior, start, room), Ok(0));
+    }
+    assert_eq!(key(&[0; 6], &IDENTITIES, 2, &wild, 8, 0), Err(wrong("types", 6, 7)));
+    assert_eq!(key(&[0; 7], &IDENTITIES[..6], 2, &wild, 8, 0), Err(wrong("models", 6, 7)));
+    assert_eq!(key(&[4, 0, 0, 0, 0, 0, 0], &IDENTITIES, 1, &wild, 8, 0), Err(NoSuchCode));
+    assert_eq!(key(&[0; 7], &IDENTITIES, 2, &wild, 8, 0), Err(NoSuchCode));
+    assert_eq!(key(&[1, 0, 0, 0, 0, 0, 0], &IDENTITIES, 1, &wild, 8, 0), Err(StartOver));
+    assert_eq!(key(&[1, 0, 0, 0, 0, 0, 0], &IDENTITIES, 1, &wild, 0, 0), Err(OffGrid));
+    assert_eq!(key(&[0; 7], &moved, 1, &wild, 0, 0), Err(OffGrid));
+
+    for (bytes, at, prior) in
+        [(&[][..], 99, &wild[..]), (&[0xFF; 9][..], 0, &[][..]), (&[][..], usize::MAX, &wild[..1])]
+    {
+        let read = belt::read_global_motion(Kind::Key, bytes, at, 0, prior).unwrap();
+        assert_eq!((read.types, read.models, read.bits), ([0; 7], IDENTITIES, 0));
+        assert_eq!(belt::read_global_motion(Kind::Key, bytes, at, 2, prior), Err(NoSuchCode));
+    }
+
+    // an inter frame as ever
+    let mut header = [0xEE; 2];
+    assert_eq!(belt::encode_global_motion(Kind::Inter, &[0; 7], &IDENTITIES, 1, &IDENTITIES, 0, &mut header), Ok(7));
+    assert_eq!(header, [0x00, 0xEE]);
+    assert_eq!(belt::encode_global_motion(Kind::Inter, &[0; 7], &IDENTITIES, 1, &wild, 0, &mut header), Err(PriorOut));
+    let read = |at| belt::read_global_motion(Kind::Inter, &header, at, 1, &IDENTITIES).map(|read| read.bits);
+    assert_eq!((read(0), read(99)), (Ok(7), Err(EndsFirst)));
+}
+
+#[test]
 fn setup_shear() {
     let model = |linear: [i32; 4]| [0, 0, linear[0], linear[1], linear[2], linear[3]];
     let still = Model::IDENTITY.0;
@@ -470,4 +509,43 @@ fn make_practice_planes() {
         assert!(input.iter().all(|&pel| pel == 0xA55A) && reference.iter().all(|&pel| pel == 0x5AA5));
     }
     assert_eq!(make(0, 1024, 24, 24, 0, 0).0, Ok(0));
+}
+
+#[test]
+fn prices() {
+    let of = |gm_type, flag, slot, prior| belt::coefficient_prices(gm_type, flag, slot, prior);
+    let whole = of(3, 0, 5, 65536).unwrap();
+    assert_eq!(whole.ordinals().len(), 20);
+    assert_eq!(whole.ordinals().iter().sum::<u32>(), 2 * 4096 + 1);
+    assert_eq!((whole.at(3), whole.at(4), whole.at(22), whole.at(23), whole.at(24)), (0, 8, 4095, 2, 0));
+    assert_eq!(of(1, 0, 1, 0).unwrap().ordinals(), [8, 8, 0, 16, 0, 32, 0, 64, 0, 128, 255, 2]);
+    assert_eq!(of(2, 1, 3, 8193), Err(PriorOut));
+    assert_eq!(of(2, 1, 4, 99999), Err(NoSuchSlot));
+    assert_eq!(of(0, 0, 0, 0), Err(NoSuchSlot));
+    assert_eq!(of(3, 2, 6, 0), Err(NoSuchCode));
+}
+
+#[test]
+fn price_of_a_frame() {
+    let mut types = [0; 7];
+    let mut models = IDENTITIES;
+    types[0] = 1;
+    models[0] = StoredModel([8192, -8192, 65536, 0, 0, 65536]);
+    let price = |kind, types: &[u8], models: &[StoredModel], flag, prior: &[StoredModel]| {
+        belt::frame_price(kind, types, models, flag, prior)
+    };
+    assert_eq!(price(Kind::Inter, &types, &models, 1, &IDENTITIES), Ok(17));
+    for start in 0..8 {
+        let mut header = [0; 125];
+        assert_eq!(belt::encode_global_motion(Kind::Inter, &types, &models, 1, &IDENTITIES, start, &mut header), Ok(17));
+    }
+    assert_eq!(price(Kind::Inter, &types, &models, 2, &IDENTITIES), Err(NoSuchCode));
+    assert_eq!(price(Kind::Inter, &types, &models, 0, &IDENTITIES), Err(OffGrid));
+    assert_eq!(price(Kind::Inter, &types, &models, 1, &IDENTITIES[..6]), Err(wrong("prior", 6, 7)));
+    assert_eq!(price(Kind::Key, &types, &models, 1, &IDENTITIES), Err(OffGrid));
+    assert_eq!(price(Kind::Key, &[0; 6], &IDENTITIES, 1, &[]), Err(wrong("types", 6, 7)));
+    assert_eq!(price(Kind::Key, &[0; 7], &IDENTITIES, 1, &[]), Ok(0));
+    let far = [StoredModel([4_194_305, 0, 65536, 0, 0, 65536]); 7];
+    assert_eq!(price(Kind::Inter, &types, &models, 1, &far), Err(PriorOut));
+    assert_eq!(price(Kind::Key, &[0; 7], &IDENTITIES, 1, &far), Ok(0));
 }

@@ -43,6 +43,10 @@ module _ (types : List ℕ) (ps : List ℤ) (flag : ℕ) (qs : List ℤ) where
       length-append (referenceBits flag ps qs (getD types r 0) (6 * r)) (referencesBits flag ps qs types n (r + 1))
       ∙ rw (model-count flag ps qs (getD types r 0) (6 * r), references-count n (r + 1), rest) (sym (front ∙ ap (λ (x : ℕ). x + sum (λ i. count (r + suc i)) n) first))
 
+  -- of the first n references
+  pub first-count : (n : ℕ) → length (referencesBits flag ps qs types n 0) ≡ sum (λ r. modelCount flag ps qs (getD types r 0) (6 * r)) n
+  first-count n = references-count n 0 ∙ sum-same (λ i. count (0 + i)) count n (λ i. ap count (let e : 0 + i ≡ i = omega arith in e))
+
   pub header-count : length (headerBits types ps flag qs) ≡ headerCount types ps flag qs
   unfolding headerBits headerCount
-  header-count = references-count 7 0 ∙ sum-same (λ i. count (0 + i)) count 7 (λ i. ap count (let e : 0 + i ≡ i = omega arith in e))
+  header-count = first-count 7

@@ -93,13 +93,13 @@ six-taken ps k h =
     ∙ ap (front (slotOf ps k 3)) (taken-at ps k 1 4 (omega arith)
     ∙ ap (front (slotOf ps k 4)) (taken-at ps k 0 5 (omega arith))))))
 
-six-more : (ps : List ℤ) (n r : ℕ) → 6 * r + 6 ≤ length ps → take (6 * suc n) (drop (6 * r) ps) ≡ sixOf ps (6 * r) ++ take (6 * n) (drop (6 * (r + 1)) ps)
+pub six-more : (ps : List ℤ) (n r : ℕ) → 6 * r + 6 ≤ length ps → take (6 * suc n) (drop (6 * r) ps) ≡ sixOf ps (6 * r) ++ take (6 * n) (drop (6 * (r + 1)) ps)
 six-more ps n r h =
     let m : 6 * suc n ≡ 6 + 6 * n = omega arith in
     let e : 6 * (r + 1) ≡ 6 * r + 6 = omega arith in
     rw (m, take-add 6 (6 * n) (drop (6 * r) ps), six-taken ps (6 * r) h, drop-drop 6 (6 * r) ps, e)
 
-one-more : (types : List ℕ) (n r : ℕ) → r < length types → take (suc n) (drop r types) ≡ getD types r 0 ∷ take n (drop (r + 1) types)
+pub one-more : (types : List ℕ) (n r : ℕ) → r < length types → take (suc n) (drop r types) ≡ getD types r 0 ∷ take n (drop (r + 1) types)
 one-more types n r h = rw (add-one r, drop-cons types r 0 h)
 
 module _ (flag : ℕ) (types : List ℕ) (ps qs : List ℤ) where
@@ -139,29 +139,47 @@ pub record Writable (types : List ℕ) (ps : List ℤ) (flag : ℕ) (qs : List �
   pub right : modelsWrong types flag ps ≡ false
   pub within : priorsOut qs ≡ false
 
-module _ (types : List ℕ) (ps : List ℤ) (flag : ℕ) (qs : List ℤ) (w : Writable types ps flag qs) where
-  references-back : (g : ℕ → ℕ) → ((i : ℕ) → g i < 2) → (n r j : ℕ) → r + n ≤ 7 → Holds g j (referencesBits flag ps qs types n r)
+-- the first m references can be written and read back, whatever the others are
+pub record Coded (m : ℕ) (types : List ℕ) (ps : List ℤ) (flag : ℕ) (qs : List ℤ) : Type 0 where
+  pub types-there : m ≤ length types
+  pub models-there : 6 * m ≤ length ps
+  pub valid : (r : ℕ) → r < m → ValidModel (getD types r 0) flag ps (6 * r)
+  pub priors : (r : ℕ) → r < m → ValidPrior qs (6 * r)
+
+module _ (types : List ℕ) (ps : List ℤ) (flag : ℕ) (qs : List ℤ) (m : ℕ) (k : Coded m types ps flag qs) where
+  pub references-back : (g : ℕ → ℕ) → ((i : ℕ) → g i < 2) → (n r j : ℕ) → r + n ≤ m → Holds g j (referencesBits flag ps qs types n r)
       → referencesRead g flag qs n r j ≡ record { types = take n (drop r types); params = take (6 * n) (drop (6 * r) ps); bits = length (referencesBits flag ps qs types n r) }
   references-back g bits zero r j l h = refl
   references-back g bits (suc n) r j l h =
-      let seven : length types ≡ 7 = w .seven in
-      let models : length ps ≡ 42 = w .models in
-      let priors : length qs ≡ 42 = w .priors in
+      let types-there : m ≤ length types = k .types-there in
+      let models-there : 6 * m ≤ length ps = k .models-there in
       let xs : List ℕ = referenceBits flag ps qs (getD types r 0) (6 * r) in
       let ys : List ℕ = referencesBits flag ps qs types n (r + 1) in
-      let m : referenceRead g flag qs (6 * r) j ≡ record { gmType = getD types r 0; six = sixOf ps (6 * r); bits = length xs } =
-      reference-back g bits flag ps qs (6 * r) (valid-prior qs r (omega arith) (w .within)) (getD types r 0) j
-      (valid-model types flag ps r (omega arith) (w .known) (w .right)) (holds-front g j xs ys h) in
+      let here : referenceRead g flag qs (6 * r) j ≡ record { gmType = getD types r 0; six = sixOf ps (6 * r); bits = length xs } =
+      reference-back g bits flag ps qs (6 * r) (k .priors r (omega arith)) (getD types r 0) j (k .valid r (omega arith)) (holds-front g j xs ys h) in
       let rest : referencesRead g flag qs n (r + 1) (j + length xs) ≡ record { types = take n (drop (r + 1) types); params = take (6 * n) (drop (6 * (r + 1)) ps); bits = length ys } =
       references-back g bits n (r + 1) (j + length xs) (omega arith) (holds-back g j xs ys h) in
-      rw (m, rest, length-append xs ys, six-more ps n r (omega arith), one-more types n r (omega arith))
+      rw (here, rest, length-append xs ys, six-more ps n r (omega arith), one-more types n r (omega arith))
+
+module _ (types : List ℕ) (ps : List ℤ) (flag : ℕ) (qs : List ℤ) (w : Writable types ps flag qs) where
+  -- all seven
+  pub coded-seven : Coded 7 types ps flag qs
+  coded-seven =
+      let seven : length types ≡ 7 = w .seven in
+      let priors : length qs ≡ 42 = w .priors in
+      record {
+        types-there = omega arith;
+        models-there = omega (arith, w .models);
+        valid = λ r l. valid-model types flag ps r (omega arith) (w .known) (w .right);
+        priors = λ r l. valid-prior qs r (omega arith) (w .within);
+      }
 
   -- reading by the standard from where the bits stand
   pub read-back : (header : List ℕ) (at : ℕ) → Holds (bitAt header) at (headerBits types ps flag qs)
       → modelsRead header at flag qs ≡ record { types = types; params = ps; bits = length (headerBits types ps flag qs) }
   unfolding modelsRead headerBits
   read-back header at h =
-      references-back (bitAt header) (bitAt-lt header) 7 0 at (lit≤ tt) h
+      references-back types ps flag qs 7 coded-seven (bitAt header) (bitAt-lt header) 7 0 at (lit≤ tt) h
       ∙ rw (take-all 7 types (omega (arith, w .seven)), take-all 42 ps (omega (arith, w .models)))
 
   -- written from `start` on, then read there: the same models and the same count

@@ -211,7 +211,7 @@ fn reference_length(gm_type: u8, flag: u8, params: &[i32], prior: &[i32], first:
 }
 
 // How many bits the seven references take.
-fn header_length(types: &[u8], params: &[i32], flag: u8, prior: &[i32]) -> usize
+pub fn header_length(types: &[u8], params: &[i32], flag: u8, prior: &[i32]) -> usize
     requires { ⌜ HeaderReady (now types) (now params) (now prior) ⌝ }
     ensures { λ r. ⌜ r ≡ headerCount (now (types .entry)) (now (params .entry)) flag (now (prior .entry)) ⌝ }
 {
@@ -255,7 +255,7 @@ fn too_short(
 }
 
 // Lengths, types and flag.
-fn code_refusal(types: &[u8], params: &[i32], flag: u8, prior: &[i32]) -> u32
+pub fn code_refusal(types: &[u8], params: &[i32], flag: u8, prior: &[i32]) -> u32
     ensures { λ r. ⌜ r ≡ judge (codeRows (now (types .entry)) (now (params .entry)) flag (now (prior .entry))) ⌝ }
 {
     if lengths_wrong(types.len(), params.len(), prior.len()) {
@@ -271,7 +271,7 @@ fn code_refusal(types: &[u8], params: &[i32], flag: u8, prior: &[i32]) -> u32
 }
 
 // Start, models and priors.
-fn model_refusal(start: usize, types: &[u8], params: &[i32], flag: u8, prior: &[i32]) -> u32
+pub fn model_refusal(start: usize, types: &[u8], params: &[i32], flag: u8, prior: &[i32]) -> u32
     requires { ⌜ Seven (now types) (now params) (now prior) ⌝ }
     ensures { λ r. ⌜ r ≡ judge (modelRows start (now (types .entry)) (now (params .entry)) flag (now (prior .entry))) ⌝ }
 {

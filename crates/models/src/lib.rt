@@ -114,7 +114,7 @@ pub fn models_wrong(types: &[u8], flag: u8, params: &[i32]) -> bool
     false
 }
 
-fn prior_out(slot: u8, z: i32) -> bool
+pub fn prior_out(slot: u8, z: i32) -> bool
     ensures { λ r. ⌜ r ≡ priorOut slot z ⌝ }
 {
     let distance = grid::magnitude(grid::from_centre(z, grid::centre_of(slot)));

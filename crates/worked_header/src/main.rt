@@ -294,8 +294,17 @@ fn is_written_right(a: Case) -> bool {
     true
 }
 
+// Priced at the bits that were written.
+fn is_priced_right(a: Case) -> bool {
+    let types = a.types;
+    let params = a.params;
+    let prior = a.prior;
+    let price = price::frame_price(false, &types, &params, a.flag, &prior);
+    price.refusal == 0 && price.bits == a.bits as usize
+}
+
 fn is_right(a: Case) -> bool {
-    is_read_right(a) && is_cut_right(a) && is_written_right(a)
+    is_read_right(a) && is_cut_right(a) && is_written_right(a) && is_priced_right(a)
 }
 
 fn next_numbers(list: i32) -> [i32; 42] {

@@ -2,7 +2,7 @@
 
 use crate::inputs::{self, Scene, float, number, prior, sides, stored_model};
 use crate::random::Random;
-use belt::{Buffers, Fitted, Frame, Lent, Model, Refusal, Report, Settings, StoredModel, Task};
+use belt::{Buffers, Fitted, Frame, Kind as FrameKind, Lent, Model, Refusal, Report, Settings, StoredModel, Task};
 use oracle::blocks::{self, BLOCK, Form, ONE, TWO};
 use oracle::{Models, practice};
 use std::fmt::{Debug, Write};
@@ -27,7 +27,7 @@ pub struct Kind {
     pub compare: fn(&mut Case) -> Result<(), String>,
 }
 
-pub const KINDS: [Kind; 15] = [
+pub const KINDS: [Kind; 18] = [
     Kind { name: "search", share: 4, compare: search },
     Kind { name: "fit translation", share: 4, compare: |case| fit(case, 1) },
     Kind { name: "fit rotation-zoom", share: 4, compare: |case| fit(case, 2) },
@@ -38,6 +38,9 @@ pub const KINDS: [Kind; 15] = [
     Kind { name: "header written", share: 8, compare: header_written },
     Kind { name: "header read", share: 6, compare: header_read },
     Kind { name: "header read, damaged", share: 8, compare: header_damaged },
+    Kind { name: "key frame", share: 4, compare: key_frame },
+    Kind { name: "price list", share: 1, compare: price_list },
+    Kind { name: "price of a frame", share: 4, compare: frame_price },
     Kind { name: "job", share: 6, compare: job },
     Kind { name: "blocks of form 2, by docs/RULES.md", share: 4, compare: stored_frame },
     Kind { name: "blocks of form 1, by docs/RULES.md", share: 4, compare: old_frame },
@@ -82,6 +85,9 @@ fn row<T>(answer: Result<T, Refusal>) -> Result<T, u32> {
 const TOO_SHORT: u32 = 3;
 const SINGULAR: u32 = 6;
 const ENDS_FIRST: u32 = 9;
+/// Those that only the rules have.
+const OFF_GRID: u32 = 7;
+const START_OVER: u32 = 14;
 
 /// A job's buffers full of a pattern: just long enough, or longer.
 fn buffers(random: &mut Random, width: usize, height: usize) -> Buffers {
@@ -281,6 +287,36 @@ fn header_written(case: &mut Case) -> Result<(), String> {
     same_list("bytes", &after, &[&bytes, &before[bytes.len()..]].concat())
 }
 
+/// The lengths of the codes that the Rust writes for every ordinal of a slot, counted.
+fn price_list(case: &mut Case) -> Result<(), String> {
+    let random = &mut case.random;
+    let (kind, flag) = (1 + random.below(3) as u8, random.below(2) as u8);
+    let slot = random.below([2, 4, 6][kind as usize - 1]);
+    let model = stored_model(random, kind, flag == 1);
+    let prior = prior(random, &model)[slot];
+    case.note("type, flag, slot, prior", (kind, flag, slot, prior));
+    let ours = row(belt::coefficient_prices(kind, flag, slot as u8, prior));
+    case.accepted = ours.is_ok();
+    let (high, translation) = (flag == 1, kind == 1 && slot < 2);
+    let abs_bits = if translation { 8 + u32::from(high) } else { 12 };
+    let step = if translation { 1 << (14 - u32::from(high)) } else { 1 << if slot < 2 { 10 } else { 1 } };
+    let centre = if slot == 2 || slot == 5 { 65536 } else { 0 };
+    let mut counts = vec![0; 2 * abs_bits as usize - belt::PriceList::SHORTEST];
+    for ordinal in -(1 << abs_bits)..=1 << abs_bits {
+        let code = oracle::coefficient(kind, high, slot, prior, ordinal * step + centre);
+        counts[code.len() - belt::PriceList::SHORTEST] += 1;
+    }
+    same("ordinals", ours.map(|list| list.ordinals().to_vec()), Ok(counts))
+}
+
+fn frame_price(case: &mut Case) -> Result<(), String> {
+    let header = header(case);
+    let (models, prior) = (header.params.map(StoredModel), header.prior.map(StoredModel));
+    let ours = row(belt::frame_price(FrameKind::Inter, &header.types, &models, header.flag, &prior));
+    case.accepted = ours.is_ok();
+    same("bits", ours, Ok(header.written(0).1))
+}
+
 /// A bit of the first byte, the first one more often than the others.
 fn start(random: &mut Random) -> usize {
     if random.one_in(4) { 0 } else { random.below(8) }
@@ -361,6 +397,37 @@ fn header_damaged(case: &mut Case) -> Result<(), String> {
     case.note("damaged: flag", flag);
     case.note("damaged: prior", prior);
     read(case, &bytes, at, flag, &prior)
+}
+
+/// A key frame written, which leaves every byte, and read from anywhere. A model that isn't the identity is refused.
+fn key_frame(case: &mut Case) -> Result<(), String> {
+    let random = &mut case.random;
+    let flag = random.below(2) as u8;
+    let reference = random.below(7);
+    let (mut types, mut models) = ([0; 7], belt::IDENTITIES);
+    if random.one_in(4) {
+        types[reference] = random.below(4) as u8;
+        models[reference] = StoredModel(stored_model(random, types[reference], flag == 1));
+    }
+    let prior: Vec<StoredModel> = (0..random.below(9)).map(|_| StoredModel([number(random); 6])).collect();
+    let start = random.below(10);
+    let before = {
+        let room = random.below(4);
+        random.bytes(room)
+    };
+    let at = if random.one_in(2) { start } else { random.bits() as usize };
+    case.note("types, models", (types, models));
+    case.note("flag, prior", (flag, &prior));
+    case.note("start, position, bytes", (start, at, &before));
+    let mut after = before.clone();
+    let ours = row(belt::encode_global_motion(FrameKind::Key, &types, &models, flag, &prior, start, &mut after));
+    case.accepted = ours.is_ok();
+    let plain = (types, models) == ([0; 7], belt::IDENTITIES);
+    same("bits", ours, if start > 7 { Err(START_OVER) } else if plain { Ok(0) } else { Err(OFF_GRID) })?;
+    same_list("bytes", &after, &before)?;
+    let read = row(belt::read_global_motion(FrameKind::Key, &after, at, flag, &prior));
+    let read = read.map(|read| (read.types, read.models.map(|model| model.0), read.bits));
+    same("types, models and bits", read, Ok(oracle::read_key_frame(&after, at)))
 }
 
 /// The composition of the Rust's answers: what a job reports and leaves.

@@ -1,0 +1,32 @@
+-- `identity`: each store keeps the array's 43 places, and the counter rises to 43.
+-- Assumes nothing.
+use Prim.Native.Nat.{_≤_, _-_}
+use mathlib.Core.Path.{_≡_}
+use lib.ListN.{length, length-set}
+use borrow.Author.Needs.{needs}
+use Rattle.worked_frame.proofs.identity.Statement.{statement}
+use Rattle.worked_frame.proofs.identity.Tie as tie
+
+abbrev Inv-loop : tie.InvT-loop
+Inv-loop numbers₀ i₀ numbers i = (i ≤ 43) × (length numbers ≡ 43)
+
+abbrev μ-loop : tie.MeasureT-loop
+μ-loop numbers₀ i₀ numbers i = 43 - i
+
+loop-again : tie.Need-loop-again Inv-loop μ-loop
+loop-again c = (search needs, simp length-set (search needs))
+
+pub identity-spec : {M : Type 1} → statement M
+identity-spec =
+    tie.close
+    (tie.spec
+    Inv-loop
+    μ-loop
+    (search needs)
+    (search needs)
+    (search needs)
+    (search needs)
+    (search needs)
+    (search needs)
+    loop-again
+    (search needs))
