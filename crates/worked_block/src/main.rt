@@ -1,5 +1,5 @@
-// Replays the list of stored frames: words and classes made from a seed are stored in form 2 and
-// carried over to form 1; the blocks of one form are changed, read by both readers and converted each
+// Replays the list of stored frames: words and classes made from a seed, or listed, are stored in form 2
+// and carried over to form 1; the blocks of one form are changed, read by both readers and converted each
 // way; answers and lent buffers are compared with those of the list's maker, which knows docs/RULES.md
 // alone.
 ghost use Prim.Native.Nat.{_≤_, _<_};
@@ -14,8 +14,9 @@ const UNTOUCHED_WORD: u32 = 2779096485;
 
 const PLACES: u32 = 4096;
 
-// What a case asks: the samples and how they are changed, the form whose blocks are then changed and
-// read, and how much is handed over and lent.
+// What a case asks: the samples, listed where the seed is 0, and how they are changed; the form whose
+// blocks are then changed and read, and whether its second block is the other form's; how much is handed
+// over and lent.
 struct Case {
     frame: u16,
     samples: usize,
@@ -27,6 +28,7 @@ struct Case {
     classes: usize,
     block_room: usize,
     form: u32,
+    mixed: u32,
     changed_byte: usize,
     byte_bits: u8,
     mended: u32,
@@ -137,6 +139,16 @@ fn make_samples(seed: u32, step: u32, kinds: u32, words: &mut [u32], classes: &m
     }
 }
 
+// Takes words and classes from the list.
+fn take_samples(list: i32, words: &mut [u32], classes: &mut [u8]) {
+    let mut i = 0;
+    while i < words.len() {
+        words[i] = replay::next_word(list);
+        change_byte(classes, i, byte(list));
+        i += 1;
+    }
+}
+
 fn step_of(samples: usize) -> u32 {
     if samples == 0 {
         return 1;
@@ -153,6 +165,24 @@ fn change_word(words: &mut [u32], at: usize, bits: u32) {
 fn change_byte(bytes: &mut [u8], at: usize, bits: u8) {
     if at < bytes.len() {
         bytes[at] = bytes[at] ^ bits;
+    }
+}
+
+fn copy_byte(from: &[u8], at: usize, to: &mut [u8]) {
+    if at < from.len() && at < to.len() {
+        to[at] = from[at];
+    }
+}
+
+// Puts the second block of other blocks in the place of these blocks' second, where that is asked for.
+fn mix(asked: u32, from: &[u8], to: &mut [u8]) {
+    if asked == 0 {
+        return;
+    }
+    let mut at = 512usize;
+    while at < 1024 {
+        copy_byte(from, at, to);
+        at += 1;
     }
 }
 
@@ -204,6 +234,7 @@ fn next_case(list: i32) -> Case {
         classes: size(list),
         block_room: size(list),
         form: replay::next_word(list),
+        mixed: replay::next_word(list),
         changed_byte: size(list),
         byte_bits: byte(list),
         mended: replay::next_word(list),
@@ -290,6 +321,7 @@ fn reads(
     words: &mut [u32],
     classes: &mut [u8],
 ) -> bool {
+    mix(a.mixed, other, blocks);
     change_byte(blocks, a.changed_byte, a.byte_bits);
     mend(a.mended, blocks, a.changed_byte);
     let by_both = reads_both(list, a, blocks, words, classes);
@@ -309,13 +341,17 @@ fn replay_one(
     let a = next_case(list);
     let samples = least(a.samples, words.len());
     fill_bytes(0, classes);
-    make_samples(
-        a.seed,
-        step_of(samples),
-        a.kinds,
-        &mut words[0..samples],
-        classes,
-    );
+    if a.seed == 0 {
+        take_samples(list, &mut words[0..samples], classes);
+    } else {
+        make_samples(
+            a.seed,
+            step_of(samples),
+            a.kinds,
+            &mut words[0..samples],
+            classes,
+        );
+    }
     change_word(words, a.changed_sample, a.word_bits);
     change_byte(classes, a.changed_sample, a.class_bits);
     let stores_right = stores(list, a, &words[0..samples], classes, blocks);

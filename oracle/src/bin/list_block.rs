@@ -1,7 +1,8 @@
-//! The list for `worked_block`: a count, then for each case 17 words of what is asked and 21 of what must come back.
-//! Words and classes are made from a seed, one of them is changed, they are stored in form 2 and carried over to form 1;
-//! a byte of the blocks of one form is changed, the check mended or left, and they are read by both readers and converted
-//! each way. The argument is the file to write.
+//! The list for `worked_block`: a count, then for each case 18 words of what is asked, two for each sample where the seed
+//! is 0, and 21 of what must come back. Words and classes are made from a seed or listed, one of them is changed, they are
+//! stored in form 2 and carried over to form 1; in the blocks of one form the second is taken from the other form or a
+//! byte is changed, the check mended or left, and they are read by both readers and converted each way. The argument is
+//! the file to write.
 
 use oracle::blocks::{self, BLOCK, Form, ONE, Sample, TWO};
 use oracle::list::List;
@@ -16,7 +17,9 @@ const UNTOUCHED_WORD: u32 = 0xa5a5_a5a5;
 struct Case {
     frame: u16,
     samples: usize,
+    /// 0 where the samples are listed.
     seed: u32,
+    listed: Option<fn(u32) -> Sample>,
     /// Classes are below it.
     kinds: u32,
     changed_sample: usize,
@@ -26,6 +29,8 @@ struct Case {
     block_room: usize,
     /// The form whose blocks are changed and read.
     form: Form,
+    /// Its second block is the other form's.
+    mixed: bool,
     changed_byte: usize,
     byte_bits: u8,
     mended: bool,
@@ -37,7 +42,7 @@ struct Case {
 
 fn main() -> io::Result<()> {
     let path = env::args().nth(1).expect("the argument is the file to write");
-    let cases: Vec<Case> = [stored(), damaged(), filmed(), closed()].concat();
+    let cases: Vec<Case> = [worked(), stored(), damaged(), filmed(), closed()].concat();
     let mut list = List::default();
     list.push(cases.len() as u32);
     for case in cases {
@@ -51,6 +56,7 @@ fn plain(frame: u16, samples: usize, form: Form) -> Case {
         frame,
         samples,
         seed: samples as u32 + 1,
+        listed: None,
         kinds: 4,
         changed_sample: 0,
         word_bits: 0,
@@ -58,6 +64,7 @@ fn plain(frame: u16, samples: usize, form: Form) -> Case {
         classes: samples,
         block_room: BYTES,
         form,
+        mixed: false,
         changed_byte: 0,
         byte_bits: 0,
         mended: false,
@@ -66,6 +73,49 @@ fn plain(frame: u16, samples: usize, form: Form) -> Case {
         class_room: SAMPLES,
         other_room: BYTES,
     }
+}
+
+fn listed(frame: u16, samples: usize, form: Form, sample: fn(u32) -> Sample) -> Case {
+    Case { seed: 0, listed: Some(sample), ..plain(frame, samples, form) }
+}
+
+fn one<const CLASS: u8>(_: u32) -> Sample {
+    (0x0006_fb7c, CLASS)
+}
+
+/// At rising places, with a motion of 0 to 4 eighths to the right.
+fn rising(q: u32) -> Sample {
+    (q / 64 << 26 | q % 64 << 20 | 223 << 11 | (223 + q % 5) << 2, (q % 4) as u8)
+}
+
+fn rising_film(q: u32) -> Sample {
+    (rising(q).0, blocks::LAST_CLASS)
+}
+
+/// The worked values: one sample and 130, stored, damaged, converted and of mixed forms.
+fn worked() -> Vec<Case> {
+    let film = listed(5, 1, TWO, one::<4>);
+    let mut cases = vec![film, listed(5, 1, TWO, one::<0>), listed(5, 1, ONE, one::<3>)];
+    // a class bit in the word, class 5, form 3, filler
+    for changed_byte in [11, 12, 2, 13] {
+        cases.push(Case { changed_byte, byte_bits: 1, mended: true, ..film });
+    }
+    for (word_bits, class_bits, classes) in [(1, 0, 1), (0, 1, 1), (1, 1, 1), (1, 1, 0)] {
+        cases.push(Case { word_bits, class_bits, classes, ..film });
+    }
+    cases.push(Case { block_room: BLOCK - 1, ..film });
+    for form in [ONE, TWO] {
+        let case = listed(7, 130, form, rising);
+        cases.push(Case { other_room: 2 * BLOCK, ..case });
+        cases.push(Case { other_room: 2 * BLOCK - 1, ..case });
+        cases.push(Case { mixed: true, ..case });
+        cases.push(Case { mixed: true, changed_byte: BLOCK + 508, byte_bits: 1, ..case });
+    }
+    let film = Case { other_room: 0, ..listed(7, 130, TWO, rising_film) };
+    cases.push(film);
+    cases.push(Case { changed_byte: BLOCK + 508, byte_bits: 1, ..film });
+    cases.push(Case { given: BLOCK, ..film });
+    cases
 }
 
 /// Sizes about the ends of blocks, exact, short and long buffers, and samples that can't be stored.
@@ -177,7 +227,9 @@ fn closed() -> Vec<Case> {
                 cases.push(Case { word_room: 0, class_room: 0, other_room: 0, ..shut });
                 cases.push(Case { given: BLOCK * ordinal + 511, ..shut });
                 cases.push(Case { given: BLOCK * (ordinal + 1), ..shut });
-                cases.push(Case { kinds: 5, other_room: 0, ..shut });
+                if form == TWO {
+                    cases.push(Case { kinds: 5, other_room: 0, ..shut });
+                }
             }
         }
     }
@@ -185,14 +237,13 @@ fn closed() -> Vec<Case> {
 }
 
 fn answer(list: &mut List, case: Case) {
-    let mut words: Vec<u32> = blocks::words(case.seed, case.samples);
-    let mut classes = vec![0; SAMPLES];
-    // the maker's last step of each word is its class
-    for (class, number) in classes.iter_mut().zip(blocks::class_numbers(case.seed, case.samples)) {
-        *class = (u32::from(number) % case.kinds) as u8;
-    }
-    words.iter_mut().for_each(|word| *word &= !3);
+    let given: Vec<Sample> = match case.listed {
+        Some(sample) => (0..case.samples as u32).map(sample).collect(),
+        None => made(case),
+    };
+    let (mut words, mut classes): (Vec<u32>, Vec<u8>) = given.iter().copied().unzip();
     words.resize(SAMPLES, 0);
+    classes.resize(SAMPLES, 0);
     words[case.changed_sample] ^= case.word_bits;
     classes[case.changed_sample] ^= case.class_bits;
     let (words, classes) = (&words[..case.samples], &classes[..case.classes]);
@@ -208,6 +259,7 @@ fn answer(list: &mut List, case: Case) {
         case.classes as u32,
         case.block_room as u32,
         u32::from(case.form.number),
+        u32::from(case.mixed),
         case.changed_byte as u32,
         u32::from(case.byte_bits),
         u32::from(case.mended),
@@ -217,6 +269,12 @@ fn answer(list: &mut List, case: Case) {
         case.other_room as u32,
     ];
     asked.into_iter().for_each(|word| list.push(word));
+    if case.listed.is_some() {
+        for (word, class) in given {
+            list.push(word);
+            list.push(u32::from(class));
+        }
+    }
 
     let refusal = blocks::store_refusal(case.frame, words, classes, case.block_room);
     let stored =
@@ -224,7 +282,10 @@ fn answer(list: &mut List, case: Case) {
     let new = push_blocks(list, stored);
     let old = push_blocks(list, blocks::convert(TWO, ONE, &new, BYTES));
 
-    let mut bytes = if case.form == ONE { old } else { new };
+    let (mut bytes, other) = if case.form == ONE { (old, new) } else { (new, old) };
+    if case.mixed {
+        bytes[BLOCK..2 * BLOCK].copy_from_slice(&other[BLOCK..2 * BLOCK]);
+    }
     bytes[case.changed_byte] ^= case.byte_bits;
     if case.mended {
         blocks::mend(&mut bytes, case.changed_byte);
@@ -242,6 +303,13 @@ fn answer(list: &mut List, case: Case) {
     push_frame(list, form1.as_ref().map(|(frame, _)| *frame), words);
     push_blocks(list, blocks::convert(TWO, ONE, given, case.other_room));
     push_blocks(list, blocks::convert(ONE, TWO, given, case.other_room));
+}
+
+/// Samples from a seed: the maker's last step of each word is its class.
+fn made(case: Case) -> Vec<Sample> {
+    let classes = blocks::class_numbers(case.seed, case.samples);
+    let words = blocks::words(case.seed, case.samples);
+    words.into_iter().zip(classes).map(|(word, number)| (word & !3, (u32::from(number) % case.kinds) as u8)).collect()
 }
 
 /// Blocks that a call writes: the refusal, how many, the sum of the buffer, which comes back.

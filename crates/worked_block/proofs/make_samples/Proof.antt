@@ -14,10 +14,10 @@ abbrev μ-loop : tie.MeasureT-loop
 μ-loop seed step kinds words₀ classes₀ state₀ base₀ i₀ words classes state base i = length words₀ - i
 
 loop-holds : tie.Need-loop-holds Inv-loop μ-loop
-loop-holds c = (omega arith, refl)
+loop-holds c = (omega arith, refl, refl)
 
 loop-again : tie.Need-loop-again Inv-loop μ-loop
-loop-again c = (search needs, simp length-set (search needs))
+loop-again c = (search needs, simp length-set (search needs), search needs)
 
 pub make-samples-spec : {M : Type 1} → statement M
 make-samples-spec =
