@@ -312,6 +312,12 @@ fn reads_form1(list: i32, a: Case, blocks: &[u8], words: &mut [u32]) -> bool {
     gave(list, read, words)
 }
 
+// Changes a byte, and puts the right check where that is asked for.
+fn damage(a: Case, blocks: &mut [u8]) {
+    change_byte(blocks, a.changed_byte, a.byte_bits);
+    mend(a.mended, blocks, a.changed_byte);
+}
+
 // Changes blocks, and reads and converts them.
 fn reads(
     list: i32,
@@ -322,13 +328,44 @@ fn reads(
     classes: &mut [u8],
 ) -> bool {
     mix(a.mixed, other, blocks);
-    change_byte(blocks, a.changed_byte, a.byte_bits);
-    mend(a.mended, blocks, a.changed_byte);
+    damage(a, blocks);
     let by_both = reads_both(list, a, blocks, words, classes);
     let by_form1 = reads_form1(list, a, blocks, words);
     let to_form1 = converts(list, 1, a.given, a.other_room, blocks, other);
     let to_form2 = converts(list, 2, a.given, a.other_room, blocks, other);
     by_both && by_form1 && to_form1 && to_form2
+}
+
+// Reads the blocks of the form that is asked for.
+fn reads_form(
+    list: i32,
+    a: Case,
+    blocks: &mut [u8],
+    old: &mut [u8],
+    words: &mut [u32],
+    classes: &mut [u8],
+) -> bool {
+    if a.form == 1 {
+        return reads(list, a, old, blocks, words, classes);
+    }
+    reads(list, a, blocks, old, words, classes)
+}
+
+// Takes the samples of a case from the list, or makes them.
+fn fill_samples(list: i32, a: Case, words: &mut [u32], classes: &mut [u8]) {
+    fill_bytes(0, classes);
+    if a.seed == 0 {
+        take_samples(list, words, classes);
+    } else {
+        make_samples(a.seed, step_of(words.len()), a.kinds, words, classes);
+    }
+}
+
+// The samples of a case, one of them changed.
+fn samples_of(list: i32, a: Case, words: &mut [u32], classes: &mut [u8]) {
+    fill_samples(list, a, words, classes);
+    change_word(words, a.changed_sample, a.word_bits);
+    change_byte(classes, a.changed_sample, a.class_bits);
 }
 
 fn replay_one(
@@ -340,27 +377,10 @@ fn replay_one(
 ) -> bool {
     let a = next_case(list);
     let samples = least(a.samples, words.len());
-    fill_bytes(0, classes);
-    if a.seed == 0 {
-        take_samples(list, &mut words[0..samples], classes);
-    } else {
-        make_samples(
-            a.seed,
-            step_of(samples),
-            a.kinds,
-            &mut words[0..samples],
-            classes,
-        );
-    }
-    change_word(words, a.changed_sample, a.word_bits);
-    change_byte(classes, a.changed_sample, a.class_bits);
+    samples_of(list, a, &mut words[0..samples], classes);
     let stores_right = stores(list, a, &words[0..samples], classes, blocks);
     let carried_right = converts(list, 1, blocks.len(), old.len(), blocks, old);
-    let reads_right = if a.form == 1 {
-        reads(list, a, old, blocks, words, classes)
-    } else {
-        reads(list, a, blocks, old, words, classes)
-    };
+    let reads_right = reads_form(list, a, blocks, old, words, classes);
     stores_right && carried_right && reads_right
 }
 

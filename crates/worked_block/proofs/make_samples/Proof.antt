@@ -43,6 +43,9 @@ make-samples-spec =
     (search needs)
     (search needs)
     (search needs)
+    (search needs)
+    (search needs)
     loop-again
+    (search needs)
     (search needs)
     (search needs))
