@@ -25,7 +25,7 @@ module _ (t : Task) (l : Lent) where
   pub done-some : refusal t l ≡ 0 → (sampleCount (t .width) (t .height) ≡ 0 → ⊥) → {a b c : List ℕ} →
       a ≡ onto (halfPlane (t .input) (t .width) (t .height)) (l .inputHalf) →
       b ≡ onto (halfPlane (t .ref) (t .width) (t .height)) (l .refHalf) →
-      c ≡ onto (sampleWords (t .input) (t .ref) (t .width) (t .height) (t .classes)) (l .words) →
+      c ≡ onto (sampleWords (t .input) (t .ref) (t .width) (t .height)) (l .words) →
       Done t l (record { refusal = 0; samples = sampleCount (t .width) (t .height) }) (lent a b c)
   unfolding answer leaves
   done-some e n p q r =

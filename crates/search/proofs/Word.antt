@@ -40,5 +40,5 @@ motion-is input ref w h R C far full best p q r =
     r ∙ rw (eightfold (full .y) (ap (λ (f : Found). f .dy) q'), eightfold (full .x) (ap (λ (f : Found). f .dx) q'))
 
 -- words of equal fields
-pub word-same : (R C k : ℕ) {v u v' u' : ℕ} → v ≡ v' → u ≡ u' → wordOf R C v u k ≡ wordOf R C v' u' k
-word-same R C k p q = rw (p, q)
+pub word-same : (R C : ℕ) {v u v' u' : ℕ} → v ≡ v' → u ≡ u' → wordOf R C v u 0 ≡ wordOf R C v' u' 0
+word-same R C p q = rw (p, q)

@@ -3,7 +3,6 @@
 use Prim.Native.Nat.{ℕ, _*_, _/_, _%_}
 use mathlib.Core.List.{List}
 use lib.IntN.{ℤ, pos, negsuc, _+ℤ_, _*ℤ_}
-use lib.ListN.{getD}
 use Rattle.sample.specs.Sample.{motionBias}
 use Rattle.sample.specs.Word.{wordOf}
 use Rattle.plane.specs.declared.Place.{Place}
@@ -39,13 +38,13 @@ natural (negsuc n) = 0
 abbrev pub stored : ℤ → ℕ
 stored m = natural (m +ℤ pos motionBias)
 
--- the word of a block and its class
-abbrev pub wordAt : List ℕ → List ℕ → ℕ → ℕ → ℕ → ℕ → ℕ → ℕ
-wordAt input ref w h R C class = wordOf R C (stored (motion input ref w h R C .dy)) (stored (motion input ref w h R C .dx)) class
+-- the word of a block: its place and its motion, with class bits zero
+abbrev pub wordAt : List ℕ → List ℕ → ℕ → ℕ → ℕ → ℕ → ℕ
+wordAt input ref w h R C = wordOf R C (stored (motion input ref w h R C .dy)) (stored (motion input ref w h R C .dx)) 0
 
--- the k-th sample's word: blocks row by row, with the k-th class
-unfoldable pub sampleWord : List ℕ → List ℕ → ℕ → ℕ → List ℕ → ℕ → ℕ
-sampleWord input ref w h classes k = wordAt input ref w h (k / blockColumns w) (k % blockColumns w) (getD classes k 0)
+-- the k-th sample's word: blocks row by row
+unfoldable pub sampleWord : List ℕ → List ℕ → ℕ → ℕ → ℕ → ℕ
+sampleWord input ref w h k = wordAt input ref w h (k / blockColumns w) (k % blockColumns w)
 
-unfoldable pub sampleWords : List ℕ → List ℕ → ℕ → ℕ → List ℕ → List ℕ
-sampleWords input ref w h classes = listing (sampleWord input ref w h classes) (sampleCount w h)
+unfoldable pub sampleWords : List ℕ → List ℕ → ℕ → ℕ → List ℕ
+sampleWords input ref w h = listing (sampleWord input ref w h) (sampleCount w h)

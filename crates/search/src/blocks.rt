@@ -2,7 +2,7 @@
 ghost use mathlib.Core.Path.{_≡_};
 ghost use Rattle.laws.specs.Buffer.{onto};
 ghost use Rattle.search.specs.Search.{wordAt, sampleWords};
-ghost use Rattle.search.specs.Inner.{Halves, Sorted, Room};
+ghost use Rattle.search.specs.Inner.{Halves, Inside, Room};
 use plane::BLOCK;
 use plane::HALF_BLOCK;
 use plane::Offset;
@@ -13,18 +13,21 @@ use stage::FULL_REACH;
 // The reach of the steps in eighths.
 const STEPS_REACH: usize = 7;
 
-// The block at this row and column of blocks: coarse, full pel from twice the winner, eighths.
+// The class bits of a word: the class stands beside it.
+const NO_CLASS: u8 = 0;
+
+// The block at this row and column of blocks: coarse, full pel from twice the winner, eighths. The
+// word's class bits are zero.
 fn word_at(
     input: &[u16],
     reference: &[u16],
     input_half: &[u16],
     ref_half: &[u16],
     block: Place,
-    class: u8,
 ) -> u32
     requires { ⌜ Halves (now input) (now reference) (now «input_half») (now «ref_half») (block .width) (block .height) ⌝ }
-    requires { ⌜ Sorted block class ⌝ }
-    ensures { λ s. ⌜ s ≡ wordAt (now (input .entry)) (now (reference .entry)) (block .width) (block .height) (block .r) (block .c) class ⌝ }
+    requires { ⌜ Inside block ⌝ }
+    ensures { λ s. ⌜ s ≡ wordAt (now (input .entry)) (now (reference .entry)) (block .width) (block .height) (block .r) (block .c) ⌝ }
 {
     let half = Place {
         width: block.width / 2,
@@ -53,23 +56,22 @@ fn word_at(
         block.c as u32,
         best.y as u32,
         best.x as u32,
-        class,
+        NO_CLASS,
     )
 }
 
-// One word for each whole block, row by row, with its class.
+// One word for each whole block, row by row.
 pub fn fill_words(
     input: &[u16],
     reference: &[u16],
     input_half: &[u16],
     ref_half: &[u16],
     sides: Sides,
-    classes: &[u8],
     words: &mut [u32],
 )
     requires { ⌜ Halves (now input) (now reference) (now «input_half») (now «ref_half») (sides .width) (sides .height) ⌝ }
-    requires { ⌜ Room (sides .width) (sides .height) (now classes) (now words) ⌝ }
-    ensures { λ _. ⌜ now (words .exit) ≡ onto (sampleWords (now (input .entry)) (now (reference .entry)) (sides .width) (sides .height) (now (classes .entry))) (now (words .entry)) ⌝ }
+    requires { ⌜ Room (sides .width) (sides .height) (now words) ⌝ }
+    ensures { λ _. ⌜ now (words .exit) ≡ onto (sampleWords (now (input .entry)) (now (reference .entry)) (sides .width) (sides .height)) (now (words .entry)) ⌝ }
 {
     let columns = sides.width / BLOCK;
     let samples = sides.height / BLOCK * columns;
@@ -83,7 +85,7 @@ pub fn fill_words(
             r: row,
             c: column,
         };
-        words[k] = word_at(input, reference, input_half, ref_half, block, classes[k]);
+        words[k] = word_at(input, reference, input_half, ref_half, block);
         k += 1;
     }
 }

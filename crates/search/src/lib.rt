@@ -1,6 +1,7 @@
 // The search: how the load moved between two frames (docs/RULES.md, 'Search', rows 1, 2, 4 and 3;
 // `collect_motion_samples` of the Rust's global_motion.rs). In go two planes, their sides and one
-// class for each sample; out come half planes and sample words in lent buffers, and the count.
+// class for each sample, which is judged; out come half planes and sample words with class bits zero
+// in lent buffers, and the count.
 ghost use mathlib.Core.Path.{_≡_};
 ghost use Rattle.laws.specs.Buffer.{onto};
 ghost use Rattle.plane.specs.Plane.{halfPlane};
@@ -25,15 +26,14 @@ fn search_into(
     input_y: &[u16],
     ref_y: &[u16],
     sides: Sides,
-    classes: &[u8],
     input_half: &mut [u16],
     ref_half: &mut [u16],
     words: &mut [u32],
 )
-    requires { ⌜ Ready (now «input_y») (now «ref_y») (sides .width) (sides .height) (now classes) (now «input_half») (now «ref_half») (now words) ⌝ }
+    requires { ⌜ Ready (now «input_y») (now «ref_y») (sides .width) (sides .height) (now «input_half») (now «ref_half») (now words) ⌝ }
     ensures { λ _. ⌜ now («input_half» .exit) ≡ onto (halfPlane (now («input_y» .entry)) (sides .width) (sides .height)) (now («input_half» .entry)) ⌝ }
     ensures { λ _. ⌜ now («ref_half» .exit) ≡ onto (halfPlane (now («ref_y» .entry)) (sides .width) (sides .height)) (now («ref_half» .entry)) ⌝ }
-    ensures { λ _. ⌜ now (words .exit) ≡ onto (sampleWords (now («input_y» .entry)) (now («ref_y» .entry)) (sides .width) (sides .height) (now (classes .entry))) (now (words .entry)) ⌝ }
+    ensures { λ _. ⌜ now (words .exit) ≡ onto (sampleWords (now («input_y» .entry)) (now («ref_y» .entry)) (sides .width) (sides .height)) (now (words .entry)) ⌝ }
 {
     plane::downsample(input_y, sides.width, sides.height, &mut *input_half);
     plane::downsample(ref_y, sides.width, sides.height, &mut *ref_half);
@@ -44,7 +44,6 @@ fn search_into(
         &input_half[..half],
         &ref_half[..half],
         sides,
-        classes,
         &mut *words,
     );
 }
@@ -95,7 +94,6 @@ pub fn collect_motion_samples(
         input_y,
         ref_y,
         sides,
-        classes,
         &mut *input_half,
         &mut *ref_half,
         &mut *words,

@@ -168,7 +168,7 @@ fn make_planes(p: Picture, input: &mut [u16], reference: &mut [u16]) {
 fn fill_classes(classes: &mut [u8]) {
     let mut i = 0;
     while i < classes.len() {
-        classes[i] = (i % 4) as u8;
+        classes[i] = (i % 5) as u8;
         i += 1;
     }
 }
@@ -562,7 +562,7 @@ fn with_code(s: Small, fault: u32) -> Small {
         t.places = 41;
     }
     if fault == 4 {
-        t.class = 4;
+        t.class = 5;
     }
     if fault == 5 {
         t.gm_type = 0;

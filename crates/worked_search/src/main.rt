@@ -163,7 +163,7 @@ fn fill_plane(t: Texture, w: Window, width: usize, plane: &mut [u16]) {
 fn fill_classes(classes: &mut [u8]) {
     let mut i = 0;
     while i < classes.len() {
-        classes[i] = (i % 4) as u8;
+        classes[i] = (i % 5) as u8;
         i += 1;
     }
 }

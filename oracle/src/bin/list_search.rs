@@ -90,7 +90,7 @@ fn plain(width: usize, height: usize, texture: Texture, seed: u32) -> Case {
         ref_pels: width * height,
         classes: oracle::sample_count(width, height),
         changed_class: 0,
-        class: (seed % 4) as u8,
+        class: (seed % 5) as u8,
         input_half_room: HALF_PELS,
         ref_half_room: HALF_PELS,
         word_room: WORDS,
@@ -238,7 +238,7 @@ fn refusals() -> Vec<Case> {
     cases.push(Case { input_pels: 239, ..none });
     cases.push(Case { ref_pels: 241, ..none });
     cases.push(Case { classes: 1, ..none });
-    cases.push(Case { classes: 1, class: 4, ..none });
+    cases.push(Case { classes: 1, class: 5, ..none });
     cases
 }
 
@@ -259,7 +259,7 @@ fn causes(case: Case) -> Vec<(u32, Change)> {
     for classes in [samples - 1, samples + 1] {
         causes.push((2, Box::new(move |c| Case { classes, ..c })));
     }
-    for (changed_class, class) in [(0, 4), (samples - 1, 4), (samples / 2, 255)] {
+    for (changed_class, class) in [(0, 5), (samples - 1, 5), (samples / 2, 255)] {
         causes.push((4, Box::new(move |c| Case { changed_class, class, ..c })));
     }
     for room in [0, half - 1] {
@@ -274,7 +274,7 @@ fn causes(case: Case) -> Vec<(u32, Change)> {
 
 /// The class list that is handed over.
 fn classes(case: &Case) -> Vec<u8> {
-    let mut classes: Vec<u8> = (0..WORDS).map(|i| (i % 4) as u8).collect();
+    let mut classes: Vec<u8> = (0..WORDS).map(|i| (i % 5) as u8).collect();
     classes[case.changed_class] = case.class;
     classes.truncate(case.classes);
     classes
@@ -289,7 +289,7 @@ fn refusal(case: &Case) -> u32 {
         1
     } else if case.input_pels != width * height || case.ref_pels != width * height || case.classes != samples {
         2
-    } else if classes(case).iter().any(|&class| class > 3) {
+    } else if classes(case).iter().any(|&class| class > 4) {
         4
     } else if samples > 0 && (case.input_half_room < half || case.ref_half_room < half || case.word_room < samples) {
         3
@@ -305,7 +305,7 @@ fn answer(list: &mut List, case: Case) {
     if refusal == 0 {
         let (width, height) = (case.width, case.height);
         let [input, reference] = [case.input, case.reference].map(|w| plane(&case, w));
-        words = oracle::sample_words(&input, &reference, width, height, &classes(&case));
+        words = oracle::sample_words(&input, &reference, width, height);
         if !words.is_empty() {
             half_planes = [input, reference].map(|p| oracle::half_plane(&p, width, height));
         }

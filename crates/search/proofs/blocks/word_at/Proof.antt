@@ -64,7 +64,6 @@ word-of-requires c κs =
       p .0 .small .narrow,
       p .1 .row,
       p .1 .column,
-      p .1 .class-small,
       c .before .before .before .before .refine .ensures .y-last,
       c .before .before .before .before .refine .ensures .x-last,
     )
@@ -85,7 +84,7 @@ returns c =
     (c .before .before .before .before .before .before .before .before .full-pel .ensures .same)
     (c .before .before .before .before .before .refine .ensures .same) in
     c .word-of .ensures
-    ∙ word-same (b .r) (b .c) (a .class)
+    ∙ word-same (b .r) (b .c)
     (stored-is (best .y) (ap (λ (f : Found). f .dy) e))
     (stored-is (best .x) (ap (λ (f : Found). f .dx) e))
 
