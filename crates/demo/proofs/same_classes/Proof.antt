@@ -24,6 +24,4 @@ same-classes-spec =
     (search needs)
     (search needs)
     (search needs)
-    (search needs)
-    (search needs)
     (search needs))
