@@ -389,7 +389,7 @@ class Refusals(Refused):
         belt.write_frame(5, [0x0006FB7C], [belt.FILM], block)
         block[1] = 0
         block[508:] = bytes([0x04, 0x07, 0xFD, 0x7E])
-        self.refused(17, belt.read_both, block, [], bytearray())
+        self.refused(17, belt.read_both, block, array("I"), bytearray())
         self.refused(17, belt.to_form1, block, bytearray())
         self.assertEqual(belt.list_block(block), "frame 0 block 0 count 1 closed\n0 0 0 0 4\n")
 
