@@ -67,6 +67,7 @@ enum belt_refusal {
     BELT_NOT_RISING = 12,
     BELT_NOT_HELD = 13,
     BELT_TOO_SHORT = 3,
+    BELT_SHUTTER_CLOSED = 17,
     BELT_SINGULAR = 6,
     BELT_ENDS_FIRST = 9,
     BELT_WRONG_CHECK = 10,
@@ -88,6 +89,7 @@ static inline const char *belt_refusal_text(uint32_t refusal) {
     case BELT_NOT_RISING: return "words to store out of range or not rising";
     case BELT_NOT_HELD: return "class 4 to be stored in form 1";
     case BELT_TOO_SHORT: return "output or working buffer too short";
+    case BELT_SHUTTER_CLOSED: return "frame number 0: the shutter was closed";
     case BELT_SINGULAR: return "elimination refuses";
     case BELT_ENDS_FIRST: return "bytes end before the last bit or block";
     case BELT_WRONG_CHECK: return "block check wrong";
@@ -231,7 +233,7 @@ struct belt_quantized_param belt_quantize_global_param(uint8_t type, uint8_t fla
 /* A frame's samples as blocks of form 2 ('Sample block').
    In: the frame number, up to 4,096 words, rising by row and column, with class bits zero, and a class for each.
    Out: belt_block_bytes of so many samples in BELT_FORM_2.
-   Refuses: 1, 2, 4, 12 (class bits set too), 3. */
+   Refuses: 1, 2, 4, 12 (class bits set too), 3, 17 (also without words). */
 struct belt_stored belt_write_frame(
     uint16_t frame, const uint32_t *words, size_t word_count, const uint8_t *classes, size_t class_count,
     uint8_t *blocks, size_t blocks_room);
@@ -239,19 +241,19 @@ struct belt_stored belt_write_frame(
 /* A frame's blocks of either form as words and classes ('Sample block').
    In: bytes that begin with the frame's blocks; those after its last block aren't read. Out: the frame
    number, the words, with class bits zero, and a class for each. No bytes read as frame 0 with no samples.
-   Refuses: 9, 10, 11 (a frame of mixed forms too), 3 (either buffer). */
+   Refuses: 9, 10, 11 (a frame of mixed forms too), 17, 3 (either buffer). */
 struct belt_frame_read belt_read_both(
     const uint8_t *bytes, size_t byte_count, uint32_t *words, size_t word_room, uint8_t *classes, size_t class_room);
 
 /* A frame's blocks of form 1 as words with their classes in them ('Sample block').
    In and out as for belt_read_both, but that there is one buffer, and that form 2 is refused.
-   Refuses: 9, 10, 11 (form 2 too), 3. */
+   Refuses: 9, 10, 11 (form 2 too), 17, 3. */
 struct belt_frame_read belt_read_frame(const uint8_t *bytes, size_t byte_count, uint32_t *words, size_t word_room);
 
 /* A frame's blocks of the one form as blocks of the other ('Sample block').
    In: bytes that begin with the frame's blocks. Out: belt_block_bytes of its samples in the form to come. Every motion
    and class is carried over. No bytes are a frame without blocks.
-   Refuses: 9, 10, 11 (a frame that has the form already, or mixed forms, too); to form 1 also 13, a frame with
+   Refuses: 9, 10, 11 (a frame that has the form already, or mixed forms, too), 17; to form 1 also 13, a frame with
    BELT_FILM; 3. */
 struct belt_stored belt_to_form1(const uint8_t *bytes, size_t byte_count, uint8_t *blocks, size_t blocks_room);
 struct belt_stored belt_to_form2(const uint8_t *bytes, size_t byte_count, uint8_t *blocks, size_t blocks_room);
@@ -330,7 +332,7 @@ struct belt_price belt_frame_price(
    from the settings' start on. The header buffer needs BELT_HEADER_BYTES, whatever the start, the blocks'
    belt_block_bytes of the samples in BELT_FORM_2. A header read from there is the report's models, and by
    belt_read_both the blocks read as the words and the classes.
-   Refuses: 1, 2, 4, 5, 14, 7, 8, 3, 6. After 6 the half planes and the words are in their buffers, and
+   Refuses: 1, 2, 4, 5, 14, 7, 8, 3, 17, 6. After 6 the half planes and the words are in their buffers, and
    blocks and header are as they were. */
 struct belt_report belt_job(
     const uint16_t *input, size_t input_pels,

@@ -214,6 +214,8 @@ static void refusals(struct belt_settings settings) {
     memcpy(moving, prior, sizeof moving);
     moving[0].params[0] = 8192;
     wants("a job on a plane that is a pel short", run(settings, PELS - 1).refusal, BELT_WRONG_LENGTH);
+    settings.frame = 0;
+    wants("a job on frame 0", run(settings, PELS).refusal, BELT_SHUTTER_CLOSED);
     wants("a search of a plane 1,025 wide",
           belt_collect_motion_samples(input, PELS, reference, PELS, 1025, HEIGHT, classes, SAMPLES, input_half, HALF,
                                       ref_half, HALF, words, SAMPLES)

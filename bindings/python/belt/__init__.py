@@ -55,6 +55,7 @@ REFUSALS = {
     12: "words to store out of range or not rising",
     13: "class 4 to be stored in form 1",
     3: "output or working buffer too short",
+    17: "frame number 0: the shutter was closed",
     6: "elimination refuses",
     9: "bytes end before the last bit or block",
     10: "block check wrong",
@@ -386,7 +387,7 @@ def quantize_global_param(gm_type, flag, slot, value):
 
 def write_frame(frame, words, classes, blocks):
     """Stores a frame's words, with class bits zero, and a class for each in form 2 ('Sample block'); answers how many
-    blocks. Refuses 1, 2, 4, 12, 3."""
+    blocks. Refuses 1, 2, 4, 12, 3, 17."""
     return _call(
         "belt_write_frame",
         _code(frame, "frame", 65535),
@@ -398,7 +399,7 @@ def write_frame(frame, words, classes, blocks):
 
 def read_both(data, words, classes):
     """Reads the frame of either form that the bytes begin with ('Sample block'), a Frame: words, with class bits zero, and
-    a class for each. Refuses 9, 10, 11, 3."""
+    a class for each. Refuses 9, 10, 11, 17, 3."""
     read = _call(
         "belt_read_both",
         _list(data, c_uint8, "data"),
@@ -410,20 +411,20 @@ def read_both(data, words, classes):
 
 def read_frame(data, words):
     """Reads the frame of form 1 that the bytes begin with ('Sample block'), a Frame: words with their classes in them.
-    Refuses 9, 10, 11 (form 2 too), 3."""
+    Refuses 9, 10, 11 (form 2 too), 17, 3."""
     read = _call("belt_read_frame", _list(data, c_uint8, "data"), _list(words, c_uint32, "words", True))
     return Frame(read.frame, read.samples)
 
 
 def to_form1(data, blocks):
     """Carries a frame of form 2 over to form 1 ('Sample block'); answers how many blocks. Refuses 9, 10, 11 (form 1 too),
-    13, 3."""
+    17, 13, 3."""
     return _call("belt_to_form1", _list(data, c_uint8, "data"), _list(blocks, c_uint8, "blocks", True)).blocks
 
 
 def to_form2(data, blocks):
     """Carries a frame of form 1 over to form 2 ('Sample block'); answers how many blocks. Refuses 9, 10, 11 (form 2 too),
-    3."""
+    17, 3."""
     return _call("belt_to_form2", _list(data, c_uint8, "data"), _list(blocks, c_uint8, "blocks", True)).blocks
 
 
@@ -509,7 +510,7 @@ def job(input_y, reference, width, height, settings, classes, buffers, types=(0,
     """Runs a whole job ('Job'): search, fit, grid, score, blocks and header, into a Buffers or anything with its five
     fields; answers a Report. The six other references are identities unless types and StoredModels are given.
 
-    Refuses 1, 2, 4, 5, 14, 7, 8, 3, 6. After 6 the half planes and the words are in their buffers; blocks and header are
+    Refuses 1, 2, 4, 5, 14, 7, 8, 3, 17, 6. After 6 the half planes and the words are in their buffers; blocks and header are
     as they were.
     """
     frame = _code(settings.frame, "frame", 65535)

@@ -195,7 +195,7 @@ class Refused(unittest.TestCase):
 
 class Refusals(Refused):
     def test_the_table(self):
-        self.assertEqual(list(belt.REFUSALS), [1, 18, 2, 4, 5, 14, 7, 8, 12, 13, 3, 6, 9, 10, 11])
+        self.assertEqual(list(belt.REFUSALS), [1, 18, 2, 4, 5, 14, 7, 8, 12, 13, 3, 17, 6, 9, 10, 11])
         rules = (Path(__file__).resolve().parents[3] / "docs" / "RULES.md").read_text(encoding="utf-8")
         for number, text in belt.REFUSALS.items():
             self.assertIn(f"| {number} | {text} |", rules)
@@ -380,6 +380,18 @@ class Refusals(Refused):
         belt.write_frame(5, [0x0006FB7C], [belt.FILM], block)
         self.assertEqual(belt.list_block(block), "frame 5 block 0 count 1\n0 0 0 0 4\n")
         self.assertEqual(block[508:], bytes([0x04, 0x0C, 0xFD, 0x7E]))
+
+    def test_a_closed_shutter(self):
+        block = bytearray(512)
+        self.refused(17, belt.write_frame, 0, [], b"", bytearray())
+        self.refused(3, belt.write_frame, 0, words(1), bytes(1), bytearray(511))
+        self.refused(17, belt.write_frame, 0, words(1), bytes(1), block)
+        belt.write_frame(5, [0x0006FB7C], [belt.FILM], block)
+        block[1] = 0
+        block[508:] = bytes([0x04, 0x07, 0xFD, 0x7E])
+        self.refused(17, belt.read_both, block, array("I"), bytearray())
+        self.refused(17, belt.to_form1, block, bytearray())
+        self.assertEqual(belt.list_block(block), "frame 0 block 0 count 1 closed\n0 0 0 0 4\n")
 
     def test_sizes(self):
         for form, wanted in [(belt.FORM_1, [1, 1, 2, 33]), (belt.FORM_2, [1, 2, 2, 41])]:

@@ -426,7 +426,7 @@ pub fn quantize_global_param(gm_type: u8, flag: u8, slot: u8, value: i32) -> Res
 /// # Errors
 ///
 /// [`Refusal::TooLarge`], [`Refusal::WrongLength`], [`Refusal::NoSuchCode`], [`Refusal::NotRising`],
-/// [`Refusal::TooShort`].
+/// [`Refusal::TooShort`], [`Refusal::ShutterClosed`], also without words.
 ///
 /// ```
 /// use belt::{FILM, Frame};
@@ -459,8 +459,8 @@ fn total(bytes: &[u8]) -> usize {
 ///
 /// # Errors
 ///
-/// [`Refusal::EndsFirst`], [`Refusal::WrongCheck`], [`Refusal::WrongBlock`], also for mixed forms, and
-/// [`Refusal::TooShort`] of either buffer.
+/// [`Refusal::EndsFirst`], [`Refusal::WrongCheck`], [`Refusal::WrongBlock`], also for mixed forms,
+/// [`Refusal::ShutterClosed`], and [`Refusal::TooShort`] of either buffer.
 pub fn read_both(bytes: &[u8], words: &mut [u32], classes: &mut [u8]) -> Result<Frame, Refusal> {
     let read = raw::read_both(bytes, words, classes);
     let frame = Frame { number: read.frame, samples: read.samples };
@@ -474,8 +474,8 @@ pub fn read_both(bytes: &[u8], words: &mut [u32], classes: &mut [u8]) -> Result<
 ///
 /// # Errors
 ///
-/// [`Refusal::EndsFirst`], [`Refusal::WrongCheck`], [`Refusal::WrongBlock`], also for form 2, and
-/// [`Refusal::TooShort`].
+/// [`Refusal::EndsFirst`], [`Refusal::WrongCheck`], [`Refusal::WrongBlock`], also for form 2,
+/// [`Refusal::ShutterClosed`], [`Refusal::TooShort`].
 pub fn read_frame(bytes: &[u8], words: &mut [u32]) -> Result<Frame, Refusal> {
     let read = raw::read_frame(bytes, words);
     let frame = Frame { number: read.frame, samples: read.samples };
@@ -487,7 +487,7 @@ pub fn read_frame(bytes: &[u8], words: &mut [u32]) -> Result<Frame, Refusal> {
 /// # Errors
 ///
 /// [`Refusal::EndsFirst`], [`Refusal::WrongCheck`], [`Refusal::WrongBlock`], also for form 1,
-/// [`Refusal::NotHeld`] where a sample is of class [`FILM`], [`Refusal::TooShort`].
+/// [`Refusal::ShutterClosed`], [`Refusal::NotHeld`] where a sample is of class [`FILM`], [`Refusal::TooShort`].
 pub fn to_form1(bytes: &[u8], blocks: &mut [u8]) -> Result<usize, Refusal> {
     converted(raw::to_form1(bytes, blocks), bytes, blocks, Form::One)
 }
@@ -496,7 +496,8 @@ pub fn to_form1(bytes: &[u8], blocks: &mut [u8]) -> Result<usize, Refusal> {
 ///
 /// # Errors
 ///
-/// [`Refusal::EndsFirst`], [`Refusal::WrongCheck`], [`Refusal::WrongBlock`], also for form 2, [`Refusal::TooShort`].
+/// [`Refusal::EndsFirst`], [`Refusal::WrongCheck`], [`Refusal::WrongBlock`], also for form 2,
+/// [`Refusal::ShutterClosed`], [`Refusal::TooShort`].
 ///
 /// ```
 /// use belt::Refusal;
@@ -750,8 +751,8 @@ pub fn frame_price(
 /// # Errors
 ///
 /// [`Refusal::TooLarge`], [`Refusal::WrongLength`], [`Refusal::NoSuchCode`], [`Refusal::NoSuchSlot`],
-/// [`Refusal::StartOver`], [`Refusal::OffGrid`], [`Refusal::PriorOut`], [`Refusal::TooShort`], [`Refusal::Singular`].
-/// After the last the half planes and the words are in their buffers; blocks and header are as they were.
+/// [`Refusal::StartOver`], [`Refusal::OffGrid`], [`Refusal::PriorOut`], [`Refusal::TooShort`],
+/// [`Refusal::ShutterClosed`], [`Refusal::Singular`]. After the last the half planes and the words are in their buffers; blocks and header are as they were.
 pub fn job(task: &Task<'_>, lent: &mut Lent<'_>) -> Result<Report, Refusal> {
     let Settings { frame, gm_type, reference, flag, start } = task.settings;
     let report = raw::job(

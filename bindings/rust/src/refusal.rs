@@ -29,6 +29,8 @@ pub enum Refusal {
     NotHeld,
     /// 3: output or working buffer too short.
     TooShort(Length),
+    /// 17: frame number 0: the shutter was closed.
+    ShutterClosed,
     /// 6: elimination refuses.
     Singular,
     /// 9: bytes end before the last bit or block.
@@ -61,7 +63,7 @@ impl Length {
 
 impl Refusal {
     /// Every row's number and condition, in the table's order.
-    pub const TABLE: [(u32, &str); 15] = [
+    pub const TABLE: [(u32, &str); 16] = [
         (1, "side over 1,024, or over 4,096 samples"),
         (18, "motion of a practice belt beyond 24 pels"),
         (2, "plane, class, type, model or prior list of wrong length"),
@@ -73,6 +75,7 @@ impl Refusal {
         (12, "words to store out of range or not rising"),
         (13, "class 4 to be stored in form 1"),
         (3, "output or working buffer too short"),
+        (17, "frame number 0: the shutter was closed"),
         (6, "elimination refuses"),
         (9, "bytes end before the last bit or block"),
         (10, "block check wrong"),
@@ -93,6 +96,7 @@ impl Refusal {
             Refusal::NotRising => 12,
             Refusal::NotHeld => 13,
             Refusal::TooShort(_) => 3,
+            Refusal::ShutterClosed => 17,
             Refusal::Singular => 6,
             Refusal::EndsFirst => 9,
             Refusal::WrongCheck => 10,
@@ -120,6 +124,7 @@ impl Refusal {
             12 => Refusal::NotRising,
             13 => Refusal::NotHeld,
             3 => Refusal::TooShort(length),
+            17 => Refusal::ShutterClosed,
             6 => Refusal::Singular,
             9 => Refusal::EndsFirst,
             10 => Refusal::WrongCheck,

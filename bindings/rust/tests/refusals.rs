@@ -14,11 +14,11 @@ fn words(count: usize) -> Vec<u32> {
 #[test]
 fn the_table_is_that_of_the_rules() {
     let numbers = Refusal::TABLE.map(|(number, _)| number);
-    assert_eq!(numbers, [1, 18, 2, 4, 5, 14, 7, 8, 12, 13, 3, 6, 9, 10, 11]);
+    assert_eq!(numbers, [1, 18, 2, 4, 5, 14, 7, 8, 12, 13, 3, 17, 6, 9, 10, 11]);
     for row in [TooLarge, TooFar, NoSuchCode, NoSuchSlot, OffGrid, PriorOut, NotRising, NotHeld, Singular] {
         assert_eq!(row.to_string(), format!("{}: {}", row.number(), row.condition()));
     }
-    for row in [EndsFirst, WrongCheck, WrongBlock] {
+    for row in [ShutterClosed, EndsFirst, WrongCheck, WrongBlock] {
         assert!(Refusal::TABLE.contains(&(row.number(), row.condition())));
     }
     let rules = include_str!("../../../docs/RULES.md");
@@ -355,6 +355,47 @@ fn blocks_judged_and_listed() {
     assert_eq!(belt::list_block(&[0; 512], &mut text), "refused 10\n");
     assert_eq!(belt::list_block(&[], &mut text), "refused 9\n");
     assert_eq!(belt::list_block(&old[512..], &mut text), "frame 7 block 1 count 1\n1 61 0 0 3\n");
+}
+
+/// The frame number of every block made 0, with the checks right.
+fn shut(blocks: &[u8]) -> Vec<u8> {
+    blocks.chunks(512).flat_map(|block| mended([&[0, 0], &block[2..]].concat())).collect()
+}
+
+#[test]
+fn a_closed_shutter() {
+    let good = words(126);
+    let (mut blocks, mut old) = ([0; 1024], [0; 1024]);
+    for (count, classes, room, row) in [
+        (0, 0, 0, ShutterClosed),
+        (0, 1, 0, wrong("classes", 1, 0)),
+        (1, 1, 511, short("blocks", 511, 512)),
+        (1, 1, 512, ShutterClosed),
+        (126, 126, 1024, ShutterClosed),
+    ] {
+        let mut out = vec![0xEE; room];
+        assert_eq!(belt::write_frame(0, &good[..count], &vec![FILM; classes], &mut out), Err(row));
+        assert_eq!(out, vec![0xEE; room]);
+    }
+    belt::write_frame(7, &good, &[METAL; 126], &mut blocks).unwrap();
+    belt::to_form1(&blocks, &mut old).unwrap();
+    let mut filmed = [0; 1024];
+    belt::write_frame(7, &good, &[FILM; 126], &mut filmed).unwrap();
+    let (blocks, old, filmed) = (shut(&blocks), shut(&old), shut(&filmed));
+    // read and converted: 17 after the block's own rows, before 13 and 3, and before a bad second block
+    for bytes in [&blocks[..], &old[..], &[&blocks[..512], &[0; 512]].concat()[..]] {
+        assert_eq!(belt::read_both(bytes, &mut [], &mut []), Err(ShutterClosed));
+    }
+    assert_eq!(belt::read_frame(&old, &mut []), Err(ShutterClosed));
+    assert_eq!(belt::read_frame(&blocks, &mut []), Err(WrongBlock));
+    assert_eq!(belt::to_form2(&old, &mut []), Err(ShutterClosed));
+    assert_eq!(belt::to_form1(&old, &mut []), Err(WrongBlock));
+    assert_eq!(belt::to_form1(&filmed, &mut []), Err(ShutterClosed));
+    assert_eq!(belt::read_both(&blocks[..511], &mut [], &mut []), Err(EndsFirst));
+    // alone they are judged and listed
+    assert_eq!(belt::judge_block(&blocks).map(|block| (block.frame, block.count)), Ok((0, 100)));
+    let mut text = [0; belt::TEXT_BYTES];
+    assert_eq!(belt::list_block(&old[512..], &mut text), "frame 0 block 1 count 1 closed\n1 61 0 0 3\n");
 }
 
 #[test]

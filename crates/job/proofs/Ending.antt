@@ -114,7 +114,7 @@ module _ (j : Task) where
     blocks-are : blocksLeft (j .settings .frame) (words j) (j .classes) (l .blocks) ≡ blocksBy j l
     blocks-are =
         let n = length (l .blocks) in
-        left-accepted (storeRefusal (words j) (j .classes) n) (blocksBy j l) (l .blocks) (stored j (r .sound) n (r .blocks-room))
+        left-accepted (storeRefusal (j .settings .frame) (words j) (j .classes) n) (blocksBy j l) (l .blocks) (stored j (r .sound) n (r .blocks-room))
 
     finished-accepted : finishedOf l ≡ finish (accepted j) (blocksBy j l) (bitsPlaced (j .settings .start) (bits j) (l .header))
     unfolding finished

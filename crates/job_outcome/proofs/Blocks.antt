@@ -21,6 +21,7 @@ use Rattle.form2.specs.Block.{form2, codec2}
 use Rattle.form2.proofs.Lawful.{lawful2}
 use Rattle.forms.specs.declared.BlockRead.{BlockRead}
 use Rattle.forms.specs.Forms.{codecOf, readAlone}
+use Rattle.frame_number.proofs.InUse.{not-refused}
 use Rattle.block.specs.Frame.{frameBytes, samplesIn}
 use Rattle.block.proofs.RoundTrip.{frame-length}
 use Rattle.frame_store.specs.Store.{storeRefusal}
@@ -67,7 +68,7 @@ module _ (j : Task) (s : Sound j) where
 
   -- storing them is never refused
   module _ (room : ℕ) (enough : blockBytes * blocksOf form2 (samples j) ≤ room) where
-    pub stored : storeRefusal (words j) (j .classes) room ≡ 0
+    pub stored : storeRefusal (j .settings .frame) (words j) (j .classes) room ≡ 0
     unfolding storeRefusal
     stored =
         rw (
@@ -78,10 +79,11 @@ module _ (j : Task) (s : Sound j) where
           words-bare j s,
           le-ltb room (blockBytes * blocksOf form2 (length (words j))) (rw (words-length j) enough),
         )
+        (not-refused (j .settings .frame) (s .used))
 
 module _ (j : Task) (s : Sound j) (o : Ended) (old : List ℕ) (enough : blockBytes * blocksOf form2 (samples j) ≤ length old)
     (left : o .left .blocks ≡ onto (frameBytes codec2 (j .settings .frame) (classedWords j)) old) (count : o .report .samples ≡ samples j) where
-  accepted : storeRefusal (words j) (j .classes) (length old) ≡ 0
+  accepted : storeRefusal (j .settings .frame) (words j) (j .classes) (length old) ≡ 0
   accepted = stored j s (length old) enough
 
   bytes-are : ownBlocks j o ≡ frameBytes codec2 (j .settings .frame) (classedWords j)
@@ -136,6 +138,7 @@ module _ (j : Task) (s : Sound j) (o : Ended) (old : List ℕ) (enough : blockBy
   pub blocks-read : BlocksRead j o
   blocks-read =
       record {
+        used = s .used;
         frame = read;
         every-block = every;
         same = same;

@@ -2,6 +2,7 @@
 -- docs/RULES.md, 'Job', 'Fits and score', 'Reading by the standard'.
 -- Assumes nothing.
 use Prim.Native.Nat.{ℕ, _+_, _*_, _-_, _/_, _%_, _≤_, _<_}
+use mathlib.Core.Bool.{false}
 use mathlib.Core.Logic.{_⊎_}
 use mathlib.Core.List.{List}
 use mathlib.Core.Path.{_≡_}
@@ -18,6 +19,7 @@ use Rattle.layout.specs.Form.{blockBytes, blocksOf, countAt}
 use Rattle.class.specs.Class as class
 use Rattle.form2.specs.Block.{form2}
 use Rattle.forms.specs.Forms.{readAlone}
+use Rattle.frame_number.specs.Shutter.{closed}
 use Rattle.block.specs.Frame.{samplesIn}
 use Rattle.frame_read.specs.Read.{codecIn, readBoth, bareWordsLeft, classesLeft}
 use Rattle.grid.specs.Grid.{absBits}
@@ -61,6 +63,8 @@ pub record SampleIs (j : Task) (i word class : ℕ) : Type 0 where
   pub sorted : class ≡ getD (j .classes) i 0
 
 pub record BlocksRead (j : Task) (o : Ended) : Type 0 where
+  -- the frame number is in use
+  pub used : closed (j .settings .frame) ≡ false
   -- reading them as a frame is accepted by any two buffers with room, and gives the number of samples and the frame number; with no samples there is no block to carry it
   pub frame : (room classRoom : ℕ) → samples j ≤ room → samples j ≤ classRoom
       → readBoth (ownBlocks j o) room classRoom ≡ record { refusal = 0; frame = choose (eqb (samples j) 0) 0 (j .settings .frame); samples = samples j }

@@ -20,6 +20,8 @@ use Rattle.fit.specs.Fitted.{noType}
 use Rattle.models.specs.Models.{typesOver}
 use Rattle.layout.specs.Form.{blockBytes, blocksOf}
 use Rattle.form2.specs.Block.{form2}
+use Rattle.frame_number.specs.Shutter.{closedRefusal}
+use Rattle.frame_number.proofs.InUse.{in-use}
 use Rattle.job_task.specs.declared.Settings.{Settings}
 use Rattle.job_task.specs.declared.Sizes.{Sizes}
 use Rattle.job_task.specs.Task.{Task, Lent, sizesOf, searchTask, searchLent}
@@ -35,18 +37,20 @@ module _ (z : Sizes) (s : Settings) (classes types : List ℕ) (models prior : L
     pub codes : judge (codeRows s classes types) ≡ 0
     pub handed : judge (modelRows s types models prior) ≡ 0
     pub room : judge (roomRows z) ≡ 0
+    pub shutter : closedRefusal (s .frame) ≡ 0
 
   pub all-quiet : refusalBefore z s classes types models prior ≡ 0 → AllQuiet
   unfolding refusalBefore
   all-quiet e =
       let a = or-else-quiet (judge (sizeRows z (length classes) (length types) (length models) (length prior))) _ e in
       let b = or-else-quiet (judge (codeRows s classes types)) _ (a .1) in
-      let c = or-else-quiet (judge (modelRows s types models prior)) (judge (roomRows z)) (b .1) in
-      record { sizes = a .0; codes = b .0; handed = c .0; room = c .1 }
+      let c = or-else-quiet (judge (modelRows s types models prior)) _ (b .1) in
+      let d = or-else-quiet (judge (roomRows z)) (closedRefusal (s .frame)) (c .1) in
+      record { sizes = a .0; codes = b .0; handed = c .0; room = d .0; shutter = d .1 }
 
   pub quiet-all : AllQuiet → refusalBefore z s classes types models prior ≡ 0
   unfolding refusalBefore
-  quiet-all q = rw (q .sizes, q .codes, q .handed, q .room)
+  quiet-all q = rw (q .sizes, q .codes, q .handed, q .room) (q .shutter)
 
 -- ---- rows 1 and 2
 
@@ -141,6 +145,7 @@ module _ (j : Task) (l : Lent) where
           known = c .known;
           right = m .0;
           within = m .1 .0;
+          used = in-use (j .settings .frame) (q .shutter);
         };
         searched = found;
         blocks-room = ltb-false (length (l .blocks)) needed (room .0);

@@ -10,6 +10,7 @@ use Rattle.search.specs.Refusal as search
 use Rattle.models.specs.Models.{typesOver, modelsWrong, priorsOut}
 use Rattle.layout.specs.Form.{blockBytes, blocksOf}
 use Rattle.form2.specs.Block.{form2}
+use Rattle.frame_number.specs.Shutter.{closed}
 use Rattle.job_task.specs.Task.{Task, Lent, searchTask, searchLent}
 use Rattle.job_task.specs.Inner.{InRange}
 use Rattle.job_task.specs.Rows.{otherTypes, otherNumbers, priorNumbers, headerBytes}
@@ -27,6 +28,7 @@ pub record Sound (j : Task) : Type 0 where
   pub known : typesOver (j .types) ≡ false
   pub right : modelsWrong (j .types) (j .settings .flag) (j .models) ≡ false
   pub within : priorsOut (j .prior) ≡ false
+  pub used : closed (j .settings .frame) ≡ false
 
 -- and what is lent
 pub record Ready (j : Task) (l : Lent) : Type 0 where

@@ -1,4 +1,4 @@
--- The rows of the table of refusals that a job meets before its search, in the table's order: 1, 2, 4, 5, 14, 7, 8, 3. docs/RULES.md, 'When a call says no'.
+-- The rows of the table of refusals that a job meets before its search, in the table's order: 1, 2, 4, 5, 14, 7, 8, 3, 17. docs/RULES.md, 'When a call says no'.
 -- Assumes nothing.
 use Prim.Native.Nat.{ℕ, _*_}
 use mathlib.Core.Bool.{Bool, not}
@@ -14,6 +14,7 @@ use Rattle.fit.specs.Fitted.{noType}
 use Rattle.models.specs.Models.{typesOver, modelsWrong, priorsOut, startOver}
 use Rattle.layout.specs.Form.{blockBytes, blocksOf}
 use Rattle.form2.specs.Block.{form2}
+use Rattle.frame_number.specs.Shutter.{closedRefusal}
 use Rattle.job_task.specs.declared.Settings.{Settings}
 use Rattle.job_task.specs.declared.Sizes.{Sizes}
 use Rattle.job_task.specs.Task.{Task, Lent, sizesOf}
@@ -84,7 +85,8 @@ refusalBefore z s classes types models prior =
     orElse (judge (sizeRows z (length classes) (length types) (length models) (length prior)))
     (orElse (judge (codeRows s classes types))
     (orElse (judge (modelRows s types models prior))
-    (judge (roomRows z))))
+    (orElse (judge (roomRows z))
+    (closedRefusal (s .frame)))))
 
 -- of a job: refused before its search
 abbrev pub early : Task → Lent → ℕ

@@ -1,5 +1,5 @@
 // What a job is handed, and the rows of the table of refusals that it meets before its search: 1, 2,
-// 4, 5, 14, 7, 8, 3, in the table's order (docs/RULES.md, 'Job', 'When a call says no'). In go the settings,
+// 4, 5, 14, 7, 8, 3, 17, in the table's order (docs/RULES.md, 'Job', 'When a call says no'). In go the settings,
 // how long planes and lent buffers are, and the lists that are looked into; out comes the first row
 // that holds, 0 for none. The rows are judged in groups; a group is a function.
 use class::LAST_CLASS;
@@ -207,5 +207,9 @@ pub fn refusal_of(
     if handed != 0 {
         return handed;
     }
-    room_refusal(sizes)
+    let room = room_refusal(sizes);
+    if room != 0 {
+        return room;
+    }
+    frame_number::refusal_of(settings.frame)
 }

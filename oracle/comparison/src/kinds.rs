@@ -88,6 +88,7 @@ const ENDS_FIRST: u32 = 9;
 /// Those that only the rules have.
 const OFF_GRID: u32 = 7;
 const START_OVER: u32 = 14;
+const CLOSED: u32 = 17;
 
 /// A job's buffers full of a pattern: just long enough, or longer.
 fn buffers(random: &mut Random, width: usize, height: usize) -> Buffers {
@@ -430,9 +431,17 @@ fn key_frame(case: &mut Case) -> Result<(), String> {
     same("types, models and bits", read, Ok(oracle::read_key_frame(&after, at)))
 }
 
+/// A frame's number, at times that of a closed shutter.
+fn frame_number(random: &mut Random) -> u16 {
+    if random.one_in(20) { blocks::CLOSED } else { random.bits() as u16 }
+}
+
 /// The composition of the Rust's answers: what a job reports and leaves.
 fn job_of_the_rust(pair: &Pair, settings: Settings, header: &Header, left: &mut Buffers) -> Result<Report, u32> {
     let Settings { frame, gm_type, reference, flag, start } = settings;
+    if frame == blocks::CLOSED {
+        return Err(CLOSED);
+    }
     let words = searched(pair, left);
     let samples = samples(&words);
     let fitted = oracle::fit(gm_type, &samples).ok_or(SINGULAR)?;
@@ -455,7 +464,7 @@ fn job(case: &mut Case) -> Result<(), String> {
     let header = header(case);
     let random = &mut case.random;
     let settings = Settings {
-        frame: random.bits() as u16,
+        frame: frame_number(random),
         gm_type: 1 + random.below(3) as u8,
         reference: 1 + random.below(7) as u8,
         flag: header.flag,
@@ -502,7 +511,7 @@ fn stored_frame(case: &mut Case) -> Result<(), String> {
     let random = &mut case.random;
     let mut words = inputs::rising_words(random);
     let mut classes = classes_of(random, words.len());
-    let frame = random.bits() as u16;
+    let frame = frame_number(random);
     if random.one_in(6) && words.len() > 1 {
         let (i, j) = (random.below(words.len()), random.below(words.len()));
         match random.below(5) {
@@ -529,7 +538,7 @@ fn stored_frame(case: &mut Case) -> Result<(), String> {
     let mut after = before.clone();
     let ours = row(belt::write_frame(frame, &words, &classes, &mut after));
     case.accepted = ours.is_ok();
-    let refusal = blocks::store_refusal(&words, &classes, room);
+    let refusal = blocks::store_refusal(frame, &words, &classes, room);
     if refusal != 0 {
         same("blocks", ours, Err(refusal))?;
         return same_list("bytes", &after, &before);
@@ -545,7 +554,7 @@ fn old_frame(case: &mut Case) -> Result<(), String> {
     let random = &mut case.random;
     let words = inputs::rising_words(random);
     let classes: Vec<u8> = words.iter().map(|_| random.below(4) as u8).collect();
-    let frame = random.bits() as u16;
+    let frame = frame_number(random);
     let mut bytes = blocks::write(ONE, frame, &blocks::classed(&words, &classes));
     // some frames go over to the other form in the middle
     if random.one_in(10) {

@@ -42,7 +42,7 @@ struct Case {
 
 fn main() -> io::Result<()> {
     let path = env::args().nth(1).expect("the argument is the file to write");
-    let cases: Vec<Case> = [worked(), stored(), damaged(), filmed()].concat();
+    let cases: Vec<Case> = [worked(), stored(), damaged(), filmed(), closed()].concat();
     let mut list = List::default();
     list.push(cases.len() as u32);
     for case in cases {
@@ -123,7 +123,7 @@ fn stored() -> Vec<Case> {
     let mut cases = Vec::new();
     for n in [0, 1, 2, 99, 100, 101, 124, 125, 126, 200, 201, 250, 251, 1000, 4095, 4096] {
         for form in [ONE, TWO] {
-            let case = plain(n as u16 * 13, n, form);
+            let case = plain(n as u16 * 13 + 1, n, form);
             let (exact, other) = (case.given, BLOCK * if form == ONE { TWO } else { ONE }.blocks_of(n));
             cases.push(case);
             cases.push(Case {
@@ -203,6 +203,39 @@ fn filmed() -> Vec<Case> {
     cases
 }
 
+/// Frame 0, a closed shutter's: stored last of all rows, with or without words; read, where a block of frame 1 was made
+/// one of frame 0, block by block.
+fn closed() -> Vec<Case> {
+    let mut cases = Vec::new();
+    for n in [0, 1, 100, 130] {
+        let case = plain(0, n, TWO);
+        cases.push(case);
+        cases.push(Case { classes: n + 1, ..case });
+        if n > 0 {
+            cases.push(Case { block_room: BLOCK * TWO.blocks_of(n) - 1, ..case });
+            cases.push(Case { block_room: BLOCK * TWO.blocks_of(n), ..case });
+            cases.push(Case { word_bits: 1, ..case });
+            cases.push(Case { class_bits: 8, ..case });
+        }
+    }
+    for (form, counts) in [(ONE, [1, 125, 126, 251]), (TWO, [1, 100, 101, 201])] {
+        for n in counts {
+            for ordinal in 0..form.blocks_of(n) {
+                let shut = Case { changed_byte: BLOCK * ordinal + 1, byte_bits: 1, mended: true, ..plain(1, n, form) };
+                cases.push(shut);
+                cases.push(Case { mended: false, ..shut });
+                cases.push(Case { word_room: 0, class_room: 0, other_room: 0, ..shut });
+                cases.push(Case { given: BLOCK * ordinal + 511, ..shut });
+                cases.push(Case { given: BLOCK * (ordinal + 1), ..shut });
+                if form == TWO {
+                    cases.push(Case { kinds: 5, other_room: 0, ..shut });
+                }
+            }
+        }
+    }
+    cases
+}
+
 fn answer(list: &mut List, case: Case) {
     let given: Vec<Sample> = match case.listed {
         Some(sample) => (0..case.samples as u32).map(sample).collect(),
@@ -243,7 +276,7 @@ fn answer(list: &mut List, case: Case) {
         }
     }
 
-    let refusal = blocks::store_refusal(words, classes, case.block_room);
+    let refusal = blocks::store_refusal(case.frame, words, classes, case.block_room);
     let stored =
         if refusal == 0 { Ok(blocks::write(TWO, case.frame, &blocks::classed(words, classes))) } else { Err(refusal) };
     let new = push_blocks(list, stored);
