@@ -3,7 +3,7 @@
 use std::fmt;
 use std::hint::black_box;
 
-use belt::{Buffers, Fitted, Frame, Lent, Model, Refusal};
+use belt::{Buffers, Fitted, Frame, Lent, Model, Refusal, Searched};
 use oracle::Samples;
 
 use crate::frames;
@@ -12,8 +12,11 @@ use crate::inputs::{self, AFFINE, FRAME, HIGH_PRECISION, IDENTITY, PARAMS, ROTZO
 use crate::job::Job;
 
 /// What a ratio is held to.
-const LARGE_SEARCH: f64 = 0.30;
-const NO_SLOWER: f64 = 1.0;
+const NOISE: f64 = 0.20;
+const TEXTURED: f64 = 0.13;
+const STATIC: f64 = 0.05;
+const SMALL_SEARCH: f64 = 0.20;
+const JOB: f64 = 0.15;
 const SUMS: f64 = 1.1;
 
 #[derive(Clone, Copy)]
@@ -83,8 +86,13 @@ impl Case {
     /// The largest ratio that is wanted.
     pub fn most(&self) -> Option<f64> {
         match *self {
-            Search(Scene::Noise | Scene::Textured, _, 480..) => Some(LARGE_SEARCH),
-            Search(..) => Some(NO_SLOWER),
+            Search(scene, _, 480..) => Some(match scene {
+                Scene::Noise => NOISE,
+                Scene::Textured => TEXTURED,
+                Scene::Static => STATIC,
+            }),
+            Search(..) => Some(SMALL_SEARCH),
+            WholeJob(..) => Some(JOB),
             Fit(_, 4096) | Score(4096) => Some(SUMS),
             _ => None,
         }
@@ -118,7 +126,7 @@ fn searched(
     height: usize,
     classes: &[u8],
     lent: &mut Buffers,
-) -> Result<usize, Refusal> {
+) -> Result<Searched, Refusal> {
     let Lent { input_half, ref_half, words, .. } = lent.lend();
     belt::collect_motion_samples(input, reference, width, height, classes, input_half, ref_half, words)
 }
@@ -129,7 +137,7 @@ fn search(scene: Scene, width: usize, height: usize) -> Sides {
     let mut lent = Buffers::new(width, height);
 
     let answer = searched(&input, &reference, width, height, &classes, &mut lent);
-    assert_eq!(answer, Ok(classes.len()));
+    assert_eq!(answer.map(|found| found.samples), Ok(classes.len()));
     assert_eq!(lent.words, oracle::sample_words(&input, &reference, width, height));
     assert_eq!(lent.input_half, oracle::half_plane(&input, width, height));
     assert_eq!(lent.ref_half, oracle::half_plane(&reference, width, height));

@@ -151,8 +151,8 @@ static inline struct belt_model belt_x_first(uint8_t type, struct belt_stored_mo
     return model;
 }
 
-/* How many samples were found. */
-struct belt_searched { uint32_t refusal; size_t samples; };
+/* How many samples were found, and how many rows of absolute differences were added to find them. */
+struct belt_searched { uint32_t refusal; size_t samples; uint32_t rows; };
 /* Two numbers of a translation, four of a rotation-zoom, six of an affine model, x first, zeros after them. */
 struct belt_fit_answer { uint32_t refusal; double numbers[6]; };
 struct belt_quantized_model { uint32_t refusal; struct belt_model model; };
@@ -193,7 +193,8 @@ struct belt_made { uint32_t refusal; size_t pels; };
 /* Motion search ('Search').
    In: two planes of width x height pels, row by row, and a class for each whole 16x16 block.
    Out: both half planes, belt_half_plane_values each, and one sample word for each block, row by row, with class bits
-   zero: the classes stand beside the words. With a side under 16 there are no samples, and the buffers aren't touched. Motion beyond BELT_MOST_EIGHTHS isn't found, and
+   zero: the classes stand beside the words. With a side under 16 there are no samples, and the buffers aren't touched.
+   The rows added are 736 to 6,184 for a block ('Rows added'). Motion beyond BELT_MOST_EIGHTHS isn't found, and
    isn't refused: belt_agreeing of belt_motion.h shows it.
    Refuses: 1, 2, 4, 3. */
 struct belt_searched belt_collect_motion_samples(

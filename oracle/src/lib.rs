@@ -7,6 +7,7 @@ pub mod header_files;
 pub mod list;
 mod ported;
 pub mod practice;
+pub mod rows;
 pub mod shear_files;
 mod stand_ins;
 

@@ -88,6 +88,22 @@ fn flat_pairs() {
     assert_eq!(flat(33, 16), [[7.5, 7.5, 0.0, 0.0], [23.5, 7.5, 0.0, 0.0]]);
 }
 
+/// The plain count finds the Rust's motions on its way.
+#[test]
+fn rows_added() {
+    let mut found = Vec::new();
+    for (width, height, input, reference, rows) in oracle::rows::worked() {
+        let eighths = |pels: f64| (pels * 8.0) as i64;
+        let samples = search(&input, &reference, width, height);
+        let motions: Vec<_> = samples.into_iter().map(|[_, _, u, v]| (eighths(v), eighths(u))).collect();
+        assert_eq!(oracle::rows::search(&input, &reference, width, height), (rows, motions.clone()));
+        found.push(motions);
+    }
+    assert!(found[..5].iter().all(|motions| motions == &[(0, 0)]));
+    assert_eq!(found[5..8], [[(20, 4)], [(4, 5)], [(4, 16)]]);
+    assert_eq!(found[8], [(16, 16); 4]);
+}
+
 #[test]
 fn shear_by_the_clause() {
     for (linear, valid, numbers) in [

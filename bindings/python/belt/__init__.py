@@ -174,6 +174,13 @@ STILL = (0, 0, _ONE, 0, 0, _ONE)
 IDENTITIES = (StoredModel(STILL),) * 7
 
 
+class Searched(NamedTuple):
+    """How many samples a search found, and how many rows of absolute differences it added ('Rows added')."""
+
+    samples: int
+    rows: int
+
+
 class Fitted(NamedTuple):
     """A fitted model: its type, 1 to 3, and two, four or six numbers, x first, zeros after them."""
 
@@ -329,9 +336,9 @@ def _call(name, *arguments):
 
 
 def collect_motion_samples(input_y, ref_y, width, height, classes, input_half, ref_half, words):
-    """Searches each whole 16×16 block ('Search'); answers how many words, with class bits zero, are written. Refuses 1, 2,
-    4, 3."""
-    return _call(
+    """Searches each whole 16×16 block ('Search'); answers how many words, with class bits zero, are written and how many
+    rows were added. Refuses 1, 2, 4, 3."""
+    answer = _call(
         "belt_collect_motion_samples",
         _list(input_y, c_uint16, "input_y"),
         _list(ref_y, c_uint16, "ref_y"),
@@ -341,7 +348,8 @@ def collect_motion_samples(input_y, ref_y, width, height, classes, input_half, r
         _list(input_half, c_uint16, "input_half", True),
         _list(ref_half, c_uint16, "ref_half", True),
         _list(words, c_uint32, "words", True),
-    ).samples
+    )
+    return Searched(answer.samples, answer.rows)
 
 
 def _fit(gm_type, name, words):

@@ -10,7 +10,7 @@ from pathlib import Path
 
 
 class Searched(ctypes.Structure):
-    _fields_ = [("refusal", c_uint32), ("samples", c_size_t)]
+    _fields_ = [("refusal", c_uint32), ("samples", c_size_t), ("rows", c_uint32)]
 
 
 class FitAnswer(ctypes.Structure):

@@ -309,8 +309,17 @@ fn rooms(input_half: &[u16], ref_half: &[u16], words: &[u32], width: usize, heig
     ]
 }
 
+/// What a search answers.
+#[derive(Clone, Copy, Debug, PartialEq, Eq)]
+pub struct Searched {
+    /// One for each whole 16×16 block.
+    pub samples: usize,
+    /// How many rows of absolute differences were added to find them ('Rows added'): 736 to 6,184 for a block.
+    pub rows: u32,
+}
+
 /// Searches the motion of each whole 16×16 block of `input_y` in `ref_y` ('Search'): half planes and one word for
-/// each block, with class bits zero. Answers how many there are. The classes are judged.
+/// each block, with class bits zero. The classes are judged.
 ///
 /// # Errors
 ///
@@ -322,7 +331,7 @@ fn rooms(input_half: &[u16], ref_half: &[u16], words: &[u32], width: usize, heig
 /// let found = belt::collect_motion_samples(
 ///     &plane, &plane, 16, 16, &[3], &mut input_half, &mut ref_half, &mut words,
 /// );
-/// assert_eq!(found, Ok(1));
+/// assert_eq!(found, Ok(belt::Searched { samples: 1, rows: 736 }));
 /// assert_eq!(words, [223 << 11 | 223 << 2]);
 /// ```
 #[allow(clippy::too_many_arguments)]
@@ -335,11 +344,11 @@ pub fn collect_motion_samples(
     input_half: &mut [u16],
     ref_half: &mut [u16],
     words: &mut [u32],
-) -> Result<usize, Refusal> {
+) -> Result<Searched, Refusal> {
     let found = raw::collect_motion_samples(input_y, ref_y, width, height, classes, input_half, ref_half, words);
     judged_lists(
         found.refusal,
-        found.samples,
+        Searched { samples: found.samples, rows: found.rows },
         || planes(input_y, ref_y, classes, width, height),
         || rooms(input_half, ref_half, words, width, height),
     )

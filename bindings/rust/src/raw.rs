@@ -19,6 +19,7 @@ pub const TEXT_BYTES: usize = 4096;
 pub struct Searched {
     pub refusal: u32,
     pub samples: usize,
+    pub rows: u32,
 }
 
 #[repr(C)]

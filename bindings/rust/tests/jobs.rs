@@ -33,7 +33,10 @@ fn run(handed: &Handed) -> (Report, Buffers) {
         &mut search.ref_half,
         &mut search.words,
     );
-    assert_eq!(found, Ok(samples));
+    let found = found.expect("no row refuses");
+    assert_eq!(found.samples, samples);
+    let blocks = u32::try_from(samples).unwrap();
+    assert!((736 * blocks..=6184 * blocks).contains(&found.rows));
     assert_eq!(
         (&search.input_half, &search.ref_half, &search.words),
         (&after.input_half, &after.ref_half, &after.words)

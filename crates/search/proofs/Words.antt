@@ -18,22 +18,10 @@ use Rattle.sample.proofs.Word as word
 use Rattle.sample.proofs.Storable.{in-range-of, storable-by-index}
 use Rattle.class.specs.Class.{allBare}
 use Rattle.plane.specs.Plane.{listing, largestSide}
-use Rattle.plane.proofs.Listing.{length-listing}
+use Rattle.plane.proofs.Listing.{length-listing, getD-listing}
 use Rattle.search.specs.Search.{motion, stored, wordAt, sampleWord, sampleWords, sampleCount, blockColumns}
 use Rattle.search.proofs.Rows.{factor-pos, count-small}
 use Rattle.search.proofs.Range.{stored-motion-le-446}
-
-getD-listing : (f : ℕ → ℕ) (n i d : ℕ) → i < n → getD (listing f n) i d ≡ f i
-getD-listing f zero i d h = absurd (omega arith)
-getD-listing f (suc n) i d h = by (ltb i n) refl (λ l. getD-listing f n i d l)
-  where
-    by : (t : Bool) → ltb i n ≡ t → (i < n → getD (listing f n) i d ≡ f i) → getD (listing f (suc n)) i d ≡ f i
-    by true e r =
-        let l = ltb-true i n e in
-        List·getD-append (listing f n) (f n ∷ []) d i (rw (length-listing f n) l) ∙ r l
-    by false e r =
-        let q : i ≡ n = (let l = ltb-false i n e in omega arith) in
-        rw q (getD-at (listing f n) (f n) [] d n (length-listing f n))
 
 -- the next block comes later, row first
 next-place : (k m : ℕ) → 0 < m → m ≤ 64 → k / m * 64 + k % m < (k + 1) / m * 64 + (k + 1) % m

@@ -7,7 +7,8 @@ use lib.ListN.{length}
 use Rattle.plane.specs.declared.Place.{Place}
 use Rattle.plane.specs.Plane.{halfPlane}
 use Rattle.plane.specs.Inner.{Small}
-use Rattle.search.specs.Search.{blockColumns, blockRows, sampleCount}
+use Rattle.search.specs.Search.{blockColumns, blockRows, sampleCount, wordAt, motionEarly}
+use Rattle.search.specs.declared.blocks.Sampled.{Sampled}
 
 -- two planes, and their half planes
 pub record Halves (input ref inputHalf refHalf : List ℕ) (w h : ℕ) : Type 0 where
@@ -34,3 +35,7 @@ pub record Ready (input ref : List ℕ) (w h : ℕ) (inputHalf refHalf words : L
   pub words-room : Room w h words
   pub input-room : h / 2 * (w / 2) ≤ length inputHalf
   pub ref-room : h / 2 * (w / 2) ≤ length refHalf
+
+-- a block's word, and the rows added to find it
+abbrev pub sampledAt : List ℕ → List ℕ → ℕ → ℕ → ℕ → ℕ → Sampled
+sampledAt input ref w h R C = record { word = wordAt input ref w h R C; rows = motionEarly input ref w h R C .rows }

@@ -12,7 +12,7 @@ use Rattle.laws.specs.Call.{answered, left}
 use Rattle.class.specs.Class.{lastClass, classOver}
 use Rattle.plane.specs.Plane.{halfPlane, largestSide}
 use Rattle.search.specs.declared.Searched.{Searched}
-use Rattle.search.specs.Search.{sampleCount, sampleWords}
+use Rattle.search.specs.Search.{sampleCount, sampleWords, rowsAdded}
 
 -- what goes in
 pub record Task : Type 0 where
@@ -59,10 +59,12 @@ refusal t l =
 
 -- a refused search has found nothing
 abbrev pub refused : ℕ → Searched
-refused n = record { refusal = n; samples = 0 }
+refused n = record { refusal = n; samples = 0; rows = 0 }
 
 unfoldable pub answer : Task → Lent → Searched
-answer t l = answered refused (refusal t l) (record { refusal = 0; samples = sampleCount (t .width) (t .height) })
+answer t l =
+    answered refused (refusal t l)
+    (record { refusal = 0; samples = sampleCount (t .width) (t .height); rows = rowsAdded (t .input) (t .ref) (t .width) (t .height) })
 
 -- the half planes and the words, from the front of each buffer; with no samples nothing
 abbrev pub written : Task → Lent → Lent

@@ -157,7 +157,8 @@ fn search(case: &mut Case) -> Result<(), String> {
         words,
     );
     let words = searched(&pair, &mut theirs);
-    same("samples", row(found), Ok(words.len()))?;
+    let rows = oracle::rows::search(&pair.input, &pair.reference, width, height).0;
+    same("samples and rows added", row(found.map(|found| (found.samples, found.rows))), Ok((words.len(), rows)))?;
     same_list("half plane of the input", &ours.input_half, &theirs.input_half)?;
     same_list("half plane of the reference", &ours.ref_half, &theirs.ref_half)?;
     same_list("words", &ours.words, &theirs.words)

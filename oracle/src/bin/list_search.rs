@@ -1,6 +1,8 @@
-//! The list for `worked_search`: a count, then for each case 29 words of what is asked, five of what must
+//! The lists for `worked_search`. The first: a count, then for each case 29 words of what is asked, six of what must
 //! come back, and the sample words. The planes of a case are windows on a texture made from a seed. The
-//! answers are the Rust's; refusals go by the rows 1, 2, 4, 3 of docs/RULES.md. The argument is the file to write.
+//! answers are the Rust's; refusals go by the rows 1, 2, 4, 3 of docs/RULES.md, and the rows added by `oracle::rows`.
+//! The second: a count, then for each case its sides and pels, the pels of both planes, the samples, the rows added and
+//! the sample words. The arguments are the files to write.
 
 use oracle::list::{Lcg, List};
 use std::{env, io};
@@ -66,14 +68,34 @@ fn tiles(period: u32) -> Texture {
 }
 
 fn main() -> io::Result<()> {
-    let path = env::args().nth(1).expect("the argument is the file to write");
+    let path = |n| env::args().nth(n).expect("the arguments are the files to write");
     let cases: Vec<Case> = [pairs(), shifts(), edges(), rooms(), refusals()].concat();
     let mut list = List::default();
     list.push(cases.len() as u32);
     for case in cases {
         answer(&mut list, case);
     }
-    list.write(path)
+    list.write(path(1))?;
+
+    let mut planes = List::default();
+    let pairs = oracle::rows::worked();
+    planes.push(pairs.len() as u32);
+    for (width, height, input, reference, rows) in pairs {
+        let words = oracle::sample_words(&input, &reference, width, height);
+        assert_eq!(oracle::rows::search(&input, &reference, width, height).0, rows, "a worked count of docs/RULES.md");
+        for word in [width, height, input.len()] {
+            planes.push(word as u32);
+        }
+        for pel in [&input, &reference].into_iter().flatten() {
+            planes.push(u32::from(*pel));
+        }
+        planes.push(words.len() as u32);
+        planes.push(rows);
+        for word in words {
+            planes.push(word);
+        }
+    }
+    planes.write(path(2))
 }
 
 /// Two windows at the same place, each on its own texture, with everything in order.
@@ -302,11 +324,13 @@ fn answer(list: &mut List, case: Case) {
     let refusal = refusal(&case);
     let mut half_planes = [Vec::new(), Vec::new()];
     let mut words = Vec::new();
+    let mut rows = 0;
     if refusal == 0 {
         let (width, height) = (case.width, case.height);
         let [input, reference] = [case.input, case.reference].map(|w| plane(&case, w));
         words = oracle::sample_words(&input, &reference, width, height);
         if !words.is_empty() {
+            rows = oracle::rows::search(&input, &reference, width, height).0;
             half_planes = [input, reference].map(|p| oracle::half_plane(&p, width, height));
         }
     }
@@ -315,6 +339,7 @@ fn answer(list: &mut List, case: Case) {
     }
     list.push(refusal);
     list.push(words.len() as u32);
+    list.push(rows);
     list.push(half_planes[0].len() as u32);
     for half in &half_planes {
         list.push(sum(half));
