@@ -3,7 +3,7 @@
 use std::fmt;
 use std::hint::black_box;
 
-use belt::{Buffers, Fitted, Frame, Lent, Model, MotionSample, Refusal};
+use belt::{Buffers, Fitted, Frame, Lent, Model, MotionSample, Refusal, Searched};
 use oracle::Samples;
 
 use crate::frames;
@@ -12,8 +12,11 @@ use crate::inputs::{self, AFFINE, FRAME, HIGH_PRECISION, IDENTITY, PARAMS, ROTZO
 use crate::job::Job;
 
 /// What a ratio is held to.
-const LARGE_SEARCH: f64 = 0.30;
-const NO_SLOWER: f64 = 1.0;
+const NOISE: f64 = 0.20;
+const TEXTURED: f64 = 0.13;
+const STATIC: f64 = 0.05;
+const SMALL_SEARCH: f64 = 0.20;
+const JOB: f64 = 0.15;
 const SUMS: f64 = 1.1;
 const SMALL_FITS: f64 = 1.2;
 
@@ -26,7 +29,7 @@ pub enum Case {
     ScoreSamples(usize),
     QuantizeModel(u8, usize),
     WriteFrame(usize),
-    ReadFrame(usize),
+    ReadFrame(u8, usize),
     WriteHeader(u8, Distance),
     ReadHeader(u8, Distance),
     WholeJob(u8, usize, usize),
@@ -57,7 +60,7 @@ pub fn all() -> Vec<Case> {
     cases.extend(counts.map(ScoreSamples));
     cases.extend(kinds.iter().flat_map(|&kind| counts.map(|n| QuantizeModel(kind, n))));
     cases.extend(counts.map(WriteFrame));
-    cases.extend(counts.map(ReadFrame));
+    cases.extend([2, 1].iter().flat_map(|&form| counts.map(|n| ReadFrame(form, n))));
     cases.extend(header_kinds.iter().flat_map(|&kind| Distance::ALL.map(|prior| WriteHeader(kind, prior))));
     cases.extend(header_kinds.iter().flat_map(|&kind| Distance::ALL.map(|prior| ReadHeader(kind, prior))));
     cases.extend(kinds.iter().flat_map(|&kind| job_sides.map(|(width, height)| WholeJob(kind, width, height))));
@@ -77,8 +80,8 @@ impl fmt::Display for Case {
             Score(n) => write!(f, "score | {n} words"),
             ScoreSamples(n) => write!(f, "score | {n} samples"),
             QuantizeModel(kind, n) => write!(f, "quantize_model | {}, {n} words", type_name(kind)),
-            WriteFrame(n) => write!(f, "write_frame | {n} words"),
-            ReadFrame(n) => write!(f, "read_frame | {n} words"),
+            WriteFrame(n) => write!(f, "write_frame | form 2, {n} samples"),
+            ReadFrame(form, n) => write!(f, "read_both | form {form}, {n} samples"),
             WriteHeader(kind, prior) => write!(f, "header write | seven {}, prior {}", type_name(kind), prior.name()),
             ReadHeader(kind, prior) => write!(f, "header read | seven {}, prior {}", type_name(kind), prior.name()),
             WholeJob(kind, width, height) => write!(f, "job | {}, textured {width}×{height}", type_name(kind)),
@@ -90,8 +93,13 @@ impl Case {
     /// The largest ratio that is wanted.
     pub fn most(&self) -> Option<f64> {
         match *self {
-            Search(Scene::Noise | Scene::Textured, _, 480..) => Some(LARGE_SEARCH),
-            Search(..) => Some(NO_SLOWER),
+            Search(scene, _, 480..) => Some(match scene {
+                Scene::Noise => NOISE,
+                Scene::Textured => TEXTURED,
+                Scene::Static => STATIC,
+            }),
+            Search(..) => Some(SMALL_SEARCH),
+            WholeJob(..) => Some(JOB),
             Fit(_, 16) => Some(SMALL_FITS),
             Fit(_, 4096) | FitSamples(_, 4096) | Score(4096) | ScoreSamples(4096) => Some(SUMS),
             _ => None,
@@ -112,7 +120,7 @@ impl Case {
             ScoreSamples(n) => score_samples(n),
             QuantizeModel(kind, n) => quantize_model(kind, n),
             WriteFrame(n) => write_frame(n),
-            ReadFrame(n) => read_frame(n),
+            ReadFrame(form, n) => read_frame(form, n),
             WriteHeader(kind, prior) => write_header(kind, prior),
             ReadHeader(kind, prior) => read_header(kind, prior),
             WholeJob(kind, width, height) => whole_job(kind, width, height),
@@ -128,7 +136,7 @@ fn searched(
     height: usize,
     classes: &[u8],
     lent: &mut Buffers,
-) -> Result<usize, Refusal> {
+) -> Result<Searched, Refusal> {
     let Lent { input_half, ref_half, words, .. } = lent.lend();
     belt::collect_motion_samples(input, reference, width, height, classes, input_half, ref_half, words)
 }
@@ -139,8 +147,8 @@ fn search(scene: Scene, width: usize, height: usize) -> Sides {
     let mut lent = Buffers::new(width, height);
 
     let answer = searched(&input, &reference, width, height, &classes, &mut lent);
-    assert_eq!(answer, Ok(classes.len()));
-    assert_eq!(lent.words, oracle::sample_words(&input, &reference, width, height, &classes));
+    assert_eq!(answer.map(|found| found.samples), Ok(classes.len()));
+    assert_eq!(lent.words, oracle::sample_words(&input, &reference, width, height));
     assert_eq!(lent.input_half, oracle::half_plane(&input, width, height));
     assert_eq!(lent.ref_half, oracle::half_plane(&reference, width, height));
 
@@ -285,43 +293,58 @@ fn quantize_model(kind: u8, n: usize) -> Sides {
     )
 }
 
+/// Words with class bits zero, and a class for each.
+fn samples(n: usize) -> (Vec<u32>, Vec<u8>) {
+    (oracle::blocks::words(n as u32, n).iter().map(|word| word & !3).collect(), inputs::classes(n))
+}
+
 fn write_frame(n: usize) -> Sides {
-    let words = oracle::blocks::words(n as u32, n);
+    let (words, classes) = samples(n);
     let count = frames::block_count(n);
     let mut ours = vec![0; frames::BLOCK * count];
     let mut rust = ours.clone();
-    assert_eq!(belt::write_frame(FRAME, &words, &mut ours), Ok(count));
-    assert_eq!(frames::write(FRAME, &words, &mut rust), Ok(count));
-    assert!(ours == rust && ours == oracle::blocks::write(FRAME, &words));
+    assert_eq!(belt::write_frame(FRAME, &words, &classes, &mut ours), Ok(count));
+    assert_eq!(frames::write(FRAME, &words, &classes, &mut rust), Ok(count));
+    assert!(ours == rust);
 
-    let rust_words = words.clone();
+    let (rust_words, rust_classes) = (words.clone(), classes.clone());
     Sides {
         ours: Box::new(move || {
-            black_box(belt::write_frame(FRAME, black_box(&words), black_box(&mut ours)).ok());
+            black_box(belt::write_frame(FRAME, black_box(&words), &classes, black_box(&mut ours)).ok());
         }),
         rust: Box::new(move || {
-            black_box(frames::write(FRAME, black_box(&rust_words), black_box(&mut rust)).ok());
+            black_box(frames::write(FRAME, black_box(&rust_words), &rust_classes, black_box(&mut rust)).ok());
         }),
         ready: None,
     }
 }
 
-fn read_frame(n: usize) -> Sides {
-    let words = oracle::blocks::words(n as u32, n);
-    let blocks = oracle::blocks::write(FRAME, &words);
-    let mut ours = vec![0; n];
-    let mut rust = ours.clone();
-    assert_eq!(belt::read_frame(&blocks, &mut ours), Ok(Frame { number: FRAME, samples: n }));
-    assert_eq!(frames::read(&blocks, &mut rust), Ok((FRAME, n)));
-    assert!(ours == words && rust == words);
+/// A frame of a form; form 1 comes from form 2 by conversion, and so has no film.
+fn read_frame(form: u8, n: usize) -> Sides {
+    let (words, mut classes) = samples(n);
+    if form == 1 {
+        classes.fill(belt::METAL);
+    }
+    let mut blocks = vec![0; frames::BLOCK * frames::block_count(n)];
+    frames::write(FRAME, &words, &classes, &mut blocks).expect("samples that can be stored");
+    if form == 1 {
+        let stored = blocks.clone();
+        let count = belt::to_form1(&stored, &mut blocks).expect("a frame without film");
+        blocks.truncate(frames::BLOCK * count);
+    }
+    let (mut ours, mut ours_classes) = (vec![0; n], vec![0; n]);
+    let (mut rust, mut rust_classes) = (vec![0; n], vec![0; n]);
+    assert_eq!(belt::read_both(&blocks, &mut ours, &mut ours_classes), Ok(Frame { number: FRAME, samples: n }));
+    assert_eq!(frames::read(&blocks, &mut rust, &mut rust_classes), Ok((FRAME, n)));
+    assert!(ours == words && rust == words && ours_classes == classes && rust_classes == classes);
 
     let rust_blocks = blocks.clone();
     Sides {
         ours: Box::new(move || {
-            black_box(belt::read_frame(black_box(&blocks), black_box(&mut ours)).ok());
+            black_box(belt::read_both(black_box(&blocks), black_box(&mut ours), &mut ours_classes).ok());
         }),
         rust: Box::new(move || {
-            black_box(frames::read(black_box(&rust_blocks), black_box(&mut rust)).ok());
+            black_box(frames::read(black_box(&rust_blocks), black_box(&mut rust), &mut rust_classes).ok());
         }),
         ready: None,
     }

@@ -82,7 +82,7 @@ pub const FRAME: u16 = 5;
 
 /// Each class in its turn.
 pub fn classes(samples: usize) -> Vec<u8> {
-    (0..samples).map(|i| (i % 4) as u8).collect()
+    (0..samples).map(|i| (i % 5) as u8).collect()
 }
 
 /// How many numbers a model of this type carries.

@@ -55,8 +55,8 @@ impl Job {
     pub fn rust_run(&self, left: &mut Buffers) -> Option<Report> {
         let Settings { frame, gm_type, .. } = self.settings;
         let found = oracle::search(&self.input, &self.reference, self.width, self.height);
-        for ((word, sample), &class) in left.words.iter_mut().zip(&found).zip(&self.classes) {
-            *word = oracle::word_of(sample, class);
+        for (word, sample) in left.words.iter_mut().zip(&found) {
+            *word = oracle::word_of(sample);
         }
         let samples = Samples::new(&found);
         let model = samples.quantize_model(&samples.fit(gm_type)?, gm_type, true);
@@ -67,7 +67,7 @@ impl Job {
         header.models[0] = Model(model).row_first(gm_type).0;
         let (bytes, bits) = header.rust_write();
         left.header[..bytes.len()].copy_from_slice(&bytes);
-        frames::write(frame, &left.words, &mut left.blocks).ok()?;
+        frames::write(frame, &left.words, &self.classes, &mut left.blocks).ok()?;
         let models = header.models.map(StoredModel);
         Some(Report { types: header.types, models, score, bits, samples: found.len() })
     }

@@ -88,13 +88,16 @@ fn compare_the_rest() {
     assert_eq!(belt::quantize_global_param(4, 0, 0, 1), Err(Refusal::NoSuchCode));
 
     let mut text = [0; belt::TEXT_BYTES];
-    let mut blocks = oracle::blocks::write(7, &oracle::blocks::words(3, 300));
-    blocks[600] ^= 1;
-    blocks.truncate(2 * frames::BLOCK + 511);
-    for bytes in blocks.chunks(frames::BLOCK) {
-        assert_eq!(belt::list_block(bytes, &mut text), oracle::blocks::text(bytes));
-        let ours = belt::judge_block(bytes).map(|block| block.count).map_err(Refusal::number);
-        assert_eq!(ours, oracle::blocks::judge_alone(bytes).map(|words| words.len()));
+    let samples = oracle::blocks::samples(&oracle::blocks::words(3, 300));
+    for form in [oracle::blocks::ONE, oracle::blocks::TWO] {
+        let mut blocks = oracle::blocks::write(form, 7, &samples);
+        blocks[600] ^= 1;
+        blocks.truncate(2 * frames::BLOCK + 511);
+        for bytes in blocks.chunks(frames::BLOCK) {
+            assert_eq!(belt::list_block(bytes, &mut text), oracle::blocks::text(bytes));
+            let ours = belt::judge_block(bytes).map(|block| block.count).map_err(Refusal::number);
+            assert_eq!(ours, oracle::blocks::judge_alone(bytes).map(|samples| samples.len()));
+        }
     }
 }
 

@@ -33,8 +33,9 @@
 #define BELT_MOST_SAMPLES 4096    /* the most samples of a frame or a list */
 #define BELT_MOST_EIGHTHS 223     /* no motion passes it either way: 27.875 pels */
 #define BELT_MOST_SHIFT 24        /* the largest component of a practice belt's motion, in pels */
-#define BELT_BLOCK_BYTES 512      /* a sample block */
-#define BELT_BLOCK_WORDS 125      /* the most words in it */
+#define BELT_BLOCK_BYTES 512      /* a sample block, of either form */
+#define BELT_FORM_1_SAMPLES 125   /* the most samples in one of form 1 */
+#define BELT_FORM_2_SAMPLES 100   /* and of form 2 */
 #define BELT_HEADER_BYTES 125     /* enough for every header at every start; a job asks for as many */
 #define BELT_TEXT_BYTES 4096      /* enough for every block's text */
 #define BELT_REFERENCES 7
@@ -48,7 +49,8 @@ extern "C" {
 #endif
 
 enum belt_type { BELT_IDENTITY = 0, BELT_TRANSLATION = 1, BELT_ROTZOOM = 2, BELT_AFFINE = 3 };
-enum belt_class { BELT_UNSORTED = 0, BELT_FIBRE = 1, BELT_RIGID_PLASTIC = 2, BELT_METAL = 3 };
+enum belt_class { BELT_UNSORTED = 0, BELT_FIBRE = 1, BELT_RIGID_PLASTIC = 2, BELT_METAL = 3, BELT_FILM = 4 };
+enum belt_form { BELT_FORM_1 = 1, BELT_FORM_2 = 2 };
 enum belt_flag { BELT_LOW_PRECISION = 0, BELT_HIGH_PRECISION = 1 };
 
 /* The rows, in the order in which they are judged. */
@@ -63,7 +65,9 @@ enum belt_refusal {
     BELT_OFF_GRID = 7,
     BELT_PRIOR_OUT = 8,
     BELT_NOT_RISING = 12,
+    BELT_NOT_HELD = 13,
     BELT_TOO_SHORT = 3,
+    BELT_SHUTTER_CLOSED = 17,
     BELT_SINGULAR = 6,
     BELT_ENDS_FIRST = 9,
     BELT_WRONG_CHECK = 10,
@@ -83,7 +87,9 @@ static inline const char *belt_refusal_text(uint32_t refusal) {
     case BELT_OFF_GRID: return "model off the grid, uncarried slot or pair wrong";
     case BELT_PRIOR_OUT: return "prior out of range";
     case BELT_NOT_RISING: return "words to store out of range or not rising";
+    case BELT_NOT_HELD: return "class 4 to be stored in form 1";
     case BELT_TOO_SHORT: return "output or working buffer too short";
+    case BELT_SHUTTER_CLOSED: return "frame number 0: the shutter was closed";
     case BELT_SINGULAR: return "elimination refuses";
     case BELT_ENDS_FIRST: return "bytes end before the last bit or block";
     case BELT_WRONG_CHECK: return "block check wrong";
@@ -92,19 +98,34 @@ static inline const char *belt_refusal_text(uint32_t refusal) {
     }
 }
 
-/* How many samples a plane has, how many values each of its half planes, and how many bytes the blocks of so many
-   samples: the room that a search or a job asks for. */
+/* A class's word; "no such class" for a number over BELT_FILM. */
+static inline const char *belt_class_text(uint8_t class_code) {
+    switch (class_code) {
+    case BELT_UNSORTED: return "unsorted";
+    case BELT_FIBRE: return "fibre";
+    case BELT_RIGID_PLASTIC: return "rigid plastic";
+    case BELT_METAL: return "metal";
+    case BELT_FILM: return "film";
+    default: return "no such class";
+    }
+}
+
+/* How many samples a plane has, how many values each of its half planes, and how many blocks and bytes so many samples
+   take in a form: the room that a call asks for. A job stores BELT_FORM_2. */
 static inline size_t belt_sample_count(size_t width, size_t height) {
     return (width / BELT_BLOCK_SIDE) * (height / BELT_BLOCK_SIDE);
 }
 static inline size_t belt_half_plane_values(size_t width, size_t height) {
     return belt_sample_count(width, height) == 0 ? 0 : (width / 2) * (height / 2);
 }
-static inline size_t belt_blocks_of(size_t samples) {
-    return samples / BELT_BLOCK_WORDS + (samples % BELT_BLOCK_WORDS != 0);
+static inline size_t belt_form_samples(enum belt_form form) {
+    return form == BELT_FORM_1 ? BELT_FORM_1_SAMPLES : BELT_FORM_2_SAMPLES;
 }
-static inline size_t belt_block_bytes(size_t samples) {
-    return BELT_BLOCK_BYTES * belt_blocks_of(samples);
+static inline size_t belt_blocks_of(size_t samples, enum belt_form form) {
+    return samples / belt_form_samples(form) + (samples % belt_form_samples(form) != 0);
+}
+static inline size_t belt_block_bytes(size_t samples, enum belt_form form) {
+    return BELT_BLOCK_BYTES * belt_blocks_of(samples, form);
 }
 
 /* A model, six numbers at 16 fraction bits, in one of two orders that can't be told apart by their numbers; so they
@@ -134,8 +155,8 @@ static inline struct belt_model belt_x_first(uint8_t type, struct belt_stored_mo
 struct belt_motion_sample { double x; double y; double u; double v; };
 /* A fitted model to be put on the grid: its type, 1 to 3, the flag, and the numbers of its fit. */
 struct belt_to_quantize { uint8_t type; uint8_t flag; double numbers[6]; };
-/* How many samples were found. */
-struct belt_searched { uint32_t refusal; size_t samples; };
+/* How many samples were found, and how many rows of absolute differences were added to find them. */
+struct belt_searched { uint32_t refusal; size_t samples; uint32_t rows; };
 /* Two numbers of a translation, four of a rotation-zoom, six of an affine model, x first, zeros after them. */
 struct belt_fit_answer { uint32_t refusal; double numbers[6]; };
 struct belt_quantized_model { uint32_t refusal; struct belt_model model; };
@@ -175,8 +196,9 @@ struct belt_made { uint32_t refusal; size_t pels; };
 
 /* Motion search ('Search').
    In: two planes of width x height pels, row by row, and a class for each whole 16x16 block.
-   Out: both half planes, belt_half_plane_values each, and one sample word for each block, row by row. With a side
-   under 16 there are no samples, and the buffers aren't touched. Motion beyond BELT_MOST_EIGHTHS isn't found, and
+   Out: both half planes, belt_half_plane_values each, and one sample word for each block, row by row, with class bits
+   zero: the classes stand beside the words. With a side under 16 there are no samples, and the buffers aren't touched.
+   The rows added are 736 to 6,184 for a block ('Rows added'). Motion beyond BELT_MOST_EIGHTHS isn't found, and
    isn't refused: belt_agreeing of belt_motion.h shows it.
    Refuses: 1, 2, 4, 3. */
 struct belt_searched belt_collect_motion_samples(
@@ -224,26 +246,42 @@ struct belt_score belt_mean_sq_residual_samples(
    Refuses: 4, 5. */
 struct belt_quantized_param belt_quantize_global_param(uint8_t type, uint8_t flag, uint8_t slot, int32_t value);
 
-/* A frame's words as blocks ('Sample block').
-   In: the frame number and up to 4,096 words, rising by row and column. Out: belt_block_bytes of so many words.
-   Refuses: 1, 12, 3. */
+/* A frame's samples as blocks of form 2 ('Sample block').
+   In: the frame number, up to 4,096 words, rising by row and column, with class bits zero, and a class for each.
+   Out: belt_block_bytes of so many samples in BELT_FORM_2.
+   Refuses: 1, 2, 4, 12 (class bits set too), 3, 17 (also without words). */
 struct belt_stored belt_write_frame(
-    uint16_t frame, const uint32_t *words, size_t word_count, uint8_t *blocks, size_t blocks_room);
+    uint16_t frame, const uint32_t *words, size_t word_count, const uint8_t *classes, size_t class_count,
+    uint8_t *blocks, size_t blocks_room);
 
-/* A frame's blocks as words ('Sample block').
+/* A frame's blocks of either form as words and classes ('Sample block').
    In: bytes that begin with the frame's blocks; those after its last block aren't read. Out: the frame
-   number and the words. No bytes read as frame 0 with no samples.
-   Refuses: 9, 10, 11, 3. */
+   number, the words, with class bits zero, and a class for each. No bytes read as frame 0 with no samples.
+   Refuses: 9, 10, 11 (a frame of mixed forms too), 17, 3 (either buffer). */
+struct belt_frame_read belt_read_both(
+    const uint8_t *bytes, size_t byte_count, uint32_t *words, size_t word_room, uint8_t *classes, size_t class_room);
+
+/* A frame's blocks of form 1 as words with their classes in them ('Sample block').
+   In and out as for belt_read_both, but that there is one buffer, and that form 2 is refused.
+   Refuses: 9, 10, 11 (form 2 too), 17, 3. */
 struct belt_frame_read belt_read_frame(const uint8_t *bytes, size_t byte_count, uint32_t *words, size_t word_room);
 
-/* One block without its neighbours ('Sample block').
-   In: bytes that begin with the block. Out: its frame number, its ordinal and how many words it holds.
+/* A frame's blocks of the one form as blocks of the other ('Sample block').
+   In: bytes that begin with the frame's blocks. Out: belt_block_bytes of its samples in the form to come. Every motion
+   and class is carried over. No bytes are a frame without blocks.
+   Refuses: 9, 10, 11 (a frame that has the form already, or mixed forms, too), 17; to form 1 also 13, a frame with
+   BELT_FILM; 3. */
+struct belt_stored belt_to_form1(const uint8_t *bytes, size_t byte_count, uint8_t *blocks, size_t blocks_room);
+struct belt_stored belt_to_form2(const uint8_t *bytes, size_t byte_count, uint8_t *blocks, size_t blocks_room);
+
+/* One block of either form without its neighbours ('Sample block').
+   In: bytes that begin with the block. Out: its frame number, its ordinal and how many samples it holds.
    Refuses: 9, 10, 11. */
 struct belt_block_read belt_judge_block(const uint8_t *bytes, size_t byte_count);
 
-/* A block as text ('Job').
+/* A block of either form as text ('Job').
    In: bytes that begin with the block. Out: how many of the 4,096 bytes the text takes: a line with frame,
-   ordinal and count, then a line for each word with row, column, v, u in eighths and class; or 'refused'
+   ordinal and count, then a line for each sample with row, column, v, u in eighths and class; or 'refused'
    and the number. Nothing ends the text. It refuses nothing. */
 size_t belt_list_block(const uint8_t *bytes, size_t byte_count, uint8_t text[BELT_TEXT_BYTES]);
 
@@ -306,10 +344,11 @@ struct belt_price belt_frame_price(
 /* A whole job: search, fit, grid, score, blocks and header ('Job').
    In: two planes, the settings, a class for each whole 16x16 block, 6 types and 6 models (36 numbers) of the other
    references in rising order, as stored, and the 42 numbers of the prior.
-   Out: the report; half planes and words as the search leaves them; the frame's blocks; the header, from the
-   settings' start on. The header buffer needs BELT_HEADER_BYTES, whatever the start. A header read from there is the
-   report's models, and blocks read as its words.
-   Refuses: 1, 2, 4, 5, 14, 7, 8, 3, 6. After 6 the half planes and the words are in their buffers, and
+   Out: the report; half planes and words as the search leaves them; the frame's blocks, of form 2; the header,
+   from the settings' start on. The header buffer needs BELT_HEADER_BYTES, whatever the start, the blocks'
+   belt_block_bytes of the samples in BELT_FORM_2. A header read from there is the report's models, and by
+   belt_read_both the blocks read as the words and the classes.
+   Refuses: 1, 2, 4, 5, 14, 7, 8, 3, 17, 6. After 6 the half planes and the words are in their buffers, and
    blocks and header are as they were. */
 struct belt_report belt_job(
     const uint16_t *input, size_t input_pels,

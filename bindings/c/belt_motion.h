@@ -9,8 +9,9 @@
 
 #include "belt.h"
 
-/* A sample: block row and column, the block's centre and its motion in pels, its class. */
-struct belt_sample { uint32_t row; uint32_t column; double x; double y; double u; double v; uint8_t class_code; };
+/* A sample: block row and column, the block's centre and its motion in pels, and its class bits: its class in a word
+   that was read by belt_read_frame; 0 where the classes stand beside the words. */
+struct belt_sample { uint32_t row; uint32_t column; double x; double y; double u; double v; uint8_t class_bits; };
 
 /* A motion in pels. */
 struct belt_motion { double u; double v; };
@@ -23,7 +24,7 @@ static inline struct belt_sample belt_sample_of(uint32_t word) {
     sample.y = 16.0 * sample.row + 7.5;
     sample.u = ((double)(word >> 2 & 511) - BELT_MOST_EIGHTHS) / 8.0;
     sample.v = ((double)(word >> 11 & 511) - BELT_MOST_EIGHTHS) / 8.0;
-    sample.class_code = (uint8_t)(word & 3);
+    sample.class_bits = (uint8_t)(word & 3);
     return sample;
 }
 

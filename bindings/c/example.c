@@ -15,7 +15,7 @@ enum {
     PELS = WIDTH * HEIGHT,
     HALF = (WIDTH / 2) * (HEIGHT / 2),
     SAMPLES = (WIDTH / 16) * (HEIGHT / 16),
-    BLOCKS = (SAMPLES + BELT_BLOCK_WORDS - 1) / BELT_BLOCK_WORDS * BELT_BLOCK_BYTES
+    BLOCKS = (SAMPLES + BELT_FORM_2_SAMPLES - 1) / BELT_FORM_2_SAMPLES * BELT_BLOCK_BYTES
 };
 
 static const struct belt_stored_model identity = {BELT_IDENTITY_PARAMS};
@@ -23,7 +23,7 @@ static const struct belt_stored_model identity = {BELT_IDENTITY_PARAMS};
 static struct belt_stored_model prior[BELT_REFERENCES];
 static uint16_t input[PELS], reference[PELS], input_half[HALF], ref_half[HALF];
 static uint32_t words[SAMPLES], words_read[SAMPLES];
-static uint8_t classes[SAMPLES], blocks[BLOCKS], header[BELT_HEADER_BYTES], text[BELT_TEXT_BYTES];
+static uint8_t classes[SAMPLES], classes_read[SAMPLES], blocks[BLOCKS], header[BELT_HEADER_BYTES], text[BELT_TEXT_BYTES];
 
 /* A value for each place, without a pattern. */
 static uint16_t pel(uint32_t y, uint32_t x) {
@@ -114,10 +114,10 @@ static void read_back(const struct belt_report *report, struct belt_settings set
     same(read.bits == report->bits && memcmp(read.types, report->types, sizeof read.types) == 0 &&
              memcmp(read.models, report->models, sizeof read.models) == 0,
          "header read back");
-    struct belt_frame_read frame = belt_read_frame(blocks, BLOCKS, words_read, SAMPLES);
-    refused("belt_read_frame", frame.refusal);
+    struct belt_frame_read frame = belt_read_both(blocks, BLOCKS, words_read, SAMPLES, classes_read, SAMPLES);
+    refused("belt_read_both", frame.refusal);
     same(frame.frame == settings.frame && frame.samples == report->samples &&
-             memcmp(words_read, words, sizeof words) == 0,
+             memcmp(words_read, words, sizeof words) == 0 && memcmp(classes_read, classes, sizeof classes) == 0,
          "blocks read back");
 }
 
@@ -135,7 +135,8 @@ static void by_single_calls(const struct belt_report *report, struct belt_settin
         input, PELS, reference, PELS, WIDTH, HEIGHT, classes, SAMPLES, halves[0], HALF, halves[1], HALF, words_read,
         SAMPLES);
     refused("belt_collect_motion_samples", found.refusal);
-    same(found.samples == report->samples && memcmp(halves[0], input_half, sizeof input_half) == 0 &&
+    same(found.samples == report->samples && found.rows >= 736 * SAMPLES && found.rows <= 6184 * SAMPLES &&
+             memcmp(halves[0], input_half, sizeof input_half) == 0 &&
              memcmp(halves[1], ref_half, sizeof ref_half) == 0 && memcmp(words_read, words, sizeof words) == 0,
          "search");
 
@@ -178,11 +179,12 @@ static void by_single_calls(const struct belt_report *report, struct belt_settin
              memcmp(&score_again.score, &score.score, sizeof score.score) == 0,
          "fit, model and score over samples");
 
-    struct belt_stored put = belt_write_frame(settings.frame, words_read, SAMPLES, blocks_again, BLOCKS);
+    struct belt_stored put =
+        belt_write_frame(settings.frame, words_read, SAMPLES, classes, SAMPLES, blocks_again, BLOCKS);
     refused("belt_write_frame", put.refusal);
     struct belt_block_read judged = belt_judge_block(blocks_again, BLOCKS);
     refused("belt_judge_block", judged.refusal);
-    same(put.blocks == belt_blocks_of(SAMPLES) && judged.frame == settings.frame && judged.ordinal == 0 &&
+    same(put.blocks == belt_blocks_of(SAMPLES, BELT_FORM_2) && judged.frame == settings.frame && judged.ordinal == 0 &&
              judged.count == SAMPLES && memcmp(blocks_again, blocks, sizeof blocks) == 0,
          "blocks");
     struct belt_written wrote = belt_encode_inter_global_motion(
@@ -190,6 +192,25 @@ static void by_single_calls(const struct belt_report *report, struct belt_settin
         header_again, BELT_HEADER_BYTES);
     refused("belt_encode_inter_global_motion", wrote.refusal);
     same(wrote.bits == report->bits && memcmp(header_again, header, (settings.start + wrote.bits + 7) / 8) == 0, "header");
+}
+
+/* Frames with and without film, carried to form 1 and back. */
+static void conversions(void) {
+    static uint8_t old[BLOCKS], back[BLOCKS], unsorted[SAMPLES];
+    struct belt_stored converted = belt_to_form1(blocks, BLOCKS, old, BLOCKS);
+    wants("a frame with film to form 1", converted.refusal, BELT_NOT_HELD);
+    refused("belt_write_frame", belt_write_frame(5, words, SAMPLES, unsorted, SAMPLES, blocks, BLOCKS).refusal);
+    converted = belt_to_form1(blocks, BLOCKS, old, BLOCKS);
+    refused("belt_to_form1", converted.refusal);
+    struct belt_frame_read frame = belt_read_frame(old, BLOCKS, words_read, SAMPLES);
+    refused("belt_read_frame", frame.refusal);
+    same(converted.blocks == belt_blocks_of(SAMPLES, BELT_FORM_1) && memcmp(words_read, words, sizeof words) == 0,
+         "words of form 1");
+    refused("belt_to_form2", belt_to_form2(old, BLOCKS, back, BLOCKS).refusal);
+    same(memcmp(back, blocks, sizeof blocks) == 0, "to form 1 and back");
+    wants("form 2 by the reader of form 1", belt_read_frame(blocks, BLOCKS, words_read, SAMPLES).refusal,
+          BELT_WRONG_BLOCK);
+    wants("form 2 to form 2", belt_to_form2(blocks, BLOCKS, back, BLOCKS).refusal, BELT_WRONG_BLOCK);
 }
 
 /* A pan by 40 columns is beyond the range: no row refuses it, but few samples agree. */
@@ -213,6 +234,8 @@ static void refusals(struct belt_settings settings) {
     memcpy(moving, prior, sizeof moving);
     moving[0].params[0] = 8192;
     wants("a job on a plane that is a pel short", run(settings, PELS - 1).refusal, BELT_WRONG_LENGTH);
+    settings.frame = 0;
+    wants("a job on frame 0", run(settings, PELS).refusal, BELT_SHUTTER_CLOSED);
     wants("a search of a plane 1,025 wide",
           belt_collect_motion_samples(input, PELS, reference, PELS, 1025, HEIGHT, classes, SAMPLES, input_half, HALF,
                                       ref_half, HALF, words, SAMPLES)
@@ -233,8 +256,11 @@ static void refusals(struct belt_settings settings) {
           BELT_NO_SUCH_CODE);
     wants("type 4 on the grid", belt_quantize_model(4, numbers, 1, words, SAMPLES).refusal, BELT_NO_SUCH_CODE);
     wants("slot 6", belt_quantize_global_param(BELT_AFFINE, 1, 6, 0).refusal, BELT_NO_SUCH_SLOT);
-    wants("words that fall", belt_write_frame(5, falling, 2, blocks, BLOCKS).refusal, BELT_NOT_RISING);
-    wants("a frame of zeros", belt_read_frame(zeros, BELT_BLOCK_BYTES, words, SAMPLES).refusal, BELT_WRONG_CHECK);
+    wants("words that fall", belt_write_frame(5, falling, 2, zeros, 2, blocks, BLOCKS).refusal, BELT_NOT_RISING);
+    wants("two words with a class", belt_write_frame(5, falling, 2, zeros, 1, blocks, BLOCKS).refusal,
+          BELT_WRONG_LENGTH);
+    wants("a frame of zeros",
+          belt_read_both(zeros, BELT_BLOCK_BYTES, words, SAMPLES, classes_read, SAMPLES).refusal, BELT_WRONG_CHECK);
     wants("a block of 511 bytes", belt_judge_block(zeros, BELT_BLOCK_BYTES - 1).refusal, BELT_ENDS_FIRST);
     wants("a header into 0 bytes",
           belt_encode_inter_global_motion(zeros, BELT_REFERENCES, prior, BELT_NUMBERS, 1, prior, BELT_NUMBERS, 0, header, 0)
@@ -272,10 +298,11 @@ int main(void) {
     for (int i = 0; i < BELT_REFERENCES; i++)
         prior[i] = identity;
     for (int i = 0; i < SAMPLES; i++)
-        classes[i] = (uint8_t)(i % 4);
+        classes[i] = (uint8_t)(i % 5);
     same(belt_sample_count(WIDTH, HEIGHT) == SAMPLES && belt_half_plane_values(WIDTH, HEIGHT) == HALF &&
-             belt_block_bytes(SAMPLES) == BLOCKS && belt_half_plane_values(15, HEIGHT) == 0 &&
-             belt_block_bytes(126) == 2 * BELT_BLOCK_BYTES,
+             belt_block_bytes(SAMPLES, BELT_FORM_2) == BLOCKS && belt_half_plane_values(15, HEIGHT) == 0 &&
+             belt_blocks_of(101, BELT_FORM_1) == 1 && belt_blocks_of(101, BELT_FORM_2) == 2 &&
+             belt_block_bytes(BELT_MOST_SAMPLES, BELT_FORM_2) == 41 * BELT_BLOCK_BYTES,
          "sizes");
     draw(4, -2);
     for (uint8_t type = BELT_TRANSLATION; type <= BELT_AFFINE; type++) {
@@ -288,6 +315,9 @@ int main(void) {
     }
     size_t length = belt_list_block(blocks, BLOCKS, text);
     fwrite(text, 1, length, stdout);
+    for (uint8_t class_code = BELT_UNSORTED; class_code <= BELT_FILM; class_code++)
+        printf("class %d: %s\n", class_code, belt_class_text(class_code));
+    conversions();
     const struct belt_settings settings = {5, BELT_TRANSLATION, 2, BELT_HIGH_PRECISION, 0};
     too_far(settings);
     refusals(settings);

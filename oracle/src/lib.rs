@@ -7,6 +7,7 @@ pub mod header_files;
 pub mod list;
 mod ported;
 pub mod practice;
+pub mod rows;
 pub mod shear_files;
 mod stand_ins;
 
@@ -50,18 +51,16 @@ pub fn sample_count(width: usize, height: usize) -> usize {
     (width / BLOCK) * (height / BLOCK)
 }
 
-/// The sample words of a search, one class for each sample.
-pub fn sample_words(input: &[u16], reference: &[u16], width: usize, height: usize, classes: &[u8]) -> Vec<u32> {
-    let samples = search(input, reference, width, height);
-    assert_eq!(samples.len(), classes.len(), "one class for each sample");
-    samples.iter().zip(classes).map(|(sample, &class)| word_of(sample, class)).collect()
+/// The sample words of a search, with class bits zero.
+pub fn sample_words(input: &[u16], reference: &[u16], width: usize, height: usize) -> Vec<u32> {
+    search(input, reference, width, height).iter().map(word_of).collect()
 }
 
-/// The sample word of a sample of a search.
-pub fn word_of(&[x, y, u, v]: &[f64; 4], class: u8) -> u32 {
+/// The sample word of a sample of a search: its class stands beside it.
+pub fn word_of(&[x, y, u, v]: &[f64; 4]) -> u32 {
     let block = |position: f64| (position - BLOCK_CENTRE) as u32 / BLOCK as u32;
     let stored = |motion: f64| ((motion * 8.0) as i32 + MOTION_BIAS) as u32;
-    block(y) << 26 | block(x) << 20 | stored(v) << 11 | stored(u) << 2 | u32::from(class)
+    block(y) << 26 | block(x) << 20 | stored(v) << 11 | stored(u) << 2
 }
 
 /// The sample of a sample word of any field values.

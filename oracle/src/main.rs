@@ -60,8 +60,7 @@ impl Fields<'_> {
 
     fn words(&mut self) -> Answer {
         let (width, height, input, reference) = self.pair()?;
-        let classes = self.list(oracle::sample_count(width, height), Self::code)?;
-        let words = oracle::sample_words(&input, &reference, width, height, &classes);
+        let words = oracle::sample_words(&input, &reference, width, height);
         Ok(counted(words.len(), spaced(&words)))
     }
 
@@ -143,7 +142,7 @@ impl<'a> Fields<'a> {
         }
     }
 
-    /// A type or a class, 0 to 3.
+    /// A type, 0 to 3.
     fn code(&mut self) -> Answer<u8> {
         Ok(self.up_to(3)? as u8)
     }

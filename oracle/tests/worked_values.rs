@@ -1,5 +1,6 @@
 //! The worked values of docs/RULES.md that the Rust can answer.
 
+use oracle::blocks::{self, ONE, TWO};
 use oracle::list::tilted_words;
 use oracle::{
     IDENTITY, coefficient, fit, quantize_global_param, quantize_model, read_header, sample_of, score, search,
@@ -87,6 +88,22 @@ fn flat_pairs() {
     assert_eq!(flat(33, 16), [[7.5, 7.5, 0.0, 0.0], [23.5, 7.5, 0.0, 0.0]]);
 }
 
+/// The plain count finds the Rust's motions on its way.
+#[test]
+fn rows_added() {
+    let mut found = Vec::new();
+    for (width, height, input, reference, rows) in oracle::rows::worked() {
+        let eighths = |pels: f64| (pels * 8.0) as i64;
+        let samples = search(&input, &reference, width, height);
+        let motions: Vec<_> = samples.into_iter().map(|[_, _, u, v]| (eighths(v), eighths(u))).collect();
+        assert_eq!(oracle::rows::search(&input, &reference, width, height), (rows, motions.clone()));
+        found.push(motions);
+    }
+    assert!(found[..5].iter().all(|motions| motions == &[(0, 0)]));
+    assert_eq!(found[5..8], [[(20, 4)], [(4, 5)], [(4, 16)]]);
+    assert_eq!(found[8], [(16, 16); 4]);
+}
+
 #[test]
 fn shear_by_the_clause() {
     for (linear, valid, numbers) in [
@@ -100,6 +117,30 @@ fn shear_by_the_clause() {
     ] {
         let [p2, p3, p4, p5] = linear;
         assert_eq!(oracle::shear(&[0, 0, p2, p3, p4, p5]), Some((valid, numbers)));
+    }
+}
+
+#[test]
+fn blocks_of_both_forms() {
+    let check = |block: &[u8]| u32::from_be_bytes(block[blocks::CHECK..].try_into().expect("four bytes"));
+    let film = blocks::write(TWO, 5, &[(0x0006_fb7c, 4)]);
+    assert_eq!(film[..13], [0, 5, 2, 1, 0, 1, 0, 0, 0, 6, 0xfb, 0x7c, 4]);
+    assert_eq!(check(&film), 0x040c_fd7e);
+    assert_eq!(blocks::text(&film), "frame 5 block 0 count 1\n0 0 0 0 4\n");
+    assert_eq!(check(&blocks::write(TWO, 5, &[(0x0006_fb7c, 0)])), 0x000c_fd7e);
+    assert_eq!(check(&blocks::write(ONE, 5, &[(0x0006_fb7c, 3)])), 0x000c_fc81);
+    let samples: Vec<blocks::Sample> =
+        (0..130).map(|q| (q / 64 << 26 | q % 64 << 20 | 223 << 11 | (223 + q % 5) << 2, (q % 4) as u8)).collect();
+    for (form, counts, checks) in
+        [(ONE, [125, 5], [0xe851_d1ac, 0x285b_eaa2]), (TWO, [100, 30], [0x1f12_360f, 0xb77b_7669])]
+    {
+        let stored = blocks::write(form, 7, &samples);
+        assert_eq!([stored[3], stored[blocks::BLOCK + 3]], counts);
+        assert_eq!([&stored[..blocks::BLOCK], &stored[blocks::BLOCK..]].map(check), checks);
+        let other = if form == ONE { TWO } else { ONE };
+        assert_eq!(blocks::convert(form, other, &stored, 1024), Ok(blocks::write(other, 7, &samples)));
+        assert_eq!(blocks::convert(form, other, &stored, 1023), Err(3));
+        assert_eq!(blocks::convert(other, form, &stored, 1024), Err(11));
     }
 }
 

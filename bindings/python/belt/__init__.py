@@ -31,12 +31,14 @@ MOST_SAMPLES = 4096
 MOST_EIGHTHS = 223
 MOST_SHIFT = 24
 BLOCK_BYTES = 512
-BLOCK_WORDS = 125
+FORM_1, FORM_2 = 1, 2
+FORM_SAMPLES = {FORM_1: 125, FORM_2: 100}
 HEADER_BYTES = 125
 TEXT_BYTES = 4096
 
 IDENTITY, TRANSLATION, ROTZOOM, AFFINE = range(4)
-UNSORTED, FIBRE, RIGID_PLASTIC, METAL = range(4)
+UNSORTED, FIBRE, RIGID_PLASTIC, METAL, FILM = range(5)
+CLASSES = ("unsorted", "fibre", "rigid plastic", "metal", "film")
 
 _ONE = 65536
 
@@ -51,7 +53,9 @@ REFUSALS = {
     7: "model off the grid, uncarried slot or pair wrong",
     8: "prior out of range",
     12: "words to store out of range or not rising",
+    13: "class 4 to be stored in form 1",
     3: "output or working buffer too short",
+    17: "frame number 0: the shutter was closed",
     6: "elimination refuses",
     9: "bytes end before the last bit or block",
     10: "block check wrong",
@@ -76,7 +80,8 @@ class Motion(NamedTuple):
 
 
 class Sample(NamedTuple):
-    """What a sample word says ('Sample word'): block row and column, centre and motion in pels, class."""
+    """What a sample word says ('Sample word'): block row and column, centre and motion in pels, and its class bits, which
+    are its class in a word of read_frame and 0 where the classes stand beside the words."""
 
     row: int
     column: int
@@ -84,7 +89,7 @@ class Sample(NamedTuple):
     y: float
     u: float
     v: float
-    class_code: int
+    class_bits: int
 
 
 def sample_of(word):
@@ -169,6 +174,13 @@ STILL = (0, 0, _ONE, 0, 0, _ONE)
 IDENTITIES = (StoredModel(STILL),) * 7
 
 
+class Searched(NamedTuple):
+    """How many samples a search found, and how many rows of absolute differences it added ('Rows added')."""
+
+    samples: int
+    rows: int
+
+
 class Fitted(NamedTuple):
     """A fitted model: its type, 1 to 3, and two, four or six numbers, x first, zeros after them."""
 
@@ -236,9 +248,14 @@ def half_plane_values(width, height):
     return (width // 2) * (height // 2) if sample_count(width, height) else 0
 
 
-def block_bytes(samples):
-    """How many bytes the blocks of so many samples take."""
-    return BLOCK_BYTES * -(-samples // BLOCK_WORDS)
+def blocks_of(samples, form):
+    """How many blocks so many samples take in a form."""
+    return -(-samples // FORM_SAMPLES[form])
+
+
+def block_bytes(samples, form):
+    """How many bytes the blocks of so many samples take in a form."""
+    return BLOCK_BYTES * blocks_of(samples, form)
 
 
 class Buffers:
@@ -250,7 +267,7 @@ class Buffers:
         self.input_half = array("H", bytes(2 * half))
         self.ref_half = array("H", bytes(2 * half))
         self.words = array("I", bytes(4 * samples))
-        self.blocks = bytearray(block_bytes(samples))
+        self.blocks = bytearray(block_bytes(samples, FORM_2))
         self.header = bytearray(HEADER_BYTES)
 
 
@@ -319,8 +336,9 @@ def _call(name, *arguments):
 
 
 def collect_motion_samples(input_y, ref_y, width, height, classes, input_half, ref_half, words):
-    """Searches each whole 16×16 block ('Search'); answers how many words are written. Refuses 1, 2, 4, 3."""
-    return _call(
+    """Searches each whole 16×16 block ('Search'); answers how many words, with class bits zero, are written and how many
+    rows were added. Refuses 1, 2, 4, 3."""
+    answer = _call(
         "belt_collect_motion_samples",
         _list(input_y, c_uint16, "input_y"),
         _list(ref_y, c_uint16, "ref_y"),
@@ -330,7 +348,8 @@ def collect_motion_samples(input_y, ref_y, width, height, classes, input_half, r
         _list(input_half, c_uint16, "input_half", True),
         _list(ref_half, c_uint16, "ref_half", True),
         _list(words, c_uint32, "words", True),
-    ).samples
+    )
+    return Searched(answer.samples, answer.rows)
 
 
 def _fit(gm_type, name, words):
@@ -409,21 +428,51 @@ def quantize_global_param(gm_type, flag, slot, value):
     return _call("belt_quantize_global_param", *codes, _signed(value)).value
 
 
-def write_frame(frame, words, blocks):
-    """Stores a frame's words ('Sample block'); answers how many blocks. Refuses 1, 12, 3."""
-    frame = _code(frame, "frame", 65535)
-    words = _list(words, c_uint32, "words")
-    return _call("belt_write_frame", frame, words, _list(blocks, c_uint8, "blocks", True)).blocks
+def write_frame(frame, words, classes, blocks):
+    """Stores a frame's words, with class bits zero, and a class for each in form 2 ('Sample block'); answers how many
+    blocks. Refuses 1, 2, 4, 12, 3, 17."""
+    return _call(
+        "belt_write_frame",
+        _code(frame, "frame", 65535),
+        _list(words, c_uint32, "words"),
+        _list(classes, c_uint8, "classes"),
+        _list(blocks, c_uint8, "blocks", True),
+    ).blocks
+
+
+def read_both(data, words, classes):
+    """Reads the frame of either form that the bytes begin with ('Sample block'), a Frame: words, with class bits zero, and
+    a class for each. Refuses 9, 10, 11, 17, 3."""
+    read = _call(
+        "belt_read_both",
+        _list(data, c_uint8, "data"),
+        _list(words, c_uint32, "words", True),
+        _list(classes, c_uint8, "classes", True),
+    )
+    return Frame(read.frame, read.samples)
 
 
 def read_frame(data, words):
-    """Reads the frame that the bytes begin with ('Sample block'), a Frame. Refuses 9, 10, 11, 3."""
+    """Reads the frame of form 1 that the bytes begin with ('Sample block'), a Frame: words with their classes in them.
+    Refuses 9, 10, 11 (form 2 too), 17, 3."""
     read = _call("belt_read_frame", _list(data, c_uint8, "data"), _list(words, c_uint32, "words", True))
     return Frame(read.frame, read.samples)
 
 
+def to_form1(data, blocks):
+    """Carries a frame of form 2 over to form 1 ('Sample block'); answers how many blocks. Refuses 9, 10, 11 (form 1 too),
+    17, 13, 3."""
+    return _call("belt_to_form1", _list(data, c_uint8, "data"), _list(blocks, c_uint8, "blocks", True)).blocks
+
+
+def to_form2(data, blocks):
+    """Carries a frame of form 1 over to form 2 ('Sample block'); answers how many blocks. Refuses 9, 10, 11 (form 2 too),
+    17, 3."""
+    return _call("belt_to_form2", _list(data, c_uint8, "data"), _list(blocks, c_uint8, "blocks", True)).blocks
+
+
 def judge_block(data):
-    """Judges one block without its neighbours ('Sample block'), a Block. Refuses 9, 10, 11."""
+    """Judges one block of either form without its neighbours ('Sample block'), a Block. Refuses 9, 10, 11."""
     read = _call("belt_judge_block", _list(data, c_uint8, "data"))
     return Block(read.frame, read.ordinal, read.count)
 
@@ -504,7 +553,7 @@ def job(input_y, reference, width, height, settings, classes, buffers, types=(0,
     """Runs a whole job ('Job'): search, fit, grid, score, blocks and header, into a Buffers or anything with its five
     fields; answers a Report. The six other references are identities unless types and StoredModels are given.
 
-    Refuses 1, 2, 4, 5, 14, 7, 8, 3, 6. After 6 the half planes and the words are in their buffers; blocks and header are
+    Refuses 1, 2, 4, 5, 14, 7, 8, 3, 17, 6. After 6 the half planes and the words are in their buffers; blocks and header are
     as they were.
     """
     frame = _code(settings.frame, "frame", 65535)

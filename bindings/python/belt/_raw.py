@@ -10,7 +10,7 @@ from pathlib import Path
 
 
 class Searched(ctypes.Structure):
-    _fields_ = [("refusal", c_uint32), ("samples", c_size_t)]
+    _fields_ = [("refusal", c_uint32), ("samples", c_size_t), ("rows", c_uint32)]
 
 
 class FitAnswer(ctypes.Structure):
@@ -124,8 +124,11 @@ CALLS = {
     "belt_quantize_model_samples": (_SAMPLES + [ToQuantize], QuantizedModel),
     "belt_mean_sq_residual_samples": (_SAMPLES + [Params], Score),
     "belt_quantize_global_param": ([c_uint8, c_uint8, c_uint8, c_int32], QuantizedParam),
-    "belt_write_frame": ([c_uint16] + _WORDS + _BYTES, Stored),
+    "belt_write_frame": ([c_uint16] + _WORDS + _BYTES + _BYTES, Stored),
+    "belt_read_both": (_BYTES + _WORDS + _BYTES, FrameRead),
     "belt_read_frame": (_BYTES + _WORDS, FrameRead),
+    "belt_to_form1": (_BYTES + _BYTES, Stored),
+    "belt_to_form2": (_BYTES + _BYTES, Stored),
     "belt_judge_block": (_BYTES, BlockRead),
     "belt_list_block": (_BYTES + [POINTER(c_uint8 * 4096)], c_size_t),
     "belt_encode_global_motion": ([c_bool] + _BYTES + _NUMBERS + [c_uint8] + _NUMBERS + [c_size_t] + _BYTES, Written),

@@ -71,7 +71,7 @@ def task(width=48, height=32, gm_type=1, **changes):
         width=width,
         height=height,
         settings=Settings(4660, gm_type, 3, 1, 5),
-        classes=bytes(i % 4 for i in range(samples)),
+        classes=bytes(i % 5 for i in range(samples)),
         types=bytes(6),
         models=IDENTITIES[:6],
         prior=IDENTITIES,
@@ -106,7 +106,8 @@ class Jobs(unittest.TestCase):
             alone.ref_half,
             alone.words,
         )
-        self.assertEqual(found, samples)
+        self.assertEqual(found.samples, samples)
+        self.assertTrue(736 * samples <= found.rows <= 6184 * samples)
         for name in ("input_half", "ref_half", "words"):
             self.assertEqual(alone.whole[name], buffers.whole[name])
 
@@ -134,12 +135,13 @@ class Jobs(unittest.TestCase):
         self.assertEqual(again[:used], bytes(buffers.header[:used]))
         self.assertEqual(bytes(buffers.header[used:]), b"\x5a" * (belt.HEADER_BYTES - used))
 
-        back = array("I", [0] * samples)
-        self.assertEqual(belt.read_frame(buffers.blocks, back), (settings.frame, samples))
-        self.assertEqual(back.tolist(), buffers.words.tolist())
+        back, classes = array("I", [0] * samples), bytearray(samples)
+        self.assertEqual(belt.read_both(buffers.blocks, back, classes), (settings.frame, samples))
+        self.assertEqual((back.tolist(), classes), (buffers.words.tolist(), arguments["classes"]))
         for ordinal in range(len(buffers.blocks) // belt.BLOCK_BYTES):
             block = buffers.blocks[belt.BLOCK_BYTES * ordinal :]
-            count = min(belt.BLOCK_WORDS, samples - belt.BLOCK_WORDS * ordinal)
+            most = belt.FORM_SAMPLES[belt.FORM_2]
+            count = min(most, samples - most * ordinal)
             self.assertEqual(belt.judge_block(block), (settings.frame, ordinal, count))
             lines = belt.list_block(block).splitlines()
             self.assertEqual(lines[0], f"frame {settings.frame} block {ordinal} count {count}")
@@ -156,7 +158,7 @@ class Jobs(unittest.TestCase):
             self.assertEqual((model.zoom, model.degrees, report.score), (1.0, 0.0, 0.0))
             self.assertEqual(model.agreeing(buffers.words, 0.0), 30)
             sample = belt.sample_of(buffers.words[7])
-            self.assertEqual(sample, (1, 1, 23.5, 23.5, dx, dy, 3))
+            self.assertEqual(sample, (1, 1, 23.5, 23.5, dx, dy, 0))
 
     def test_all_types_and_two_blocks(self):
         reference = noisy(192, 176)
@@ -200,7 +202,7 @@ class Refused(unittest.TestCase):
 
 class Refusals(Refused):
     def test_the_table(self):
-        self.assertEqual(list(belt.REFUSALS), [1, 18, 2, 4, 5, 14, 7, 8, 12, 3, 6, 9, 10, 11])
+        self.assertEqual(list(belt.REFUSALS), [1, 18, 2, 4, 5, 14, 7, 8, 12, 13, 3, 17, 6, 9, 10, 11])
         rules = (Path(__file__).resolve().parents[3] / "docs" / "RULES.md").read_text(encoding="utf-8")
         for number, text in belt.REFUSALS.items():
             self.assertIn(f"| {number} | {text} |", rules)
@@ -221,7 +223,7 @@ class Refusals(Refused):
             (2, dict(types=bytes(7))),
             (2, dict(models=IDENTITIES[:5])),
             (2, dict(prior=IDENTITIES[:6])),
-            (4, dict(classes=bytes([0, 0, 0, 0, 0, 4]))),
+            (4, dict(classes=bytes([0, 0, 0, 0, 0, 5]))),
             (4, dict(settings=Settings(1, 0, 1, 1))),
             (4, dict(settings=Settings(1, 4, 1, 1))),
             (4, dict(settings=Settings(1, 1, 1, 2))),
@@ -269,12 +271,13 @@ class Refusals(Refused):
                 self.assertEqual([one.tobytes() for one in lent], before)
                 raise
 
-        self.assertEqual(call(), 6)
+        self.assertEqual(call().samples, 6)
         self.refused(1, call, width=1025)
         self.refused(2, call, pels=1535)
         self.refused(2, call, ref_pels=1535)
         self.refused(2, call, classes=bytes(5))
-        self.refused(4, call, classes=bytes([4] * 6))
+        self.assertEqual(call(classes=bytes([belt.FILM] * 6)), 6)
+        self.refused(4, call, classes=bytes([5] * 6))
         self.refused(3, call, rooms=(383, 384, 6))
         self.refused(3, call, rooms=(384, 383, 6))
         self.refused(3, call, rooms=(384, 384, 5))
@@ -321,40 +324,104 @@ class Refusals(Refused):
         self.assertEqual(belt.quantize_global_param(1, 1, 1, -4096), -8192)
 
     def test_frames(self):
-        good = words(126)
-        blocks = bytearray(1024)
-        self.assertEqual(belt.write_frame(7, good, blocks), 2)
-        for number, stored, room in [
-            (1, words(4097), 40_000),
-            (12, [447 << 11], 512),
-            (12, [good[1], good[0]], 512),
-            (3, good, 1023),
+        good, metal, film = words(126), bytes([belt.METAL] * 126), bytes([belt.FILM] * 126)
+        blocks, filmed, old = bytearray(1024), bytearray(1024), bytearray(1024)
+        self.assertEqual(belt.write_frame(7, good, metal, blocks), 2)
+        self.assertEqual(belt.write_frame(7, good, film, filmed), 2)
+        self.assertEqual(belt.to_form1(blocks, old), 2)
+        for number, stored, classes, room in [
+            (1, words(4097), b"", 40_000),
+            (2, good, film[1:], 1024),
+            (4, [good[1], good[0]], bytes([4, 5]), 512),
+            (12, [447 << 11], bytes(1), 512),
+            (12, [good[0] | 1], bytes(1), 512),
+            (12, [good[1], good[0]], bytes(2), 512),
+            (3, good, film, 1023),
         ]:
             lent = bytearray(b"\xee" * room)
-            self.refused(number, belt.write_frame, 7, stored, lent)
+            self.refused(number, belt.write_frame, 7, stored, classes, lent)
             self.assertEqual(lent, b"\xee" * room)
+        for number, data, rooms in [
+            (9, blocks[:1023], (126, 126)),
+            (10, bytes(512), (126, 126)),
+            (11, blocks[:512] + blocks[:512], (126, 126)),
+            (11, blocks[:512] + old[512:], (126, 126)),
+            (11, old[:512] + blocks[512:], (126, 126)),
+            (3, blocks, (125, 126)),
+            (3, old, (126, 125)),
+        ]:
+            lent, classes = array("I", [0xEEEEEEEE] * rooms[0]), bytearray(b"\xee" * rooms[1])
+            self.refused(number, belt.read_both, data, lent, classes)
+            self.assertEqual((lent, classes), (array("I", [0xEEEEEEEE] * rooms[0]), b"\xee" * rooms[1]))
+        for data, wanted in [(blocks, metal), (filmed, film), (old, metal)]:
+            lent, classes = array("I", [0] * 126), bytearray(126)
+            self.assertEqual(belt.read_both(data, lent, classes), (7, 126))
+            self.assertEqual((lent, classes), (good, wanted))
+        self.assertEqual(belt.read_both(b"", array("I"), bytearray()), (0, 0))
+        lent = array("I", [0] * 126)
+        self.refused(11, belt.read_frame, blocks, lent)
+        self.refused(3, belt.read_frame, old, lent[1:])
+        self.assertEqual(belt.read_frame(old, lent), (7, 126))
+        self.assertEqual(lent, array("I", (word | belt.METAL for word in good)))
+        self.assertEqual([belt.sample_of(word).class_bits for word in lent], [belt.METAL] * 126)
+
+    def test_conversions(self):
+        good = words(130)
+        blocks, filmed, old = bytearray(1024), bytearray(1024), bytearray(1024)
+        belt.write_frame(7, good, bytes(i % 4 for i in range(130)), blocks)
+        belt.write_frame(7, good, bytes(i % 5 for i in range(130)), filmed)
+        self.assertEqual(belt.to_form1(blocks, old), 2)
+        back = bytearray(1024)
+        self.assertEqual(belt.to_form2(old, back), 2)
+        self.assertEqual(back, blocks)
+        for number, convert, data, room in [
+            (11, belt.to_form1, old, 1024),
+            (11, belt.to_form2, blocks, 1024),
+            (13, belt.to_form1, filmed, 0),
+            (9, belt.to_form1, filmed[:512], 0),
+            (10, belt.to_form1, filmed[:512] + bytes(512), 0),
+            (3, belt.to_form1, blocks, 1023),
+            (3, belt.to_form2, old, 1023),
+        ]:
+            lent = bytearray(b"\xee" * room)
+            self.refused(number, convert, data, lent)
+            self.assertEqual(lent, b"\xee" * room)
+        for convert in (belt.to_form1, belt.to_form2):
+            self.assertEqual(convert(b"", bytearray()), 0)
+
+    def test_blocks_alone(self):
+        blocks = bytearray(1024)
+        belt.write_frame(7, words(126), bytes(126), blocks)
         form = bytearray(blocks[512:])
         form[2] = 0
-        form[508:] = (int.from_bytes(form[508:], "big") - 0x100).to_bytes(4, "big")
-        for number, data, room in [
-            (9, blocks[:1023], 126),
-            (10, bytes(512), 126),
-            (11, blocks[:512] + blocks[:512], 126),
-            (3, blocks, 125),
-        ]:
-            lent = array("I", [0xEEEEEEEE] * room)
-            self.refused(number, belt.read_frame, data, lent)
-            self.assertEqual(lent, array("I", [0xEEEEEEEE] * room))
-        self.assertEqual(belt.read_frame(b"", array("I")), (0, 0))
+        form[508:] = (int.from_bytes(form[508:], "big") - 0x200).to_bytes(4, "big")
         self.refused(9, belt.judge_block, blocks[513:])
         self.refused(10, belt.judge_block, bytes(512))
         self.refused(11, belt.judge_block, form)
+        self.assertEqual(belt.judge_block(blocks), (7, 0, 100))
         self.assertEqual(belt.list_block(form), "refused 11\n")
         self.assertEqual(belt.list_block(b""), "refused 9\n")
         block = bytearray(512)
-        belt.write_frame(5, [0x0006FB7C], block)
-        self.assertEqual(belt.list_block(block), "frame 5 block 0 count 1\n0 0 0 0 0\n")
-        self.assertEqual(block[508:], bytes([0x00, 0x0C, 0xFC, 0x7E]))
+        belt.write_frame(5, [0x0006FB7C], [belt.FILM], block)
+        self.assertEqual(belt.list_block(block), "frame 5 block 0 count 1\n0 0 0 0 4\n")
+        self.assertEqual(block[508:], bytes([0x04, 0x0C, 0xFD, 0x7E]))
+
+    def test_a_closed_shutter(self):
+        block = bytearray(512)
+        self.refused(17, belt.write_frame, 0, [], b"", bytearray())
+        self.refused(3, belt.write_frame, 0, words(1), bytes(1), bytearray(511))
+        self.refused(17, belt.write_frame, 0, words(1), bytes(1), block)
+        belt.write_frame(5, [0x0006FB7C], [belt.FILM], block)
+        block[1] = 0
+        block[508:] = bytes([0x04, 0x07, 0xFD, 0x7E])
+        self.refused(17, belt.read_both, block, array("I"), bytearray())
+        self.refused(17, belt.to_form1, block, bytearray())
+        self.assertEqual(belt.list_block(block), "frame 0 block 0 count 1 closed\n0 0 0 0 4\n")
+
+    def test_sizes(self):
+        for form, wanted in [(belt.FORM_1, [1, 1, 2, 33]), (belt.FORM_2, [1, 2, 2, 41])]:
+            self.assertEqual([belt.blocks_of(samples, form) for samples in (100, 101, 126, 4096)], wanted)
+        self.assertEqual(belt.CLASSES[belt.FILM], "film")
 
     def test_key_frames(self):
         header = bytearray(b"\xff")
@@ -467,7 +534,7 @@ class Taken(unittest.TestCase):
         with self.assertRaises(TypeError):
             belt.fit_translation(memoryview(words(4))[::2])
         with self.assertRaises(TypeError):
-            belt.write_frame(1, words(1), bytes(512))
+            belt.write_frame(1, words(1), bytes(1), bytes(512))
         with self.assertRaises(ValueError):
             belt.fit_translation([2**32])
         with self.assertRaises(TypeError):

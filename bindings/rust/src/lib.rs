@@ -11,9 +11,10 @@
 //! keeps nothing between calls, so any number of threads may call it at once. It expects the floating-point
 //! environment that a process begins with: rounding to nearest, traps off.
 //!
-//! Types are 0 identity, 1 translation, 2 rotation-zoom, 3 affine; classes 0 unsorted, 1 fibre, 2 rigid plastic,
-//! 3 metal; a flag is 1 for high precision, else 0. Codes are plain numbers, so that one that comes from outside is
-//! judged by the library. A model has one of two orders, each a type of its own: [`Model`], x first, is what fits,
+//! Types are 0 identity, 1 translation, 2 rotation-zoom, 3 affine; classes are [`UNSORTED`], [`FIBRE`],
+//! [`RIGID_PLASTIC`], [`METAL`] and [`FILM`]; a flag is 1 for high precision, else 0. Codes are plain numbers, so that
+//! one that comes from outside is judged by the library. Classes stand beside the words, a byte each: the words of a
+//! search, a job and [`read_both`] have class bits zero. A model has one of two orders, each a type of its own: [`Model`], x first, is what fits,
 //! grid and score have; [`StoredModel`] is what headers, priors and reports have.
 //!
 //! A plane is at most 1,024 pels wide and high, and the search finds motion of at most 27.875 pels. What moved
@@ -73,8 +74,37 @@ pub const MOST_EIGHTHS: u16 = 223;
 pub const MOST_SHIFT: i32 = 24;
 /// The bytes of a sample block.
 pub const BLOCK_BYTES: usize = 512;
-/// The words that a sample block holds.
-pub const BLOCK_WORDS: usize = 125;
+/// Class 0.
+pub const UNSORTED: u8 = 0;
+/// Class 1.
+pub const FIBRE: u8 = 1;
+/// Class 2.
+pub const RIGID_PLASTIC: u8 = 2;
+/// Class 3.
+pub const METAL: u8 = 3;
+/// Class 4. Form 1 can't hold it.
+pub const FILM: u8 = 4;
+/// The classes' words, by their codes.
+pub const CLASSES: [&str; 5] = ["unsorted", "fibre", "rigid plastic", "metal", "film"];
+
+/// The forms of a sample block. Frames are stored in form 2; form 1 is read and converted.
+#[derive(Clone, Copy, Debug, PartialEq, Eq, Hash)]
+pub enum Form {
+    /// 125 samples a block, a sample one word with its class in the two low bits.
+    One,
+    /// 100 samples a block, a sample one word with class bits zero, and a byte of class.
+    Two,
+}
+
+impl Form {
+    /// The most samples in a block.
+    pub const fn samples(self) -> usize {
+        match self {
+            Form::One => 125,
+            Form::Two => 100,
+        }
+    }
+}
 /// The bytes that a header never exceeds, whatever its start, and that a job asks for.
 pub const HEADER_BYTES: usize = 125;
 
@@ -165,7 +195,7 @@ pub struct Lent<'a> {
     pub ref_half: &'a mut [u16],
     /// Room for a word for each sample.
     pub words: &'a mut [u32],
-    /// Room for the frame's blocks: [`block_bytes`].
+    /// Room for the frame's blocks, of [`Form::Two`]: [`block_bytes`].
     pub blocks: &'a mut [u8],
     /// Room for [`HEADER_BYTES`].
     pub header: &'a mut [u8],
@@ -210,7 +240,7 @@ impl Buffers {
             input_half: vec![0; half],
             ref_half: vec![0; half],
             words: vec![0; samples],
-            blocks: vec![0; block_bytes(samples)],
+            blocks: vec![0; block_bytes(samples, Form::Two)],
             header: vec![0; HEADER_BYTES],
         }
     }
@@ -242,9 +272,21 @@ pub fn half_plane_values(width: usize, height: usize) -> usize {
     if sample_count(width, height) == 0 { 0 } else { (width / 2).saturating_mul(height / 2) }
 }
 
-/// How many bytes the blocks of so many samples take.
-pub fn block_bytes(samples: usize) -> usize {
-    samples.div_ceil(BLOCK_WORDS).saturating_mul(BLOCK_BYTES)
+/// How many blocks so many samples take in a form.
+///
+/// ```
+/// use belt::Form;
+///
+/// assert_eq!([100, 101, 126, 4096].map(|samples| belt::blocks_of(samples, Form::One)), [1, 1, 2, 33]);
+/// assert_eq!([100, 101, 126, 4096].map(|samples| belt::blocks_of(samples, Form::Two)), [1, 2, 2, 41]);
+/// ```
+pub fn blocks_of(samples: usize, form: Form) -> usize {
+    samples.div_ceil(form.samples())
+}
+
+/// How many bytes the blocks of so many samples take in a form.
+pub fn block_bytes(samples: usize, form: Form) -> usize {
+    blocks_of(samples, form).saturating_mul(BLOCK_BYTES)
 }
 
 /// The lists that a search and a job judge: two planes and the classes.
@@ -267,8 +309,17 @@ fn rooms(input_half: &[u16], ref_half: &[u16], words: &[u32], width: usize, heig
     ]
 }
 
+/// What a search answers.
+#[derive(Clone, Copy, Debug, PartialEq, Eq)]
+pub struct Searched {
+    /// One for each whole 16×16 block.
+    pub samples: usize,
+    /// How many rows of absolute differences were added to find them ('Rows added'): 736 to 6,184 for a block.
+    pub rows: u32,
+}
+
 /// Searches the motion of each whole 16×16 block of `input_y` in `ref_y` ('Search'): half planes and one word for
-/// each block. Answers how many there are.
+/// each block, with class bits zero. The classes are judged.
 ///
 /// # Errors
 ///
@@ -280,8 +331,8 @@ fn rooms(input_half: &[u16], ref_half: &[u16], words: &[u32], width: usize, heig
 /// let found = belt::collect_motion_samples(
 ///     &plane, &plane, 16, 16, &[3], &mut input_half, &mut ref_half, &mut words,
 /// );
-/// assert_eq!(found, Ok(1));
-/// assert_eq!(words, [223 << 11 | 223 << 2 | 3]);
+/// assert_eq!(found, Ok(belt::Searched { samples: 1, rows: 736 }));
+/// assert_eq!(words, [223 << 11 | 223 << 2]);
 /// ```
 #[allow(clippy::too_many_arguments)]
 pub fn collect_motion_samples(
@@ -293,11 +344,11 @@ pub fn collect_motion_samples(
     input_half: &mut [u16],
     ref_half: &mut [u16],
     words: &mut [u32],
-) -> Result<usize, Refusal> {
+) -> Result<Searched, Refusal> {
     let found = raw::collect_motion_samples(input_y, ref_y, width, height, classes, input_half, ref_half, words);
     judged_lists(
         found.refusal,
-        found.samples,
+        Searched { samples: found.samples, rows: found.rows },
         || planes(input_y, ref_y, classes, width, height),
         || rooms(input_half, ref_half, words, width, height),
     )
@@ -433,40 +484,107 @@ pub fn quantize_global_param(gm_type: u8, flag: u8, slot: u8, value: i32) -> Res
     judged(answer.refusal, answer.value)
 }
 
-/// Stores a frame's words as blocks of [`BLOCK_BYTES`] ('Sample block'); answers how many.
+/// Stores a frame's words, with class bits zero, and a class for each as blocks of form 2 ('Sample block'); answers how
+/// many.
 ///
 /// # Errors
 ///
-/// [`Refusal::TooLarge`], [`Refusal::NotRising`], [`Refusal::TooShort`].
+/// [`Refusal::TooLarge`], [`Refusal::WrongLength`], [`Refusal::NoSuchCode`], [`Refusal::NotRising`],
+/// [`Refusal::TooShort`], [`Refusal::ShutterClosed`], also without words.
 ///
 /// ```
+/// use belt::{FILM, Frame};
+///
 /// let mut block = [0; belt::BLOCK_BYTES];
-/// assert_eq!(belt::write_frame(5, &[0x0006_FB7C], &mut block), Ok(1));
-/// assert_eq!(block[508..], [0x00, 0x0C, 0xFC, 0x7E]);
-/// let mut words = [0];
-/// assert_eq!(belt::read_frame(&block, &mut words), Ok(belt::Frame { number: 5, samples: 1 }));
-/// assert_eq!(words, [0x0006_FB7C]);
+/// assert_eq!(belt::write_frame(5, &[0x0006_FB7C], &[FILM], &mut block), Ok(1));
+/// assert_eq!(block[8..13], [0x00, 0x06, 0xFB, 0x7C, FILM]);
+/// assert_eq!(block[508..], [0x04, 0x0C, 0xFD, 0x7E]);
+/// let (mut words, mut classes) = ([0], [0]);
+/// assert_eq!(belt::read_both(&block, &mut words, &mut classes), Ok(Frame { number: 5, samples: 1 }));
+/// assert_eq!((words, classes), ([0x0006_FB7C], [FILM]));
 /// ```
-pub fn write_frame(frame: u16, words: &[u32], blocks: &mut [u8]) -> Result<usize, Refusal> {
-    let stored = raw::write_frame(frame, words, blocks);
-    judged_lists(stored.refusal, stored.blocks, || [], || [Length::of("blocks", blocks, block_bytes(words.len()))])
+pub fn write_frame(frame: u16, words: &[u32], classes: &[u8], blocks: &mut [u8]) -> Result<usize, Refusal> {
+    let stored = raw::write_frame(frame, words, classes, blocks);
+    judged_lists(
+        stored.refusal,
+        stored.blocks,
+        || [Length::of("classes", classes, words.len())],
+        || [Length::of("blocks", blocks, block_bytes(words.len(), Form::Two))],
+    )
 }
 
-/// Reads the frame that the bytes begin with ('Sample block'); those after its last block aren't read. No bytes are
-/// frame 0 with no samples.
+/// The samples of a frame whose blocks are right, as its first block says.
+fn total(bytes: &[u8]) -> usize {
+    usize::from(u16::from_be_bytes([bytes[4], bytes[5]]))
+}
+
+/// Reads the frame of either form that the bytes begin with ('Sample block'): words, with class bits zero, and a class
+/// for each. Bytes after its last block aren't read. No bytes are frame 0 with no samples.
 ///
 /// # Errors
 ///
-/// [`Refusal::EndsFirst`], [`Refusal::WrongCheck`], [`Refusal::WrongBlock`], [`Refusal::TooShort`].
+/// [`Refusal::EndsFirst`], [`Refusal::WrongCheck`], [`Refusal::WrongBlock`], also for mixed forms,
+/// [`Refusal::ShutterClosed`], and [`Refusal::TooShort`] of either buffer.
+pub fn read_both(bytes: &[u8], words: &mut [u32], classes: &mut [u8]) -> Result<Frame, Refusal> {
+    let read = raw::read_both(bytes, words, classes);
+    let frame = Frame { number: read.frame, samples: read.samples };
+    // row 3 is judged last, so the blocks are right
+    let lent = || [Length::of("words", words, total(bytes)), Length::of("classes", classes, total(bytes))];
+    judged_lists(read.refusal, frame, || [], lent)
+}
+
+/// Reads the frame of form 1 that the bytes begin with ('Sample block'): words with their classes in them. Bytes after
+/// its last block aren't read. No bytes are frame 0 with no samples.
+///
+/// # Errors
+///
+/// [`Refusal::EndsFirst`], [`Refusal::WrongCheck`], [`Refusal::WrongBlock`], also for form 2,
+/// [`Refusal::ShutterClosed`], [`Refusal::TooShort`].
 pub fn read_frame(bytes: &[u8], words: &mut [u32]) -> Result<Frame, Refusal> {
     let read = raw::read_frame(bytes, words);
-    // row 3 is judged last, so the blocks are right and the first one has the total
-    let total = || usize::from(u16::from_be_bytes([bytes[4], bytes[5]]));
     let frame = Frame { number: read.frame, samples: read.samples };
-    judged_lists(read.refusal, frame, || [], || [Length::of("words", words, total())])
+    judged_lists(read.refusal, frame, || [], || [Length::of("words", words, total(bytes))])
 }
 
-/// Judges the block that the bytes begin with, without its neighbours ('Sample block').
+/// Carries the frame of form 2 that the bytes begin with over to form 1 ('Sample block'); answers how many blocks.
+///
+/// # Errors
+///
+/// [`Refusal::EndsFirst`], [`Refusal::WrongCheck`], [`Refusal::WrongBlock`], also for form 1,
+/// [`Refusal::ShutterClosed`], [`Refusal::NotHeld`] where a sample is of class [`FILM`], [`Refusal::TooShort`].
+pub fn to_form1(bytes: &[u8], blocks: &mut [u8]) -> Result<usize, Refusal> {
+    converted(raw::to_form1(bytes, blocks), bytes, blocks, Form::One)
+}
+
+/// Carries the frame of form 1 that the bytes begin with over to form 2 ('Sample block'); answers how many blocks.
+///
+/// # Errors
+///
+/// [`Refusal::EndsFirst`], [`Refusal::WrongCheck`], [`Refusal::WrongBlock`], also for form 2,
+/// [`Refusal::ShutterClosed`], [`Refusal::TooShort`].
+///
+/// ```
+/// use belt::Refusal;
+///
+/// let (mut old, mut back, mut new) = ([0; 512], [0; 512], [0; 512]);
+/// belt::write_frame(5, &[0x0006_FB7C], &[belt::METAL], &mut new)?;
+/// assert_eq!(belt::to_form2(&new, &mut back), Err(Refusal::WrongBlock));
+/// assert_eq!(belt::to_form1(&new, &mut old), Ok(1));
+/// assert_eq!(old[8..12], [0x00, 0x06, 0xFB, 0x7F]);
+/// assert_eq!(belt::to_form2(&old, &mut back), Ok(1));
+/// assert_eq!(back, new);
+/// # Ok::<(), belt::Refusal>(())
+/// ```
+pub fn to_form2(bytes: &[u8], blocks: &mut [u8]) -> Result<usize, Refusal> {
+    converted(raw::to_form2(bytes, blocks), bytes, blocks, Form::Two)
+}
+
+fn converted(answer: raw::Stored, bytes: &[u8], blocks: &[u8], form: Form) -> Result<usize, Refusal> {
+    let lent = || [Length::of("blocks", blocks, block_bytes(total(bytes), form))];
+    judged_lists(answer.refusal, answer.blocks, || [], lent)
+}
+
+/// Judges the block of either form that the bytes begin with, without its neighbours ('Sample block').
 ///
 /// # Errors
 ///
@@ -477,13 +595,13 @@ pub fn judge_block(bytes: &[u8]) -> Result<Block, Refusal> {
 }
 
 /// The text of the block that the bytes begin with ('Job'), in the buffer: a line with frame, ordinal and count, and
-/// one for each word with row, column, v, u in eighths and class; or `refused` and the row.
+/// one for each sample with row, column, v, u in eighths and class; or `refused` and the row.
 ///
 /// ```
 /// let mut block = [0; belt::BLOCK_BYTES];
-/// belt::write_frame(5, &[0x0006_FB7C], &mut block)?;
+/// belt::write_frame(5, &[0x0006_FB7C], &[belt::FILM], &mut block)?;
 /// let mut text = [0; belt::TEXT_BYTES];
-/// assert_eq!(belt::list_block(&block, &mut text), "frame 5 block 0 count 1\n0 0 0 0 0\n");
+/// assert_eq!(belt::list_block(&block, &mut text), "frame 5 block 0 count 1\n0 0 0 0 4\n");
 /// # Ok::<(), belt::Refusal>(())
 /// ```
 pub fn list_block<'a>(bytes: &[u8], text: &'a mut [u8; TEXT_BYTES]) -> &'a str {
@@ -697,8 +815,8 @@ pub fn frame_price(
 /// # Errors
 ///
 /// [`Refusal::TooLarge`], [`Refusal::WrongLength`], [`Refusal::NoSuchCode`], [`Refusal::NoSuchSlot`],
-/// [`Refusal::StartOver`], [`Refusal::OffGrid`], [`Refusal::PriorOut`], [`Refusal::TooShort`], [`Refusal::Singular`].
-/// After the last the half planes and the words are in their buffers; blocks and header are as they were.
+/// [`Refusal::StartOver`], [`Refusal::OffGrid`], [`Refusal::PriorOut`], [`Refusal::TooShort`],
+/// [`Refusal::ShutterClosed`], [`Refusal::Singular`]. After the last the half planes and the words are in their buffers; blocks and header are as they were.
 pub fn job(task: &Task<'_>, lent: &mut Lent<'_>) -> Result<Report, Refusal> {
     let Settings { frame, gm_type, reference, flag, start } = task.settings;
     let report = raw::job(
@@ -730,7 +848,7 @@ pub fn job(task: &Task<'_>, lent: &mut Lent<'_>) -> Result<Report, Refusal> {
         || {
             let [input_half, ref_half, words] =
                 rooms(lent.input_half, lent.ref_half, lent.words, task.width, task.height);
-            let blocks = Length::of("blocks", lent.blocks, block_bytes(words.wanted));
+            let blocks = Length::of("blocks", lent.blocks, block_bytes(words.wanted, Form::Two));
             [input_half, ref_half, words, blocks, Length::of("header", lent.header, HEADER_BYTES)]
         },
     )

@@ -132,8 +132,8 @@ pub struct Sample {
     pub y: f64,
     /// The block's motion.
     pub motion: Motion,
-    /// Its class: 0 unsorted, 1 fibre, 2 rigid plastic, 3 metal.
-    pub class: u8,
+    /// Its class bits: the class in a word of [`crate::read_frame`]; 0 where the classes stand beside the words.
+    pub class_bits: u8,
 }
 
 impl Sample {
@@ -141,7 +141,7 @@ impl Sample {
     ///
     /// ```
     /// let sample = belt::Sample::of_word(0x0856_BBCF);
-    /// assert_eq!((sample.row, sample.column, sample.class), (2, 5, 3));
+    /// assert_eq!((sample.row, sample.column, sample.class_bits), (2, 5, 3));
     /// assert_eq!((sample.motion.v, sample.motion.u), (-1.0, 2.5));
     /// assert_eq!((sample.x, sample.y), (87.5, 39.5));
     /// ```
@@ -150,7 +150,7 @@ impl Sample {
         let centre = |place: u32| 16.0 * f64::from(place) + 7.5;
         let pels = |stored: u32| (f64::from(stored & 511) - f64::from(crate::MOST_EIGHTHS)) / 8.0;
         let motion = Motion { u: pels(word >> 2), v: pels(word >> 11) };
-        Self { row, column, x: centre(column), y: centre(row), motion, class: (word & 3) as u8 }
+        Self { row, column, x: centre(column), y: centre(row), motion, class_bits: (word & 3) as u8 }
     }
 }
 

@@ -19,6 +19,7 @@ pub const TEXT_BYTES: usize = 4096;
 pub struct Searched {
     pub refusal: u32,
     pub samples: usize,
+    pub rows: u32,
 }
 
 #[repr(C)]
@@ -174,7 +175,25 @@ unsafe extern "C" {
     fn belt_quantize_model_samples(samples: *const MotionSample, count: usize, model: ToQuantize) -> QuantizedModel;
     fn belt_mean_sq_residual_samples(samples: *const MotionSample, count: usize, model: Params) -> Score;
     fn belt_quantize_global_param(gm_type: u8, flag: u8, slot: u8, value: i32) -> QuantizedParam;
-    fn belt_write_frame(frame: u16, words: *const u32, count: usize, blocks: *mut u8, room: usize) -> Stored;
+    fn belt_write_frame(
+        frame: u16,
+        words: *const u32,
+        count: usize,
+        classes: *const u8,
+        class_count: usize,
+        blocks: *mut u8,
+        room: usize,
+    ) -> Stored;
+    fn belt_read_both(
+        bytes: *const u8,
+        length: usize,
+        words: *mut u32,
+        room: usize,
+        classes: *mut u8,
+        class_room: usize,
+    ) -> FrameRead;
+    fn belt_to_form1(bytes: *const u8, length: usize, blocks: *mut u8, room: usize) -> Stored;
+    fn belt_to_form2(bytes: *const u8, length: usize, blocks: *mut u8, room: usize) -> Stored;
     fn belt_read_frame(bytes: *const u8, length: usize, words: *mut u32, room: usize) -> FrameRead;
     fn belt_judge_block(bytes: *const u8, length: usize) -> BlockRead;
     fn belt_list_block(bytes: *const u8, length: usize, text: *mut [u8; TEXT_BYTES]) -> usize;
@@ -367,9 +386,43 @@ pub fn quantize_global_param(gm_type: u8, flag: u8, slot: u8, value: i32) -> Qua
     unsafe { belt_quantize_global_param(gm_type, flag, slot, value) }
 }
 
-pub fn write_frame(frame: u16, words: &[u32], blocks: &mut [u8]) -> Stored {
+pub fn write_frame(frame: u16, words: &[u32], classes: &[u8], blocks: &mut [u8]) -> Stored {
+    // SAFETY: two slices are read, one written; one that is too short is refused before a byte is written.
+    unsafe {
+        belt_write_frame(
+            frame,
+            words.as_ptr(),
+            words.len(),
+            classes.as_ptr(),
+            classes.len(),
+            blocks.as_mut_ptr(),
+            blocks.len(),
+        )
+    }
+}
+
+pub fn read_both(bytes: &[u8], words: &mut [u32], classes: &mut [u8]) -> FrameRead {
+    // SAFETY: one slice is read, two written; the count of samples that the bytes claim is held against all three.
+    unsafe {
+        belt_read_both(
+            bytes.as_ptr(),
+            bytes.len(),
+            words.as_mut_ptr(),
+            words.len(),
+            classes.as_mut_ptr(),
+            classes.len(),
+        )
+    }
+}
+
+pub fn to_form1(bytes: &[u8], blocks: &mut [u8]) -> Stored {
     // SAFETY: one slice is read, one written; one that is too short is refused before a byte is written.
-    unsafe { belt_write_frame(frame, words.as_ptr(), words.len(), blocks.as_mut_ptr(), blocks.len()) }
+    unsafe { belt_to_form1(bytes.as_ptr(), bytes.len(), blocks.as_mut_ptr(), blocks.len()) }
+}
+
+pub fn to_form2(bytes: &[u8], blocks: &mut [u8]) -> Stored {
+    // SAFETY: one slice is read, one written; one that is too short is refused before a byte is written.
+    unsafe { belt_to_form2(bytes.as_ptr(), bytes.len(), blocks.as_mut_ptr(), blocks.len()) }
 }
 
 pub fn read_frame(bytes: &[u8], words: &mut [u32]) -> FrameRead {

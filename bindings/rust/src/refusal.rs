@@ -25,8 +25,12 @@ pub enum Refusal {
     PriorOut,
     /// 12: words to store out of range or not rising.
     NotRising,
+    /// 13: class 4 to be stored in form 1.
+    NotHeld,
     /// 3: output or working buffer too short.
     TooShort(Length),
+    /// 17: frame number 0: the shutter was closed.
+    ShutterClosed,
     /// 6: elimination refuses.
     Singular,
     /// 9: bytes end before the last bit or block.
@@ -59,7 +63,7 @@ impl Length {
 
 impl Refusal {
     /// Every row's number and condition, in the table's order.
-    pub const TABLE: [(u32, &str); 14] = [
+    pub const TABLE: [(u32, &str); 16] = [
         (1, "side over 1,024, or over 4,096 samples"),
         (18, "motion of a practice belt beyond 24 pels"),
         (2, "plane, class, type, model or prior list of wrong length"),
@@ -69,7 +73,9 @@ impl Refusal {
         (7, "model off the grid, uncarried slot or pair wrong"),
         (8, "prior out of range"),
         (12, "words to store out of range or not rising"),
+        (13, "class 4 to be stored in form 1"),
         (3, "output or working buffer too short"),
+        (17, "frame number 0: the shutter was closed"),
         (6, "elimination refuses"),
         (9, "bytes end before the last bit or block"),
         (10, "block check wrong"),
@@ -88,7 +94,9 @@ impl Refusal {
             Refusal::OffGrid => 7,
             Refusal::PriorOut => 8,
             Refusal::NotRising => 12,
+            Refusal::NotHeld => 13,
             Refusal::TooShort(_) => 3,
+            Refusal::ShutterClosed => 17,
             Refusal::Singular => 6,
             Refusal::EndsFirst => 9,
             Refusal::WrongCheck => 10,
@@ -114,7 +122,9 @@ impl Refusal {
             7 => Refusal::OffGrid,
             8 => Refusal::PriorOut,
             12 => Refusal::NotRising,
+            13 => Refusal::NotHeld,
             3 => Refusal::TooShort(length),
+            17 => Refusal::ShutterClosed,
             6 => Refusal::Singular,
             9 => Refusal::EndsFirst,
             10 => Refusal::WrongCheck,
@@ -125,7 +135,7 @@ impl Refusal {
 }
 
 /// ```
-/// let error = belt::write_frame(5, &[0x0006_FB7C], &mut [0; 511]).unwrap_err();
+/// let error = belt::write_frame(5, &[0x0006_FB7C], &[belt::FILM], &mut [0; 511]).unwrap_err();
 /// assert_eq!(error.to_string(), "3: output or working buffer too short: blocks has 511 elements, 512 are wanted");
 /// ```
 impl fmt::Display for Refusal {

@@ -3,7 +3,7 @@
 mod frames;
 
 use belt::{
-    BLOCK_BYTES, BLOCK_WORDS, Buffers, Fitted, Frame, Model, MotionSample, Refusal, Report, StoredModel, TEXT_BYTES,
+    BLOCK_BYTES, Buffers, Fitted, Form, Frame, Model, MotionSample, Refusal, Report, StoredModel, TEXT_BYTES,
     sample_count,
 };
 use frames::{Handed, guarded, moved, noisy_plane, smooth_plane};
@@ -36,7 +36,10 @@ fn run(handed: &Handed) -> (Report, Buffers) {
         &mut search.ref_half,
         &mut search.words,
     );
-    assert_eq!(found, Ok(samples));
+    let found = found.expect("no row refuses");
+    assert_eq!(found.samples, samples);
+    let blocks = u32::try_from(samples).unwrap();
+    assert!((736 * blocks..=6184 * blocks).contains(&found.rows));
     assert_eq!(
         (&search.input_half, &search.ref_half, &search.words),
         (&after.input_half, &after.ref_half, &after.words)
@@ -80,16 +83,22 @@ fn run(handed: &Handed) -> (Report, Buffers) {
     assert_eq!(wrote, Ok(report.bits));
     assert_eq!((&again[..bytes], &again[bytes..]), (&after.header[..bytes], &[0x77, 0x77][..]));
 
-    // the blocks read back as the words
-    let blocks = samples.div_ceil(BLOCK_WORDS);
-    let (own, behind) = after.blocks.split_at(blocks * BLOCK_BYTES);
+    // the blocks are of form 2 and read back as the words and the classes
+    let (own, behind) = after.blocks.split_at(belt::block_bytes(samples, Form::Two));
     assert_eq!(behind, &before.blocks[own.len()..]);
-    let mut back = vec![0; samples];
-    assert_eq!(belt::read_frame(own, &mut back), Ok(Frame { number: settings.frame, samples }));
-    assert_eq!(back, words);
+    let (mut back, mut classes) = (vec![0; samples], vec![0; samples]);
+    assert_eq!(belt::read_both(own, &mut back, &mut classes), Ok(Frame { number: settings.frame, samples }));
+    assert_eq!((&back[..], &classes), (words, &handed.classes));
+    if samples > 0 {
+        assert_eq!(belt::read_frame(own, &mut back), Err(Refusal::WrongBlock));
+    }
+    let mut stored = vec![0; own.len()];
+    assert_eq!(belt::write_frame(settings.frame, words, &classes, &mut stored), Ok(own.len() / BLOCK_BYTES));
+    assert_eq!(stored, own);
     for (ordinal, block) in own.chunks(BLOCK_BYTES).enumerate() {
         let judged = belt::judge_block(block).unwrap();
-        let count = BLOCK_WORDS.min(samples - BLOCK_WORDS * ordinal);
+        let most = Form::Two.samples();
+        let count = most.min(samples - most * ordinal);
         assert_eq!((judged.frame, judged.ordinal, judged.count), (settings.frame, ordinal, count));
         let mut text = [0; TEXT_BYTES];
         let text = belt::list_block(block, &mut text);
@@ -107,9 +116,9 @@ fn a_translation_by_whole_pels_is_found_exactly() {
         let input = moved(&reference, 96, 80, dy, dx);
         let (report, left) = run(&Handed::new(input, reference, 96, 80, 1));
         for (i, word) in left.words[..30].iter().enumerate() {
-            let (row, column, class) = (i as u32 / 6, i as u32 % 6, i as u32 % 4);
+            let (row, column) = (i as u32 / 6, i as u32 % 6);
             let (v, u) = ((8 * dy + 223) as u32, (8 * dx + 223) as u32);
-            assert_eq!(*word, row << 26 | column << 20 | v << 11 | u << 2 | class, "sample {i} of {dy}, {dx}");
+            assert_eq!(*word, row << 26 | column << 20 | v << 11 | u << 2, "sample {i} of {dy}, {dx}");
         }
         let whole = |pels: i64| pels as i32 * 65536;
         assert_eq!(report.models[2], StoredModel([whole(dy), whole(dx), 65536, 0, 0, 65536]));

@@ -3,7 +3,7 @@
 mod frames;
 
 use belt::Refusal::{self, *};
-use belt::{Buffers, Fitted, IDENTITIES, Kind, Length, Model, Shear, StoredModel};
+use belt::{Buffers, FILM, Fitted, Form, IDENTITIES, Kind, Length, METAL, Model, Shear, StoredModel};
 use frames::{Handed, guarded, noisy_plane};
 
 /// Words that rise, at zero motion.
@@ -14,11 +14,11 @@ fn words(count: usize) -> Vec<u32> {
 #[test]
 fn the_table_is_that_of_the_rules() {
     let numbers = Refusal::TABLE.map(|(number, _)| number);
-    assert_eq!(numbers, [1, 18, 2, 4, 5, 14, 7, 8, 12, 3, 6, 9, 10, 11]);
-    for row in [TooLarge, TooFar, NoSuchCode, NoSuchSlot, OffGrid, PriorOut, NotRising, Singular] {
+    assert_eq!(numbers, [1, 18, 2, 4, 5, 14, 7, 8, 12, 13, 3, 17, 6, 9, 10, 11]);
+    for row in [TooLarge, TooFar, NoSuchCode, NoSuchSlot, OffGrid, PriorOut, NotRising, NotHeld, Singular] {
         assert_eq!(row.to_string(), format!("{}: {}", row.number(), row.condition()));
     }
-    for row in [EndsFirst, WrongCheck, WrongBlock] {
+    for row in [ShutterClosed, EndsFirst, WrongCheck, WrongBlock] {
         assert!(Refusal::TABLE.contains(&(row.number(), row.condition())));
     }
     let rules = include_str!("../../../docs/RULES.md");
@@ -64,7 +64,7 @@ fn job() {
         (wrong("types", 7, 6), |h, _| h.types.push(0)),
         (wrong("models", 5, 6), |h, _| h.models.truncate(5)),
         (wrong("prior", 6, 7), |h, _| h.prior.truncate(6)),
-        (NoSuchCode, |h, _| h.classes[5] = 4),
+        (NoSuchCode, |h, _| h.classes[5] = 5),
         (NoSuchCode, |h, _| h.settings.gm_type = 0),
         (NoSuchCode, |h, _| h.settings.gm_type = 4),
         (NoSuchCode, |h, _| h.settings.flag = 2),
@@ -134,7 +134,7 @@ fn a_singular_job_leaves_the_search_alone_behind() {
             &mut search.ref_half,
             &mut search.words,
         );
-        assert_eq!(found, Ok(1));
+        assert_eq!(found.map(|found| found.samples), Ok(1));
         assert_ne!(search, before);
         assert_eq!(after, search);
         // with no samples row 6 touches nothing
@@ -154,18 +154,18 @@ fn search() {
         let (input, reference) = (&plane[..pels], &plane[..ref_pels]);
         let found =
             belt::collect_motion_samples(input, reference, width, 32, classes, input_half, ref_half, &mut words);
-        assert_eq!(found, row);
+        assert_eq!(found.map(|found| found.samples), row);
         if row.is_err() {
             assert_eq!((halves, words), ([vec![9; rooms[0]], vec![8; rooms[1]]], vec![7; rooms[2]]));
         }
     };
     let enough = [384, 384, 6];
-    call(48, 1536, 1536, &[3; 6], enough, Ok(6));
+    call(48, 1536, 1536, &[FILM; 6], enough, Ok(6));
     call(1025, 1536, 1536, &[0; 6], enough, Err(TooLarge));
     call(48, 1535, 1536, &[0; 6], enough, Err(wrong("input", 1535, 1536)));
     call(48, 1536, 1535, &[0; 6], enough, Err(wrong("reference", 1535, 1536)));
     call(48, 1536, 1536, &[0; 5], enough, Err(wrong("classes", 5, 6)));
-    call(48, 1536, 1536, &[0, 0, 0, 0, 0, 4], enough, Err(NoSuchCode));
+    call(48, 1536, 1536, &[0, 0, 0, 0, 0, 5], enough, Err(NoSuchCode));
     call(48, 1536, 1536, &[0; 6], [383, 384, 6], Err(short("input_half", 383, 384)));
     call(48, 1536, 1536, &[0; 6], [384, 383, 6], Err(short("ref_half", 383, 384)));
     call(48, 1536, 1536, &[0; 6], [384, 384, 5], Err(short("words", 5, 6)));
@@ -226,27 +226,77 @@ fn quantize_global_param() {
     }
 }
 
+/// The right check for a block that was changed.
+fn mended(mut block: Vec<u8>) -> Vec<u8> {
+    let word = |four: &[u8]| u32::from_be_bytes(four.try_into().unwrap());
+    let check = block[..508].chunks(4).map(word).fold(1u32, u32::wrapping_add);
+    block[508..].copy_from_slice(&check.to_be_bytes());
+    block
+}
+
 #[test]
-fn frames_stored_and_read() {
+fn frames_stored() {
     let good = words(126);
-    let store = |words: &[u32], room: usize, row: Result<usize, Refusal>| {
+    let film = [FILM; 126];
+    let store = |words: &[u32], classes: &[u8], room: usize, row: Result<usize, Refusal>| {
         let mut blocks = vec![0xEE; room];
-        assert_eq!(belt::write_frame(7, words, &mut blocks), row);
+        assert_eq!(belt::write_frame(7, words, classes, &mut blocks), row);
         if row.is_err() {
             assert_eq!(blocks, vec![0xEE; room]);
         }
-        blocks
     };
-    store(&words(4097), 40_000, Err(TooLarge));
-    store(&[447 << 11], 512, Err(NotRising));
-    store(&[447 << 2], 512, Err(NotRising));
-    store(&[good[1], good[0]], 512, Err(NotRising));
-    store(&[good[1], good[1]], 512, Err(NotRising));
-    store(&[good[1], good[1]], 0, Err(NotRising));
-    store(&good, 1023, Err(short("blocks", 1023, 1024)));
-    store(&good[..1], 511, Err(short("blocks", 511, 512)));
-    store(&[], 0, Ok(0));
-    let blocks = store(&good, 1024, Ok(2));
+    store(&words(4097), &[], 40_000, Err(TooLarge));
+    store(&good, &film[..125], 1024, Err(wrong("classes", 125, 126)));
+    store(&good[..1], &film[..2], 512, Err(wrong("classes", 2, 1)));
+    store(&[good[1], good[0]], &[FILM, 5], 512, Err(NoSuchCode));
+    store(&[447 << 11], &[0], 512, Err(NotRising));
+    store(&[447 << 2], &[0], 512, Err(NotRising));
+    store(&[good[0] | 1], &[1], 512, Err(NotRising));
+    store(&[good[1], good[0]], &film[..2], 512, Err(NotRising));
+    store(&[good[1], good[1]], &film[..2], 0, Err(NotRising));
+    store(&good, &film, 1023, Err(short("blocks", 1023, 1024)));
+    store(&good[..1], &film[..1], 511, Err(short("blocks", 511, 512)));
+    store(&[], &[], 0, Ok(0));
+    store(&good, &film, 1024, Ok(2));
+}
+
+#[test]
+fn frames_read_and_converted() {
+    let (good, metal, film) = (words(126), [METAL; 126], [FILM; 126]);
+    let (mut blocks, mut filmed, mut old) = ([0; 1024], [0; 1024], [0; 1024]);
+    assert_eq!(belt::write_frame(7, &good, &metal, &mut blocks), Ok(2));
+    assert_eq!(belt::write_frame(7, &good, &film, &mut filmed), Ok(2));
+    assert_eq!(belt::to_form1(&blocks, &mut old), Ok(2));
+
+    let both = |bytes: &[u8], rooms: [usize; 2], row| {
+        let (mut words, mut classes) = (vec![0xEEEE_EEEE; rooms[0]], vec![0xEE; rooms[1]]);
+        assert_eq!(belt::read_both(bytes, &mut words, &mut classes).map(|frame| frame.samples), row);
+        if row.is_err() {
+            assert_eq!((&words, &classes), (&vec![0xEEEE_EEEE; rooms[0]], &vec![0xEE; rooms[1]]));
+        }
+        (words, classes)
+    };
+    for (bytes, class) in [(&blocks, METAL), (&filmed, FILM), (&old, METAL)] {
+        let (words, classes) = both(bytes, [127, 128], Ok(126));
+        assert_eq!((&words[..126], words[126]), (&good[..], 0xEEEE_EEEE));
+        assert_eq!((&classes[..126], &classes[126..]), (&[class; 126][..], &[0xEE, 0xEE][..]));
+        both(bytes, [125, 126], Err(short("words", 125, 126)));
+        both(bytes, [126, 125], Err(short("classes", 125, 126)));
+        both(&bytes[..1023], [126, 126], Err(EndsFirst));
+        both(&[&bytes[..512], &[0; 512]].concat(), [126, 126], Err(WrongCheck));
+        both(&[&bytes[..512], &bytes[..512]].concat(), [126, 126], Err(WrongBlock));
+    }
+    // mixed forms
+    both(&[&blocks[..512], &old[512..]].concat(), [126, 126], Err(WrongBlock));
+    both(&[&old[..512], &blocks[512..]].concat(), [126, 126], Err(WrongBlock));
+    both(&[], [0, 0], Ok(0));
+    // a class bit, class 5, form 3 and filler
+    for (at, value) in [(11, 0x7D), (12, 5), (2, 3), (13, 1)] {
+        let mut one = vec![0; 512];
+        belt::write_frame(7, &good[..1], &[0], &mut one).unwrap();
+        one[at] = value;
+        both(&mended(one), [1, 1], Err(WrongBlock));
+    }
 
     let read = |bytes: &[u8], room: usize, row| {
         let mut words = vec![0xEEEE_EEEE; room];
@@ -256,27 +306,54 @@ fn frames_stored_and_read() {
         }
         words
     };
-    assert_eq!(read(&blocks, 127, Ok(126))[..126], good);
-    assert_eq!(read(&blocks, 127, Ok(126))[126], 0xEEEE_EEEE);
-    read(&blocks, 125, Err(short("words", 125, 126)));
-    read(&blocks[..1023], 126, Err(EndsFirst));
-    read(&blocks[..512], 126, Err(EndsFirst));
+    let classed: Vec<u32> = good.iter().map(|word| word | u32::from(METAL)).collect();
+    assert_eq!(read(&old, 127, Ok(126))[..126], classed);
+    assert_eq!(read(&old, 127, Ok(126))[126], 0xEEEE_EEEE);
+    read(&old, 125, Err(short("words", 125, 126)));
+    read(&old[..512], 126, Err(EndsFirst));
     read(&[0; 511], 126, Err(EndsFirst));
     read(&[0; 512], 126, Err(WrongCheck));
-    read(&[&blocks[..512], &[0; 512]].concat(), 126, Err(WrongCheck));
-    read(&[&blocks[..512], &blocks[..512]].concat(), 126, Err(WrongBlock));
+    read(&blocks, 126, Err(WrongBlock));
     read(&[], 0, Ok(0));
 
+    type Convert = fn(&[u8], &mut [u8]) -> Result<usize, Refusal>;
+    let convert = |to: Convert, bytes: &[u8], room: usize, row: Result<usize, Refusal>| {
+        let mut out = vec![0xEE; room];
+        assert_eq!(to(bytes, &mut out), row);
+        if row.is_err() {
+            assert_eq!(out, vec![0xEE; room]);
+        }
+        out
+    };
+    assert_eq!(convert(belt::to_form2, &old, 1024, Ok(2)), blocks);
+    assert_eq!(convert(belt::to_form1, &blocks, 1025, Ok(2))[..1024], old);
+    convert(belt::to_form2, &blocks, 1024, Err(WrongBlock));
+    convert(belt::to_form1, &old, 1024, Err(WrongBlock));
+    convert(belt::to_form1, &filmed, 0, Err(NotHeld));
+    convert(belt::to_form1, &filmed[..512], 0, Err(EndsFirst));
+    convert(belt::to_form1, &[&filmed[..512], &[0; 512]].concat(), 0, Err(WrongCheck));
+    convert(belt::to_form1, &blocks, 1023, Err(short("blocks", 1023, 1024)));
+    convert(belt::to_form2, &old, 1023, Err(short("blocks", 1023, 1024)));
+    convert(belt::to_form1, &[], 0, Ok(0));
+    convert(belt::to_form2, &[], 0, Ok(0));
+    assert_eq!([Form::One, Form::Two].map(|form| belt::block_bytes(126, form)), [1024, 1024]);
+}
+
+#[test]
+fn blocks_judged_and_listed() {
+    let good = words(126);
+    let (mut blocks, mut old) = ([0; 1024], [0; 1024]);
+    belt::write_frame(7, &good, &[METAL; 126], &mut blocks).unwrap();
+    belt::to_form1(&blocks, &mut old).unwrap();
     let judge = |bytes: &[u8]| belt::judge_block(bytes).map(|block| (block.frame, block.ordinal, block.count));
-    assert_eq!(judge(&blocks), Ok((7, 0, 125)));
-    assert_eq!(judge(&blocks[512..]), Ok((7, 1, 1)));
+    assert_eq!((judge(&blocks), judge(&blocks[512..])), (Ok((7, 0, 100)), Ok((7, 1, 26))));
+    assert_eq!((judge(&old), judge(&old[512..])), (Ok((7, 0, 125)), Ok((7, 1, 1))));
     assert_eq!(judge(&blocks[513..]), Err(EndsFirst));
     assert_eq!(judge(&[0; 512]), Err(WrongCheck));
     // form 0, check right
     let mut form = blocks[512..].to_vec();
     form[2] = 0;
-    let check = u32::from_be_bytes(form[508..].try_into().unwrap()) - 0x0100;
-    form[508..].copy_from_slice(&check.to_be_bytes());
+    let form = mended(form);
     assert_eq!(judge(&form), Err(WrongBlock));
 
     let mut text = [0xEE; belt::TEXT_BYTES];
@@ -284,6 +361,48 @@ fn frames_stored_and_read() {
     assert_eq!(text[11..], [0xEE; belt::TEXT_BYTES - 11]);
     assert_eq!(belt::list_block(&[0; 512], &mut text), "refused 10\n");
     assert_eq!(belt::list_block(&[], &mut text), "refused 9\n");
+    assert_eq!(belt::list_block(&old[512..], &mut text), "frame 7 block 1 count 1\n1 61 0 0 3\n");
+}
+
+/// The frame number of every block made 0, with the checks right.
+fn shut(blocks: &[u8]) -> Vec<u8> {
+    blocks.chunks(512).flat_map(|block| mended([&[0, 0], &block[2..]].concat())).collect()
+}
+
+#[test]
+fn a_closed_shutter() {
+    let good = words(126);
+    let (mut blocks, mut old) = ([0; 1024], [0; 1024]);
+    for (count, classes, room, row) in [
+        (0, 0, 0, ShutterClosed),
+        (0, 1, 0, wrong("classes", 1, 0)),
+        (1, 1, 511, short("blocks", 511, 512)),
+        (1, 1, 512, ShutterClosed),
+        (126, 126, 1024, ShutterClosed),
+    ] {
+        let mut out = vec![0xEE; room];
+        assert_eq!(belt::write_frame(0, &good[..count], &vec![FILM; classes], &mut out), Err(row));
+        assert_eq!(out, vec![0xEE; room]);
+    }
+    belt::write_frame(7, &good, &[METAL; 126], &mut blocks).unwrap();
+    belt::to_form1(&blocks, &mut old).unwrap();
+    let mut filmed = [0; 1024];
+    belt::write_frame(7, &good, &[FILM; 126], &mut filmed).unwrap();
+    let (blocks, old, filmed) = (shut(&blocks), shut(&old), shut(&filmed));
+    // read and converted: 17 after the block's own rows, before 13 and 3, and before a bad second block
+    for bytes in [&blocks[..], &old[..], &[&blocks[..512], &[0; 512]].concat()[..]] {
+        assert_eq!(belt::read_both(bytes, &mut [], &mut []), Err(ShutterClosed));
+    }
+    assert_eq!(belt::read_frame(&old, &mut []), Err(ShutterClosed));
+    assert_eq!(belt::read_frame(&blocks, &mut []), Err(WrongBlock));
+    assert_eq!(belt::to_form2(&old, &mut []), Err(ShutterClosed));
+    assert_eq!(belt::to_form1(&old, &mut []), Err(WrongBlock));
+    assert_eq!(belt::to_form1(&filmed, &mut []), Err(ShutterClosed));
+    assert_eq!(belt::read_both(&blocks[..511], &mut [], &mut []), Err(EndsFirst));
+    // alone they are judged and listed
+    assert_eq!(belt::judge_block(&blocks).map(|block| (block.frame, block.count)), Ok((0, 100)));
+    let mut text = [0; belt::TEXT_BYTES];
+    assert_eq!(belt::list_block(&old[512..], &mut text), "frame 0 block 1 count 1 closed\n1 61 0 0 3\n");
 }
 
 #[test]

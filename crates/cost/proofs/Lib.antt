@@ -1,4 +1,5 @@
-pub mod Stored
 pub mod Sum
-pub mod Rows
+pub mod Stored
 pub mod Bilinear
+pub mod Ended
+pub mod Laid

@@ -1,35 +1,15 @@
 -- What the functions below the public calls ask and answer; no public contract cites it.
 -- Assumes nothing.
-use Prim.Native.Nat.{ℕ, _+_, _*_, _≤_, _<_}
+use Prim.Native.Nat.{ℕ, _+_, _*_, _-_, _/_, _%_, _≤_, _<_}
 use mathlib.Core.List.{List}
 use mathlib.Core.Path.{_≡_}
 use lib.ListN.{length, getD}
 use Rattle.laws.specs.Loops.{sum}
-use Rattle.plane.specs.declared.Place.{Place}
 use Rattle.plane.specs.declared.Offset.{Offset}
+use Rattle.plane.specs.Plane.{listing}
 use Rattle.plane.specs.Difference.{difference}
-use Rattle.plane.specs.Inner.{Small}
+use Rattle.cost.specs.declared.Added.{Added}
 use Rattle.cost.specs.Cost.{bilinear}
-
--- two planes of the place's sides
-pub record Planes (input ref : List ℕ) (place : Place) : Type 0 where
-  pub small : Small (place .width) (place .height)
-  pub input-pels : place .height * place .width ≡ length input
-  pub ref-pels : place .height * place .width ≡ length ref
-
--- n pels from a place on lie inside, and the biased offset is small
-pub record RowAt (n : ℕ) (place : Place) (by : Offset) : Type 0 where
-  pub row : place .r < place .height
-  pub columns : place .c + n ≤ place .width
-  pub y-small : by .y ≤ 512
-  pub x-small : by .x ≤ 512
-
--- an n × n block at a place lies inside, and the biased offset is small
-pub record BlockAt (n : ℕ) (place : Place) (by : Offset) : Type 0 where
-  pub rows : place .r + n ≤ place .height
-  pub columns : place .c + n ≤ place .width
-  pub y-small : by .y ≤ 512
-  pub x-small : by .x ≤ 512
 
 -- parts of n pels
 pub record Rows (n : ℕ) (a b : List ℕ) : Type 0 where
@@ -61,3 +41,62 @@ pub record Weighable (a b f : ℕ) : Type 0 where
 unfoldable pub bilinearDifference : ℕ → List ℕ → List ℕ → List ℕ → ℕ → ℕ → ℕ
 bilinearDifference n input top bottom fy fx =
     sum (λ j. difference (getD input j 0) (bilinear fy fx (getD top j 0) (getD top (j + 1) 0) (getD bottom j 0) (getD bottom (j + 1) 0))) n
+
+-- n × n pels of a block, a window of so many pels each way, and n × n pels of it from row y, column x on
+pub record Framed (n side : ℕ) (block window : List ℕ) (y x : ℕ) : Type 0 where
+  pub pels : length block ≡ n * n
+  pub seen : length window ≡ side * side
+  pub rows : y + n ≤ side
+  pub columns : x + n ≤ side
+
+-- row i of the block against the window's
+unfoldable pub windowCost : ℕ → ℕ → List ℕ → List ℕ → ℕ → ℕ → ℕ → ℕ
+windowCost n side block window y x i = sum (λ j. difference (getD block (i * n + j) 0) (getD window ((y + i) * side + x + j) 0)) n
+
+unfoldable pub windowCosts : ℕ → ℕ → List ℕ → List ℕ → ℕ → ℕ → List ℕ
+windowCosts n side block window y x = listing (windowCost n side block window y x) n
+
+-- row i of n pels of the block against those predicted from the window's
+unfoldable pub bilinearWindowCost : ℕ → ℕ → List ℕ → List ℕ → ℕ → ℕ → ℕ → ℕ → ℕ → ℕ
+bilinearWindowCost n side block window y x fy fx i =
+    sum
+    (λ j.
+    difference (getD block (i * n + j) 0)
+    (bilinear fy fx
+    (getD window ((y + i) * side + x + j) 0)
+    (getD window ((y + i) * side + x + (j + 1)) 0)
+    (getD window ((y + i) * side + x + side + j) 0)
+    (getD window ((y + i) * side + x + side + (j + 1)) 0)))
+    n
+
+-- a motion's whole pels from the window's first row or column on, the window lying about `corner`, and its fraction
+abbrev pub wholeIn : ℕ → ℕ → ℕ
+wholeIn corner m = (m + 1) / 8 + 3 - corner
+
+abbrev pub fractionOf : ℕ → ℕ
+fractionOf m = (m + 1) % 8
+
+unfoldable pub bilinearWindowCosts : List ℕ → List ℕ → Offset → Offset → List ℕ
+bilinearWindowCosts block window corner motion =
+    listing
+    (bilinearWindowCost 16 24 block window (wholeIn (corner .y) (motion .y)) (wholeIn (corner .x) (motion .x)) (fractionOf (motion .y)) (fractionOf (motion .x)))
+    16
+
+-- a motion in eighths, biased by 223, whose pels lie in the window about `corner`
+pub record Reached (corner motion : ℕ) : Type 0 where
+  pub low : 8 * corner ≤ motion + 24
+  pub high : motion ≤ 8 * corner + 38
+  pub small : motion ≤ 512
+
+-- a block, a window, and a motion whose pels lie in it
+pub record Aimed (block window : List ℕ) (corner motion : Offset) : Type 0 where
+  pub pels : length block ≡ 256
+  pub seen : length window ≡ 576
+  pub y-reached : Reached (corner .y) (motion .y)
+  pub x-reached : Reached (corner .x) (motion .x)
+
+-- this sum, of n rows at most, and a cost that isn't near 2^32
+pub record Sums (n : ℕ) (value result : Added) : Type 0 where
+  pub same : result ≡ value
+  pub few : result .rows ≤ n
+  pub small : result .cost ≤ 16777472

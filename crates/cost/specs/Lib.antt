@@ -1,2 +1,3 @@
 pub mod Cost
+pub mod Ended
 pub mod Inner

@@ -1,7 +1,13 @@
 // The three sums of absolute differences of the search (docs/RULES.md, 'Search'; the closures
 // `sad_half`, `sad_int` and `sad_subpel` of the Rust's `collect_motion_samples`).
-// In go two planes row by row, their sides, the place of a block and an offset; out comes the cost.
-// An offset is a natural number, the signed one plus a bias, so that a coordinate clamps at 0 by
-// one test. A row that lies inside the plane has a constant width and no clamp.
+// In go the best cost so far, a block of the input, a window of the reference and where in it the
+// block is laid; out come the cost and the rows added. A sum ends after the first row that brings it,
+// with the offset cost that it begins at, to the best so far or above.
 pub mod eighths; // eighths.rt: 16×16 between pels, bilinear
 pub mod whole; // whole.rt: 8×8 on half planes and 16×16 on planes, by whole pels
+
+// A sum and how many rows were added to it.
+pub struct Added {
+    pub cost: u32,
+    pub rows: u32,
+}

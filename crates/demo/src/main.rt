@@ -1,4 +1,5 @@
-// A job for each of the three types, on a textured belt that moved, grew and turned between two frames.
+// A job for each of the three types, on a textured belt that carries fibre and film, and that moved,
+// grew and turned between two frames.
 // Prints the true motion, the measured one and the one that its header reads as, in pels, zoom and
 // degrees, how many samples agree, the score and the bits; then what is stored: the header's bytes and
 // the blocks as the list program prints them; last, whether all of it is right.
@@ -35,6 +36,10 @@ const TRANSLATION: u8 = 1;
 const ROTZOOM: u8 = 2;
 
 const AFFINE: u8 = 3;
+
+const FIBRE: u8 = 1;
+
+const FILM: u8 = 4;
 
 // 1 at 16 fraction bits.
 const ONE: i32 = 65536;
@@ -122,6 +127,16 @@ fn fill_reference(reference: &mut [u16]) {
         reference[i] = reference_pel(i);
         i += 1;
     }
+}
+
+// What lies on the belt: fibre, with film over a corner.
+fn load() -> [u8; SAMPLES] {
+    let mut classes = [FIBRE; SAMPLES];
+    classes[10] = FILM;
+    classes[11] = FILM;
+    classes[14] = FILM;
+    classes[15] = FILM;
+    classes
 }
 
 // The same motions as models, x first: blocks have their centres at 7.5 and every 16 pels from there.
@@ -262,6 +277,19 @@ fn same_words(a: &[u32], b: &[u32]) -> bool {
     true
 }
 
+fn same_classes(a: &[u8], b: &[u8]) -> bool {
+    let mut i = 0;
+    while i < a.len() {
+        if i < b.len() {
+            if a[i] != b[i] {
+                return false;
+            }
+        }
+        i += 1;
+    }
+    true
+}
+
 fn same_model(a: [i32; 6], b: [i32; 6]) -> bool {
     let mut i = 0;
     while i < 6 {
@@ -296,9 +324,10 @@ fn agreeing(model: [i32; 6], words: &[u32]) -> usize {
     n
 }
 
-fn blocks_agree(blocks: &[u8], words: &[u32]) -> bool {
+fn blocks_agree(blocks: &[u8], words: &[u32], classes: &[u8]) -> bool {
     let mut again = [0u32; SAMPLES];
-    let read = block::read_frame(blocks, &mut again);
+    let mut sorted = [0u8; SAMPLES];
+    let read = frame_read::read_both(blocks, &mut again, &mut sorted);
     if read.refusal != 0 {
         return false;
     }
@@ -308,7 +337,7 @@ fn blocks_agree(blocks: &[u8], words: &[u32]) -> bool {
     if read.samples != words.len() {
         return false;
     }
-    same_words(words, &again)
+    same_words(words, &again) && same_classes(classes, &sorted)
 }
 
 fn verdict(is_right: bool) {
@@ -325,7 +354,15 @@ fn least(a: usize, b: usize) -> usize
     if a < b { a } else { b }
 }
 
-fn finish(gm_type: u8, r: Report, words: &[u32], blocks: &[u8], header: &[u8], prior: &[i32]) {
+fn finish(
+    gm_type: u8,
+    r: Report,
+    words: &[u32],
+    classes: &[u8],
+    blocks: &[u8],
+    header: &[u8],
+    prior: &[i32],
+) {
     let truth = true_motion(gm_type);
     let models = r.models;
     let measured = own_model(gm_type, models);
@@ -340,7 +377,9 @@ fn finish(gm_type: u8, r: Report, words: &[u32], blocks: &[u8], header: &[u8], p
     print_bytes(&header[0..used]);
     print_block(blocks);
     verdict(
-        same_model(truth, measured) && same_model(measured, stored) && blocks_agree(blocks, words),
+        same_model(truth, measured)
+            && same_model(measured, stored)
+            && blocks_agree(blocks, words, classes),
     );
 }
 
@@ -352,7 +391,7 @@ fn run(gm_type: u8, input: &[u16], reference: &[u16], prior: &[i32], models: &[i
         flag: HIGH_PRECISION,
         start: START,
     };
-    let classes = [1u8; SAMPLES];
+    let classes = load();
     let types = [0u8; 6];
     let mut input_half = [0u16; HALF];
     let mut ref_half = [0u16; HALF];
@@ -379,7 +418,7 @@ fn run(gm_type: u8, input: &[u16], reference: &[u16], prior: &[i32], models: &[i
         print_count(b"refused ", r.refusal as usize);
         return;
     }
-    finish(gm_type, r, &words, &blocks, &header, prior);
+    finish(gm_type, r, &words, &classes, &blocks, &header, prior);
 }
 
 fn show(gm_type: u8) {

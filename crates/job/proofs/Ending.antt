@@ -17,7 +17,7 @@ use Rattle.laws.proofs.Call.{answered-accepted, answered-refused, left-accepted
 use Rattle.laws.proofs.Cases.{eq-or-ne}
 use Rattle.search.specs.declared.Searched.{Searched}
 use Rattle.search.specs.Refusal as search
-use Rattle.block.specs.Frame.{blocksLeft, frameBytes, storeRefusal}
+use Rattle.frame_store.specs.Store.{blocksLeft, storeRefusal}
 use Rattle.header.specs.Writing.{written, bitsPlaced}
 use Rattle.job_task.specs.declared.Settings.{Settings}
 use Rattle.job_task.specs.Task.{Task, Lent, lend, searchTask, searchLent}
@@ -28,7 +28,7 @@ use Rattle.job_model.specs.declared.Modelled.{Modelled}
 use Rattle.job_model.specs.Modelled.{modelled, modelledAs, notModelled}
 use Rattle.job_model.specs.Inner.{Modelling}
 use Rattle.job_outcome.specs.declared.Report.{Report}
-use Rattle.job_outcome.specs.Outcome.{Ended, ended, samples, words, bits, late, refused, accepted, outcome}
+use Rattle.job_outcome.specs.Outcome.{Ended, ended, samples, words, bits, late, refused, accepted, blocksBy, outcome}
 use Rattle.job_outcome.specs.Done.{Done}
 use Rattle.job_outcome.proofs.Demand3.{done}
 use Rattle.job_outcome.proofs.Stages.{refused-early, refused-late, ends-accepted}
@@ -99,7 +99,7 @@ module _ (j : Task) where
   with-none h = answered-refused notModelled (late j) whole h
 
   abbrev finishedOf : Lent → Finished
-  finishedOf l = finished (j .settings) (j .types) (j .models) (j .prior) (words j) (l .blocks) (l .header)
+  finishedOf l = finished (j .settings) (j .types) (j .models) (j .prior) (words j) (j .classes) (l .blocks) (l .header)
 
   finished-refused : (l : Lent) → (late j ≡ 0 → ⊥) → finishedOf l ≡ finish (refused (late j)) (l .blocks) (l .header)
   unfolding finished
@@ -111,12 +111,12 @@ module _ (j : Task) where
         rw (bits-written j (r .sound) z (l .header) (r .header-room))
         (ap (λ (n : ℕ). reportOf whole (length (bits j)) n) (words-length j))
 
-    blocks-are : blocksLeft (j .settings .frame) (words j) (l .blocks) ≡ onto (frameBytes (j .settings .frame) (words j)) (l .blocks)
+    blocks-are : blocksLeft (j .settings .frame) (words j) (j .classes) (l .blocks) ≡ blocksBy j l
     blocks-are =
         let n = length (l .blocks) in
-        left-accepted (storeRefusal (words j) n) (onto (frameBytes (j .settings .frame) (words j)) (l .blocks)) (l .blocks) (stored j (r .sound) n (r .blocks-room))
+        left-accepted (storeRefusal (j .settings .frame) (words j) (j .classes) n) (blocksBy j l) (l .blocks) (stored j (r .sound) n (r .blocks-room))
 
-    finished-accepted : finishedOf l ≡ finish (accepted j) (onto (frameBytes (j .settings .frame) (words j)) (l .blocks)) (bitsPlaced (j .settings .start) (bits j) (l .header))
+    finished-accepted : finishedOf l ≡ finish (accepted j) (blocksBy j l) (bitsPlaced (j .settings .start) (bits j) (l .header))
     unfolding finished
     finished-accepted = rw (with-model z) (finish-same report-is blocks-are (header-written j (r .sound) z (l .header) (r .header-room)))
 
@@ -134,20 +134,20 @@ module _ (j : Task) (l : Lent) (quiet : early j l ≡ 0) {found : Searched} {lef
       (λ (h : late j ≡ 0 → ⊥). rw (d .buffers, finished-refused j l h) (sym (refused-late j l quiet h)))
       (eq-or-ne (late j) 0)
 
-  pub ended-found : {f : Finished} → f ≡ finished (j .settings) (j .types) (j .models) (j .prior) (take (found .samples) (left .words)) (l .blocks) (l .header)
+  pub ended-found : {f : Finished} → f ≡ finished (j .settings) (j .types) (j .models) (j .prior) (take (found .samples) (left .words)) (j .classes) (l .blocks) (l .header)
       → endedBy left f ≡ outcome j l
   ended-found e =
       let s = j .settings in
-      ap (endedBy left) (e ∙ ap (λ (ws : List ℕ). finished s (j .types) (j .models) (j .prior) ws (l .blocks) (l .header)) (found-words j l (ready j l quiet) d)) ∙ by-words
+      ap (endedBy left) (e ∙ ap (λ (ws : List ℕ). finished s (j .types) (j .models) (j .prior) ws (j .classes) (l .blocks) (l .header)) (found-words j l (ready j l quiet) d)) ∙ by-words
 
 -- ---- the code's two ways through `finish`, and the call's refusal
 
-module _ (s : Settings) (ts : List ℕ) (ms qs : List ℤ) (ws blocks header : List ℕ) {m : Modelled} (e : m ≡ modelled s ts ms ws) where
-  pub finish-refused : (m .refusal ≡ 0 → ⊥) → {report : Report} → report ≡ refused (m .refusal) → finish report blocks header ≡ finished s ts ms qs ws blocks header
+module _ (s : Settings) (ts : List ℕ) (ms qs : List ℤ) (ws cs blocks header : List ℕ) {m : Modelled} (e : m ≡ modelled s ts ms ws) where
+  pub finish-refused : (m .refusal ≡ 0 → ⊥) → {report : Report} → report ≡ refused (m .refusal) → finish report blocks header ≡ finished s ts ms qs ws cs blocks header
   unfolding finished
   finish-refused h q = rw (← e, ne-eqb (m .refusal) 0 h) (ap (λ (r : Report). finish r blocks header) q)
 
-  pub finish-written : m .refusal ≡ 0 → {f : Finished} → f ≡ writtenOut m s qs ws blocks header → f ≡ finished s ts ms qs ws blocks header
+  pub finish-written : m .refusal ≡ 0 → {f : Finished} → f ≡ writtenOut m s qs ws cs blocks header → f ≡ finished s ts ms qs ws cs blocks header
   unfolding finished
   finish-written z q = rw (← e, z) q
 

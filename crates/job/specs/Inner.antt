@@ -6,7 +6,7 @@ use lib.Dec.{eqb}
 use lib.IntN.{ℤ}
 use lib.ListN.{length}
 use Rattle.laws.specs.Refusal.{choose}
-use Rattle.block.specs.Frame.{blocksLeft}
+use Rattle.frame_store.specs.Store.{blocksLeft}
 use Rattle.header.specs.Writing.{written, headerAfter}
 use Rattle.job_task.specs.declared.Settings.{Settings}
 use Rattle.job_model.specs.declared.Modelled.{Modelled}
@@ -28,17 +28,17 @@ abbrev pub reportOf : Modelled → ℕ → ℕ → Report
 reportOf m bits samples =
     record { refusal = 0; types = m .types; models = m .models; score = m .score; bits = bits; samples = samples }
 
--- a model written out: the words into blocks, the seven models into the header
-abbrev pub writtenOut : Modelled → Settings → List ℤ → List ℕ → List ℕ → List ℕ → Finished
-writtenOut m s prior ws blocks header =
+-- a model written out: the words and their classes into blocks, the seven models into the header
+abbrev pub writtenOut : Modelled → Settings → List ℤ → List ℕ → List ℕ → List ℕ → List ℕ → Finished
+writtenOut m s prior ws cs blocks header =
     finish
     (reportOf m (written (s .start) (m .types) (m .models) (s .flag) prior (length header) .bits) (length ws))
-    (blocksLeft (s .frame) ws blocks)
+    (blocksLeft (s .frame) ws cs blocks)
     (headerAfter (s .start) (m .types) (m .models) (s .flag) prior header)
 
 -- the model written out; a refused one leaves blocks and header as they were
-abbrev pub finishedAs : Modelled → Settings → List ℤ → List ℕ → List ℕ → List ℕ → Finished
-finishedAs m s prior ws blocks header = choose (eqb (m .refusal) 0) (writtenOut m s prior ws blocks header) (finish (refused (m .refusal)) blocks header)
+abbrev pub finishedAs : Modelled → Settings → List ℤ → List ℕ → List ℕ → List ℕ → List ℕ → Finished
+finishedAs m s prior ws cs blocks header = choose (eqb (m .refusal) 0) (writtenOut m s prior ws cs blocks header) (finish (refused (m .refusal)) blocks header)
 
-unfoldable pub finished : Settings → List ℕ → List ℤ → List ℤ → List ℕ → List ℕ → List ℕ → Finished
-finished s types models prior ws blocks header = finishedAs (modelled s types models ws) s prior ws blocks header
+unfoldable pub finished : Settings → List ℕ → List ℤ → List ℤ → List ℕ → List ℕ → List ℕ → List ℕ → Finished
+finished s types models prior ws cs blocks header = finishedAs (modelled s types models ws) s prior ws cs blocks header

@@ -29,21 +29,22 @@ fn refused(number: u32) -> Report
     }
 }
 
-// The words into blocks, the seven models into the header.
+// The words and their classes into blocks of form 2, the seven models into the header.
 fn write_out(
     m: Modelled,
     settings: Settings,
     prior: &[i32],
     words: &[u32],
+    classes: &[u8],
     blocks: &mut [u8],
     header: &mut [u8],
 ) -> Report
     ensures { λ r. ⌜ inner.finish r (now (blocks .exit)) (now (header .exit)) ≡
-        inner.writtenOut m settings (now (prior .entry)) (now (words .entry)) (now (blocks .entry)) (now (header .entry)) ⌝ }
+        inner.writtenOut m settings (now (prior .entry)) (now (words .entry)) (now (classes .entry)) (now (blocks .entry)) (now (header .entry)) ⌝ }
 {
     let types = m.types;
     let models = m.models;
-    block::write_frame(settings.frame, words, &mut *blocks);
+    frame_store::write_frame(settings.frame, words, classes, &mut *blocks);
     let w = header::encode_inter_global_motion(
         &types,
         &models,
@@ -69,18 +70,27 @@ fn finish(
     models: &[i32],
     prior: &[i32],
     words: &[u32],
+    classes: &[u8],
     blocks: &mut [u8],
     header: &mut [u8],
 ) -> Report
     requires { ⌜ Modelling settings (now types) (now models) (now words) ⌝ }
     ensures { λ r. ⌜ inner.finish r (now (blocks .exit)) (now (header .exit)) ≡
-        inner.finished settings (now (types .entry)) (now (models .entry)) (now (prior .entry)) (now (words .entry)) (now (blocks .entry)) (now (header .entry)) ⌝ }
+        inner.finished settings (now (types .entry)) (now (models .entry)) (now (prior .entry)) (now (words .entry)) (now (classes .entry)) (now (blocks .entry)) (now (header .entry)) ⌝ }
 {
     let m = job_model::models_of(settings, types, models, words);
     if m.refusal != 0 {
         return refused(m.refusal);
     }
-    write_out(m, settings, prior, words, &mut *blocks, &mut *header)
+    write_out(
+        m,
+        settings,
+        prior,
+        words,
+        classes,
+        &mut *blocks,
+        &mut *header,
+    )
 }
 
 // A job that no row before the search refuses.
@@ -123,6 +133,7 @@ fn run(
         models,
         prior,
         &words[..found.samples],
+        classes,
         &mut *blocks,
         &mut *header,
     )

@@ -1,5 +1,6 @@
 pub mod Stages
 pub mod Samples
+pub mod Alone
 pub mod Blocks
 pub mod OwnModel
 pub mod Seven

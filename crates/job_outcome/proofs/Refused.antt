@@ -6,7 +6,7 @@ use mathlib.Core.Path.{_≡_, refl, sym, ap, _∙_}
 use native.Mathlib.Omega.{arith}
 use lib.ListN.{length}
 use Rattle.laws.proofs.Refusal.{or-else-refused, or-else-none}
-use Rattle.block.specs.Frame.{storeRefusal}
+use Rattle.frame_store.specs.Store.{storeRefusal}
 use Rattle.models.specs.Models.{modelWrong, modelsWrong}
 use Rattle.job_model.specs.Modelled.{stored}
 use Rattle.job_model.proofs.FitOfType.{refusal-or-six}
@@ -53,7 +53,7 @@ module _ (j : Task) (l : Lent) where
 
   module _ (quiet : early j l ≡ 0) where
     -- storing refuses nothing, 12 neither
-    pub storing-accepted : storeRefusal (words j) (length (l .blocks)) ≡ 0
+    pub storing-accepted : storeRefusal (j .settings .frame) (words j) (j .classes) (length (l .blocks)) ≡ 0
     storing-accepted = let r = ready j l quiet in blocks.stored j (r .sound) (length (l .blocks)) (r .blocks-room)
 
     -- no model of a job is wrong, the fitted one neither
@@ -70,7 +70,7 @@ module _ (j : Task) (l : Lent) where
       early-again =
           let q = all-quiet (sizesOf j l) (j .settings) (j .classes) (j .types) (j .models) (j .prior) quiet in
           quiet-all (sizesOf j other) (j .settings) (j .classes) (j .types) (j .models) (j .prior)
-          (record { sizes = q .sizes; codes = q .codes; handed = q .handed; room = rw enough })
+          (record { sizes = q .sizes; codes = q .codes; handed = q .handed; room = rw enough; shutter = q .shutter })
 
       pub same-report : late j ≡ 0 → outcome j other .report ≡ outcome j l .report
       same-report fits =

@@ -1,22 +1,19 @@
 -- The words of a job's search: how many, that a frame may store them, and what each of them holds.
 -- Assumes nothing.
-use Prim.Native.Nat.{ℕ, _/_, _%_, _≤_, _<_}
+use Prim.Native.Nat.{ℕ, _/_, _%_, _^_, _≤_, _<_}
 use mathlib.Core.Bool.{true}
-use mathlib.Core.Path.{_≡_, sym, ap, _∙_}
-use native.Mathlib.Nat.{div-lt-iff-lt-mul, mod-lt}
-use native.Mathlib.Omega.{arith}
+use mathlib.Core.Path.{_≡_, refl, sym, ap, _∙_}
 use lib.IntN.{ℤ, pos, natAbs, _+ℤ_, _-ℤ_, +ℤ-negℤ-cancel}
 use lib.ListN.{length, getD}
 use Rattle.grid.proofs.Symbols.{lifted}
-use Rattle.sample.specs.Inner.{Held}
 use Rattle.sample.specs.Word.{rowOf, colOf, vOf, uOf, classOf}
 use Rattle.sample.specs.Sample.{eighthsOf}
 use Rattle.sample.specs.Storable.{storable}
 use Rattle.sample.proofs.Word as word
+use Rattle.class.specs.Class.{allBare}
 use Rattle.search.specs.Search.{stored, natural, blockColumns}
-use Rattle.search.proofs.Range.{motion-within-223, stored-motion-le-446}
-use Rattle.search.proofs.Rows.{factor-pos}
-use Rattle.search.proofs.Words.{sampleWords-length, sampleCount-le-4096, sampleWords-at, sampleWords-storable}
+use Rattle.search.proofs.Range.{motion-within-223}
+use Rattle.search.proofs.Words.{sampleWords-length, sampleCount-le-4096, sampleWords-at, word-held, sampleWords-storable, sampleWords-bare, sampleWords-fit}
 use Rattle.job_task.specs.Task.{Task}
 use Rattle.job_task.proofs.Ready.{Sound}
 use Rattle.job_outcome.specs.Outcome.{samples, words}
@@ -30,7 +27,7 @@ stored-eighths z h =
     ap (λ (n : ℕ). pos n -ℤ pos 223) same ∙ (ap (λ (y : ℤ). y -ℤ pos 223) (sym up) ∙ +ℤ-negℤ-cancel z (pos 223))
 
 pub words-length : (j : Task) → length (words j) ≡ samples j
-words-length j = sampleWords-length (j .input) (j .reference) (j .width) (j .height) (j .classes)
+words-length j = sampleWords-length (j .input) (j .reference) (j .width) (j .height)
 
 module _ (j : Task) (s : Sound j) where
   pub samples-few : samples j ≤ 4096
@@ -41,27 +38,26 @@ module _ (j : Task) (s : Sound j) where
 
   -- so that row 12 never holds
   pub words-storable : storable (words j) ≡ true
-  words-storable = sampleWords-storable (j .input) (j .reference) (j .width) (j .height) (j .classes) (s .narrow) (s .low) (s .classed)
+  words-storable = sampleWords-storable (j .input) (j .reference) (j .width) (j .height) (s .narrow) (s .low)
 
-  pub sample-is : (i : ℕ) → i < samples j → SampleIs j i (getD (words j) i 0)
+  -- their class bits are zero, and they are words of 32 bits
+  pub words-bare : allBare (words j) ≡ true
+  words-bare = sampleWords-bare (j .input) (j .reference) (j .width) (j .height) (s .narrow) (s .low)
+
+  pub words-fit : (i : ℕ) → getD (words j) i 0 < 2 ^ 32
+  words-fit = sampleWords-fit (j .input) (j .reference) (j .width) (j .height) (s .narrow) (s .low)
+
+  -- the i-th word, and the i-th class beside it
+  pub sample-is : (i : ℕ) → i < samples j → SampleIs j i (getD (words j) i 0) (getD (j .classes) i 0)
   sample-is i l =
-      let p = factor-pos (j .height / 16) (j .width / 16) i l in
-      let r : i / (j .width / 16) < j .height / 16 = div-lt-iff-lt-mul p .1 l in
-      let c : i % (j .width / 16) < j .width / 16 = mod-lt i p in
-      let narrow = s .narrow in
-      let low = s .low in
       let m = motion-within-223 (j .input) (j .reference) (j .width) (j .height) (i / blockColumns (j .width)) (i % blockColumns (j .width)) in
-      let most = stored-motion-le-446 (j .input) (j .reference) (j .width) (j .height) (i / blockColumns (j .width)) (i % blockColumns (j .width)) in
-      let v = most .0 in
-      let u = most .1 in
-      let g = s .classed i in
-      let h : Held (i / blockColumns (j .width)) (i % blockColumns (j .width)) (stored (motionOf j i .dy)) (stored (motionOf j i .dx)) (getD (j .classes) i 0) =
-      record { row = omega arith; col = omega arith; motion-v = omega arith; motion-u = omega arith; class = omega arith } in
-      let w = sampleWords-at (j .input) (j .reference) (j .width) (j .height) (j .classes) i l in
+      let h = word-held (j .input) (j .reference) (j .width) (j .height) (s .narrow) (s .low) i l in
+      let w = sampleWords-at (j .input) (j .reference) (j .width) (j .height) i l in
       record {
         row = ap rowOf w ∙ word.row-of-word h;
         column = ap colOf w ∙ word.col-of-word h;
         down = ap (λ (n : ℕ). eighthsOf (vOf n)) w ∙ (ap eighthsOf (word.v-of-word h) ∙ stored-eighths (motionOf j i .dy) (m .0));
         across = ap (λ (n : ℕ). eighthsOf (uOf n)) w ∙ (ap eighthsOf (word.u-of-word h) ∙ stored-eighths (motionOf j i .dx) (m .1));
-        class = ap classOf w ∙ word.class-of-word h;
+        bits = ap classOf w ∙ word.class-of-word h;
+        sorted = refl;
       }

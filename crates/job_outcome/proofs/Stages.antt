@@ -9,9 +9,10 @@ use native.Mathlib.Omega.{arith}
 use borrow.Author.Tests.{ne-eqb, eq-eqb}
 use lib.Dec.{T, eqb}
 use lib.ListN.{length}
-use Rattle.laws.specs.Refusal.{Row, judge, orElse, choose, both}
+use Rattle.laws.specs.Refusal.{Row, row, judge, orElse, choose, both}
 use Rattle.laws.proofs.Refusal.{or-else-refused, or-else-none, or-else-quiet}
 use Rattle.laws.proofs.Cases.{eq-or-ne}
+use Rattle.frame_number.specs.Shutter.{closed, shutterClosed, closedRefusal}
 use Rattle.job_task.specs.Task.{Task, Lent, sizesOf}
 use Rattle.job_task.specs.Rows.{sizeRows, codeRows, modelRows, roomRows, refusalBefore, early}
 use Rattle.job_outcome.specs.Outcome.{Ended, ended, late, refusal, refused, accepted, leftBySearch, leftByJob, outcome}
@@ -93,17 +94,21 @@ module _ (j : Task) (l : Lent) where
   abbrev room : List Row
   room = roomRows (sizesOf j l)
 
-  early-never : (k : ℕ) → 0 < k → T (without k sizes) → T (without k codes) → T (without k handed) → T (without k room) → early j l ≡ k → ⊥
-  unfolding refusalBefore
-  early-never k h a b c d e =
+  abbrev shutter : List Row
+  shutter = row shutterClosed (closed (j .settings .frame)) ∷ []
+
+  early-never : (k : ℕ) → 0 < k → T (without k sizes) → T (without k codes) → T (without k handed) → T (without k room) → T (without k shutter) → early j l ≡ k → ⊥
+  unfolding refusalBefore closedRefusal
+  early-never k h a b c d f e =
       or-else-never (judge sizes) _ k (judge-never k sizes a h)
-      (or-else-never (judge codes) _ k (judge-never k codes b h) (or-else-never (judge handed) (judge room) k (judge-never k handed c h) (judge-never k room d h))) e
+      (or-else-never (judge codes) _ k (judge-never k codes b h) (or-else-never (judge handed) _ k (judge-never k handed c h)
+      (or-else-never (judge room) (judge shutter) k (judge-never k room d h) (judge-never k shutter f h)))) e
 
   pub early-never-six : early j l ≡ 6 → ⊥
-  early-never-six = early-never 6 (omega arith) tt tt tt tt
+  early-never-six = early-never 6 (omega arith) tt tt tt tt tt
 
   pub early-never-twelve : early j l ≡ 12 → ⊥
-  early-never-twelve = early-never 12 (omega arith) tt tt tt tt
+  early-never-twelve = early-never 12 (omega arith) tt tt tt tt tt
 
   -- a number that no early row has is the second stage's
   pub refused-in-second : (k : ℕ) → (early j l ≡ k → ⊥) → refusal j l ≡ k → (early j l ≡ 0) × (late j ≡ k)

@@ -2,6 +2,7 @@
 -- docs/RULES.md, 'Job', 'Fits and score', 'Reading by the standard'.
 -- Assumes nothing.
 use Prim.Native.Nat.{ℕ, _+_, _*_, _-_, _/_, _%_, _≤_, _<_}
+use mathlib.Core.Bool.{false}
 use mathlib.Core.Logic.{_⊎_}
 use mathlib.Core.List.{List}
 use mathlib.Core.Path.{_≡_}
@@ -15,8 +16,12 @@ use Rattle.sample.specs.Sample.{eighthsOf}
 use Rattle.stage.specs.Stage.{Found}
 use Rattle.search.specs.Search.{motion, blockColumns}
 use Rattle.layout.specs.Form.{blockBytes, blocksOf, countAt}
-use Rattle.form1.specs.Block.{form1}
-use Rattle.block.specs.Frame.{readFrame, wordsLeft, samplesFrom, readAlone}
+use Rattle.class.specs.Class as class
+use Rattle.form2.specs.Block.{form2}
+use Rattle.forms.specs.Forms.{readAlone}
+use Rattle.frame_number.specs.Shutter.{closed}
+use Rattle.block.specs.Frame.{samplesIn}
+use Rattle.frame_read.specs.Read.{codecIn, readBoth, bareWordsLeft, classesLeft}
 use Rattle.grid.specs.Grid.{absBits}
 use Rattle.header.specs.Count.{slotCount, headerCount}
 use Rattle.header.specs.Reading.{ReadModels, modelsRead}
@@ -32,35 +37,48 @@ use Rattle.job_outcome.specs.Outcome.{Ended, samples, words, ownType, fi
 
 -- the bytes of the job's own blocks, and nothing after them
 abbrev pub ownBlocks : Task → Ended → List ℕ
-ownBlocks j o = take (blockBytes * blocksOf form1 (samples j)) (o .left .blocks)
+ownBlocks j o = take (blockBytes * blocksOf form2 (samples j)) (o .left .blocks)
 
--- the words of the frame read from them
+-- the samples that the reader of both forms finds in them: words, and their classes in a second buffer
+abbrev pub samplesRead : Task → Ended → List class.Classed
+samplesRead j o = samplesIn (codecIn (ownBlocks j o)) (ownBlocks j o)
+
 abbrev pub wordsRead : Task → Ended → List ℕ
-wordsRead j o = samplesFrom (readFrame (ownBlocks j o) (samples j) .samples) (ownBlocks j o)
+wordsRead j o = class.wordsIn (samplesRead j o)
+
+abbrev pub classesRead : Task → Ended → List ℕ
+classesRead j o = class.classesIn (samplesRead j o)
 
 -- the motion that the search finds for sample i
 abbrev pub motionOf : Task → ℕ → Found
 motionOf j i = motion (j .input) (j .reference) (j .width) (j .height) (i / blockColumns (j .width)) (i % blockColumns (j .width))
 
--- R, C, v, u in eighths and class of a word are those of sample i
-pub record SampleIs (j : Task) (i word : ℕ) : Type 0 where
+-- R, C, v and u in eighths of a word, its class bits zero, and the class beside it are those of sample i
+pub record SampleIs (j : Task) (i word class : ℕ) : Type 0 where
   pub row : rowOf word ≡ i / blockColumns (j .width)
   pub column : colOf word ≡ i % blockColumns (j .width)
   pub down : eighthsOf (vOf word) ≡ motionOf j i .dy
   pub across : eighthsOf (uOf word) ≡ motionOf j i .dx
-  pub class : classOf word ≡ getD (j .classes) i 0
+  pub bits : classOf word ≡ 0
+  pub sorted : class ≡ getD (j .classes) i 0
 
 pub record BlocksRead (j : Task) (o : Ended) : Type 0 where
-  -- reading them as a frame is accepted by any buffer with room, and gives the number of samples and the frame number; with no samples there is no block to carry it
-  pub frame : (room : ℕ) → samples j ≤ room
-      → readFrame (ownBlocks j o) room ≡ record { refusal = 0; frame = choose (eqb (samples j) 0) 0 (j .settings .frame); samples = samples j }
+  -- the frame number is in use
+  pub used : closed (j .settings .frame) ≡ false
+  -- reading them as a frame is accepted by any two buffers with room, and gives the number of samples and the frame number; with no samples there is no block to carry it
+  pub frame : (room classRoom : ℕ) → samples j ≤ room → samples j ≤ classRoom
+      → readBoth (ownBlocks j o) room classRoom ≡ record { refusal = 0; frame = choose (eqb (samples j) 0) 0 (j .settings .frame); samples = samples j }
   -- each block alone is accepted, with the frame number, its place and how many samples it holds
-  pub every-block : (k : ℕ) → k < blocksOf form1 (samples j)
-      → readAlone (drop (blockBytes * k) (ownBlocks j o)) ≡ record { refusal = 0; frame = j .settings .frame; ordinal = k; count = countAt form1 (samples j) k }
-  -- the words are the search's
+  pub every-block : (k : ℕ) → k < blocksOf form2 (samples j)
+      → readAlone (drop (blockBytes * k) (ownBlocks j o)) ≡ record { refusal = 0; frame = j .settings .frame; ordinal = k; count = countAt form2 (samples j) k }
+  -- the words are the search's, the classes those handed in
   pub same : wordsRead j o ≡ words j
-  pub left : (old : List ℕ) → samples j ≤ length old → wordsLeft (ownBlocks j o) old ≡ onto (wordsRead j o) old
-  pub each : (i : ℕ) → i < samples j → SampleIs j i (getD (wordsRead j o) i 0)
+  pub same-classes : classesRead j o ≡ j .classes
+  pub left : (old classes : List ℕ) → samples j ≤ length old → samples j ≤ length classes
+      → bareWordsLeft (ownBlocks j o) old (length classes) ≡ onto (wordsRead j o) old
+  pub left-classes : (old classes : List ℕ) → samples j ≤ length old → samples j ≤ length classes
+      → classesLeft (ownBlocks j o) (length old) classes ≡ onto (classesRead j o) classes
+  pub each : (i : ℕ) → i < samples j → SampleIs j i (getD (wordsRead j o) i 0) (getD (classesRead j o) i 0)
   pub reported : o .report .samples ≡ samples j
 
 -- ---- the header

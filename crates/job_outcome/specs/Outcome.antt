@@ -11,6 +11,8 @@ use Rattle.laws.specs.Refusal.{orElse, choose}
 use Rattle.search.specs.Search.{sampleCount, sampleWords}
 use Rattle.search.specs.Refusal as search
 use Rattle.fit.specs.declared.Fitted.{Fitted}
+use Rattle.class.specs.Class.{Classed, classed}
+use Rattle.form2.specs.Block.{codec2}
 use Rattle.block.specs.Frame.{frameBytes}
 use Rattle.header.specs.Writing.{headerBits, bitsPlaced}
 use Rattle.job_task.specs.Task.{Task, Lent, lend, searchTask, searchLent}
@@ -30,9 +32,12 @@ ended r l = record { report = r; left = l }
 abbrev pub samples : Task → ℕ
 samples j = sampleCount (j .width) (j .height)
 
--- the search's words
+-- the search's words, and the samples: each word with its class
 abbrev pub words : Task → List ℕ
-words j = sampleWords (j .input) (j .reference) (j .width) (j .height) (j .classes)
+words j = sampleWords (j .input) (j .reference) (j .width) (j .height)
+
+abbrev pub classedWords : Task → List Classed
+classedWords j = classed (words j) (j .classes)
 
 -- the type of its model, the words of its fit and those of its score
 abbrev pub ownType : Task → ℕ
@@ -95,9 +100,13 @@ leftWith j l blocks header = lend (searched j l .inputHalf) (searched j l .refHa
 abbrev pub leftBySearch : Task → Lent → Lent
 leftBySearch j l = leftWith j l (l .blocks) (l .header)
 
--- accepted: the blocks of the words, and the header's bits from the job's start on
+-- the samples' blocks of form 2
+abbrev pub blocksBy : Task → Lent → List ℕ
+blocksBy j l = onto (frameBytes codec2 (j .settings .frame) (classedWords j)) (l .blocks)
+
+-- accepted: the blocks, and the header's bits from the job's start on
 abbrev pub leftByJob : Task → Lent → Lent
-leftByJob j l = leftWith j l (onto (frameBytes (j .settings .frame) (words j)) (l .blocks)) (bitsPlaced (j .settings .start) (bits j) (l .header))
+leftByJob j l = leftWith j l (blocksBy j l) (bitsPlaced (j .settings .start) (bits j) (l .header))
 
 -- ---- the whole outcome, by stages
 

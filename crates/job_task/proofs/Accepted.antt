@@ -1,24 +1,27 @@
 -- What an answer of 0 says of a job: each group of rows is quiet, and a quiet row is a fact.
 -- Assumes nothing.
-use Prim.Native.Nat.{ℕ, _*_, _≤_, _<_, zero-le}
+use Prim.Native.Nat.{ℕ, _*_}
 use mathlib.Core.Bool.{false, not}
-use mathlib.Core.List.{List, [], _∷_}
-use mathlib.Core.Path.{_≡_, refl, ap}
+use mathlib.Core.List.{List}
+use mathlib.Core.Path.{_≡_}
 use native.Mathlib.Omega.{arith}
 use borrow.Author.Tests.{ltb-false, eqb-false}
 use lib.Dec.{ltb, eqb}
 use lib.IntN.{ℤ}
-use lib.ListN.{length, getD}
+use lib.ListN.{length}
 use Rattle.laws.specs.Refusal.{judge}
 use Rattle.laws.proofs.Refusal.{neither, length-is, quiet, or-else-quiet}
 use Rattle.plane.specs.Inner.{Small}
+use Rattle.class.specs.Class.{lastClass, classOver}
 use Rattle.search.specs.Search.{sampleCount}
 use Rattle.search.specs.Refusal as search
 use Rattle.search.proofs.Rows as search-rows
 use Rattle.fit.specs.Fitted.{noType}
 use Rattle.models.specs.Models.{typesOver}
 use Rattle.layout.specs.Form.{blockBytes, blocksOf}
-use Rattle.form1.specs.Block.{form1}
+use Rattle.form2.specs.Block.{form2}
+use Rattle.frame_number.specs.Shutter.{closedRefusal}
+use Rattle.frame_number.proofs.InUse.{in-use}
 use Rattle.job_task.specs.declared.Settings.{Settings}
 use Rattle.job_task.specs.declared.Sizes.{Sizes}
 use Rattle.job_task.specs.Task.{Task, Lent, sizesOf, searchTask, searchLent}
@@ -34,18 +37,20 @@ module _ (z : Sizes) (s : Settings) (classes types : List ℕ) (models prior : L
     pub codes : judge (codeRows s classes types) ≡ 0
     pub handed : judge (modelRows s types models prior) ≡ 0
     pub room : judge (roomRows z) ≡ 0
+    pub shutter : closedRefusal (s .frame) ≡ 0
 
   pub all-quiet : refusalBefore z s classes types models prior ≡ 0 → AllQuiet
   unfolding refusalBefore
   all-quiet e =
       let a = or-else-quiet (judge (sizeRows z (length classes) (length types) (length models) (length prior))) _ e in
       let b = or-else-quiet (judge (codeRows s classes types)) _ (a .1) in
-      let c = or-else-quiet (judge (modelRows s types models prior)) (judge (roomRows z)) (b .1) in
-      record { sizes = a .0; codes = b .0; handed = c .0; room = c .1 }
+      let c = or-else-quiet (judge (modelRows s types models prior)) _ (b .1) in
+      let d = or-else-quiet (judge (roomRows z)) (closedRefusal (s .frame)) (c .1) in
+      record { sizes = a .0; codes = b .0; handed = c .0; room = d .0; shutter = d .1 }
 
   pub quiet-all : AllQuiet → refusalBefore z s classes types models prior ≡ 0
   unfolding refusalBefore
-  quiet-all q = rw (q .sizes, q .codes, q .handed, q .room)
+  quiet-all q = rw (q .sizes, q .codes, q .handed, q .room) (q .shutter)
 
 -- ---- rows 1 and 2
 
@@ -78,14 +83,14 @@ lengths z classes types models prior e =
 -- ---- rows 4, 5 and 14
 
 pub record Codes (s : Settings) (classes types : List ℕ) : Type 0 where
-  pub classed : search.badClass classes ≡ false
+  pub classed : classOver lastClass classes ≡ false
   pub known : typesOver types ≡ false
   pub range : InRange s
 
 codes : (s : Settings) (classes types : List ℕ) → judge (codeRows s classes types) ≡ 0 → Codes s classes types
 codes s classes types e =
     let q = quiet (codeRows s classes types) tt e in
-    let four = neither (search.badClass classes) _ (q .0) in
+    let four = neither (classOver lastClass classes) _ (q .0) in
     let kind = neither (noType (s .«gm_type»)) _ (four .1) in
     let over = neither (typesOver types) (ltb 1 (s .flag)) (kind .1) in
     let asked = neither (eqb (s .«gm_type») 0) (ltb 3 (s .«gm_type»)) (kind .0) in
@@ -109,20 +114,11 @@ codes s classes types e =
 
 search-accepts : (t : search.Task) (l : search.Lent) → search.tooLarge (t .width) (t .height) ≡ false
     → search.wrongLength (t .width) (t .height) (length (t .input)) (length (t .ref)) (length (t .classes)) ≡ false
-    → search.badClass (t .classes) ≡ false
+    → classOver lastClass (t .classes) ≡ false
     → search.tooShort (t .width) (t .height) (length (l .inputHalf)) (length (l .refHalf)) (length (l .words)) ≡ false
     → search.refusal t l ≡ 0
 unfolding search.verdict
 search-accepts t l a b c d = rw (a, b, c, d)
-
--- each class is in range: by the search's own law, or there is none
-classes-in-range : (t : search.Task) (l : search.Lent) (cs : List ℕ) → t .classes ≡ cs → search.refusal t l ≡ 0
-    → length (t .classes) ≡ sampleCount (t .width) (t .height) → (k : ℕ) → getD cs k 0 ≤ 3
-classes-in-range t l [] e z n k = zero-le
-classes-in-range t l (x ∷ cs) e z n k =
-    let some : 0 < sampleCount (t .width) (t .height) = omega (arith, ap length e) in
-    let r = search-rows.ready (t .input) (t .ref) (t .width) (t .height) (t .classes) (l .inputHalf) (l .refHalf) (l .words) z some in
-    rw e at (r .classed .in-range k)
 
 module _ (j : Task) (l : Lent) where
   pub ready : early j l ≡ 0 → Ready j l
@@ -132,7 +128,7 @@ module _ (j : Task) (l : Lent) where
       let n = lengths z (length (j .classes)) (length (j .types)) (length (j .models)) (length (j .prior)) (q .sizes) in
       let c = codes (j .settings) (j .classes) (j .types) (q .codes) in
       let m = quiet (modelRows (j .settings) (j .types) (j .models) (j .prior)) tt (q .handed) in
-      let needed : ℕ = blockBytes * blocksOf form1 (sampleCount (j .width) (j .height)) in
+      let needed : ℕ = blockBytes * blocksOf form2 (sampleCount (j .width) (j .height)) in
       let three = neither (search.tooShort (j .width) (j .height) (length (l .inputHalf)) (length (l .refHalf)) (length (l .words))) _ (quiet (roomRows z) tt (q .room) .0) in
       let room = neither (ltb (length (l .blocks)) needed) (ltb (length (l .header)) headerBytes) (three .1) in
       let found : search.refusal (searchTask j) (searchLent l) ≡ 0 = search-accepts (searchTask j) (searchLent l) (n .large) (n .planes) (c .classed) (three .0) in
@@ -140,7 +136,8 @@ module _ (j : Task) (l : Lent) where
         sound = record {
           narrow = n .sides .narrow;
           low = n .sides .low;
-          classed = classes-in-range (searchTask j) (searchLent l) (j .classes) refl found (n .classed);
+          class-count = n .classed;
+          classed = c .classed;
           six = n .six;
           numbers = n .numbers;
           places = n .places;
@@ -148,6 +145,7 @@ module _ (j : Task) (l : Lent) where
           known = c .known;
           right = m .0;
           within = m .1 .0;
+          used = in-use (j .settings .frame) (q .shutter);
         };
         searched = found;
         blocks-room = ltb-false (length (l .blocks)) needed (room .0);

@@ -1,14 +1,16 @@
 -- What holds of a job once none of the rows before its search does.
 -- Assumes nothing.
-use Prim.Native.Nat.{ℕ, _*_, _≤_}
+use Prim.Native.Nat.{_*_, _≤_}
 use mathlib.Core.Bool.{false}
 use mathlib.Core.Path.{_≡_}
-use lib.ListN.{length, getD}
+use lib.ListN.{length}
+use Rattle.class.specs.Class.{lastClass, classOver}
 use Rattle.search.specs.Search.{sampleCount}
 use Rattle.search.specs.Refusal as search
 use Rattle.models.specs.Models.{typesOver, modelsWrong, priorsOut}
 use Rattle.layout.specs.Form.{blockBytes, blocksOf}
-use Rattle.form1.specs.Block.{form1}
+use Rattle.form2.specs.Block.{form2}
+use Rattle.frame_number.specs.Shutter.{closed}
 use Rattle.job_task.specs.Task.{Task, Lent, searchTask, searchLent}
 use Rattle.job_task.specs.Inner.{InRange}
 use Rattle.job_task.specs.Rows.{otherTypes, otherNumbers, priorNumbers, headerBytes}
@@ -17,7 +19,8 @@ use Rattle.job_task.specs.Rows.{otherTypes, otherNumbers, priorNumbers, 
 pub record Sound (j : Task) : Type 0 where
   pub narrow : j .width ≤ 1024
   pub low : j .height ≤ 1024
-  pub classed : (k : ℕ) → getD (j .classes) k 0 ≤ 3
+  pub class-count : length (j .classes) ≡ sampleCount (j .width) (j .height)
+  pub classed : classOver lastClass (j .classes) ≡ false
   pub six : length (j .types) ≡ otherTypes
   pub numbers : length (j .models) ≡ otherNumbers
   pub places : length (j .prior) ≡ priorNumbers
@@ -25,10 +28,11 @@ pub record Sound (j : Task) : Type 0 where
   pub known : typesOver (j .types) ≡ false
   pub right : modelsWrong (j .types) (j .settings .flag) (j .models) ≡ false
   pub within : priorsOut (j .prior) ≡ false
+  pub used : closed (j .settings .frame) ≡ false
 
 -- and what is lent
 pub record Ready (j : Task) (l : Lent) : Type 0 where
   pub sound : Sound j
   pub searched : search.refusal (searchTask j) (searchLent l) ≡ 0
-  pub blocks-room : blockBytes * blocksOf form1 (sampleCount (j .width) (j .height)) ≤ length (l .blocks)
+  pub blocks-room : blockBytes * blocksOf form2 (sampleCount (j .width) (j .height)) ≤ length (l .blocks)
   pub header-room : headerBytes ≤ length (l .header)

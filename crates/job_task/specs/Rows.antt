@@ -1,4 +1,4 @@
--- The rows of the table of refusals that a job meets before its search, in the table's order: 1, 2, 4, 5, 14, 7, 8, 3. docs/RULES.md, 'When a call says no'.
+-- The rows of the table of refusals that a job meets before its search, in the table's order: 1, 2, 4, 5, 14, 7, 8, 3, 17. docs/RULES.md, 'When a call says no'.
 -- Assumes nothing.
 use Prim.Native.Nat.{ℕ, _*_}
 use mathlib.Core.Bool.{Bool, not}
@@ -8,11 +8,13 @@ use lib.IntN.{ℤ}
 use lib.ListN.{length}
 use Rattle.laws.specs.Refusal.{Row, row, judge, orElse, either}
 use Rattle.search.specs.Search.{sampleCount}
-use Rattle.search.specs.Refusal.{tooLarge, wrongLength, badClass, tooShort}
+use Rattle.class.specs.Class.{lastClass, classOver}
+use Rattle.search.specs.Refusal.{tooLarge, wrongLength, tooShort}
 use Rattle.fit.specs.Fitted.{noType}
 use Rattle.models.specs.Models.{typesOver, modelsWrong, priorsOut, startOver}
 use Rattle.layout.specs.Form.{blockBytes, blocksOf}
-use Rattle.form1.specs.Block.{form1}
+use Rattle.form2.specs.Block.{form2}
+use Rattle.frame_number.specs.Shutter.{closedRefusal}
 use Rattle.job_task.specs.declared.Settings.{Settings}
 use Rattle.job_task.specs.declared.Sizes.{Sizes}
 use Rattle.job_task.specs.Task.{Task, Lent, sizesOf}
@@ -39,19 +41,19 @@ wrongLengths z classes types models prior =
     either (wrongLength (z .width) (z .height) (z .input) (z .reference) classes)
     (either (not (eqb types otherTypes)) (either (not (eqb models otherNumbers)) (not (eqb prior priorNumbers))))
 
--- row 4: a class over 3; the type asked for 0 or over 3; another's type over 3; the flag over 1
+-- row 4: a class over 4; the type asked for 0 or over 3; another's type over 3; the flag over 1
 abbrev pub badCodes : Settings → List ℕ → List ℕ → Bool
-badCodes s classes types = either (badClass classes) (either (noType (s .«gm_type»)) (either (typesOver types) (ltb 1 (s .flag))))
+badCodes s classes types = either (classOver lastClass classes) (either (noType (s .«gm_type»)) (either (typesOver types) (ltb 1 (s .flag))))
 
 -- row 5: a reference outside 1 to 7
 abbrev pub noReference : ℕ → Bool
 noReference reference = either (eqb reference 0) (ltb 7 reference)
 
--- row 3: half planes and words as the search needs them; 512 bytes for each block; 125 bytes for the header
+-- row 3: half planes and words as the search needs them; 512 bytes for each block of form 2; 125 bytes for the header
 abbrev pub tooLittle : Sizes → Bool
 tooLittle z =
     either (tooShort (z .width) (z .height) (z .«input_half») (z .«ref_half») (z .words))
-    (either (ltb (z .blocks) (blockBytes * blocksOf form1 (sampleCount (z .width) (z .height)))) (ltb (z .header) headerBytes))
+    (either (ltb (z .blocks) (blockBytes * blocksOf form2 (sampleCount (z .width) (z .height)))) (ltb (z .header) headerBytes))
 
 -- ---- the rows, in groups
 
@@ -83,7 +85,8 @@ refusalBefore z s classes types models prior =
     orElse (judge (sizeRows z (length classes) (length types) (length models) (length prior)))
     (orElse (judge (codeRows s classes types))
     (orElse (judge (modelRows s types models prior))
-    (judge (roomRows z))))
+    (orElse (judge (roomRows z))
+    (closedRefusal (s .frame)))))
 
 -- of a job: refused before its search
 abbrev pub early : Task → Lent → ℕ

@@ -1,7 +1,9 @@
 // What a job is handed, and the rows of the table of refusals that it meets before its search: 1, 2,
-// 4, 5, 14, 7, 8, 3, in the table's order (docs/RULES.md, 'Job', 'When a call says no'). In go the settings,
+// 4, 5, 14, 7, 8, 3, 17, in the table's order (docs/RULES.md, 'Job', 'When a call says no'). In go the settings,
 // how long planes and lent buffers are, and the lists that are looked into; out comes the first row
 // that holds, 0 for none. The rows are judged in groups; a group is a function.
+use class::LAST_CLASS;
+use forms::FORM2;
 use header::MOST_BYTES;
 use layout::BLOCK_BYTES;
 use models::NUMBERS;
@@ -89,7 +91,7 @@ fn wrong_lengths(sizes: Sizes, classes: usize, types: usize, models: usize, prio
 fn bad_codes(settings: Settings, classes: &[u8], types: &[u8]) -> bool
     ensures { λ b. ⌜ b ≡ badCodes settings (now (classes .entry)) (now (types .entry)) ⌝ }
 {
-    if search::refusals::bad_class(classes) {
+    if class::some_over(LAST_CLASS, classes) {
         return true;
     }
     if settings.gm_type == 0 {
@@ -127,7 +129,7 @@ fn too_little(sizes: Sizes) -> bool
         return true;
     }
     let samples = sizes.height / BLOCK * (sizes.width / BLOCK);
-    if sizes.blocks < BLOCK_BYTES * block::blocks_of(samples) {
+    if sizes.blocks < BLOCK_BYTES * forms::blocks_of(FORM2, samples) {
         return true;
     }
     sizes.header < MOST_BYTES
@@ -205,5 +207,9 @@ pub fn refusal_of(
     if handed != 0 {
         return handed;
     }
-    room_refusal(sizes)
+    let room = room_refusal(sizes);
+    if room != 0 {
+        return room;
+    }
+    frame_number::refusal_of(settings.frame)
 }

@@ -4,7 +4,8 @@ use Prim.Native.Nat.{ℕ, _+_, _*_, _-_, _/_, _≤_, _<_, min}
 use mathlib.Core.List.{List}
 use mathlib.Core.Path.{_≡_}
 use lib.ListN.{length, getD}
-use Rattle.plane.specs.Plane.{meanOfFour, largestSide}
+use Rattle.plane.specs.Plane.{meanOfFour, largestSide, rowByRow, down, right}
+use Rattle.plane.specs.Clamp.{displaced, offset}
 use Rattle.plane.specs.declared.Place.{Place}
 use Rattle.plane.specs.declared.Offset.{Offset}
 
@@ -42,10 +43,10 @@ pub record Small (w h : ℕ) : Type 0 where
   pub narrow : w ≤ largestSide
   pub low : h ≤ largestSide
 
--- a place just past the plane at most, and a biased offset that is small
+-- a place not far past the plane, and a biased offset that is small
 pub record Close (place : Place) (by : Offset) : Type 0 where
-  pub r-small : place .r ≤ 1025
-  pub c-small : place .c ≤ 1025
+  pub r-small : place .r ≤ 2 * largestSide
+  pub c-small : place .c ≤ 2 * largestSide
   pub y-small : by .y ≤ 512
   pub x-small : by .x ≤ 512
 
@@ -89,3 +90,20 @@ landing place by bias =
 pub record Starts (n : ℕ) (place : Place) (s : ℕ) : Type 0 where
   pub same : s ≡ place .r * place .width + place .c
   pub inside : s + n ≤ place .height * place .width
+
+-- pel b of the pels from a place on, each displaced
+abbrev pub rowPel : List ℕ → Place → Offset → ℕ → ℕ → ℕ
+rowPel plane place by bias b = displaced plane (right place b) (offset bias (by .y)) (offset bias (by .x))
+
+-- row a, column b of a window
+abbrev pub windowPel : List ℕ → Place → Offset → ℕ → ℕ → ℕ → ℕ
+windowPel plane place by bias a b = rowPel plane (down place a) by bias b
+
+unfoldable pub windowOf : List ℕ → Place → Offset → ℕ → ℕ → List ℕ
+windowOf plane place by bias side = rowByRow (windowPel plane place by bias) side side
+
+-- a buffer of n values has row a of a window
+pub record WindowRow (side a n : ℕ) : Type 0 where
+  pub row : a * side + side ≤ n
+  pub row-small : a ≤ 2 * largestSide
+  pub narrow : side ≤ 2 * largestSide

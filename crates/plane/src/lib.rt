@@ -1,18 +1,18 @@
 // Planes of the search (docs/RULES.md, 'Records' and 'Search'; `downsample` and the clamped reads in the
 // Rust's `collect_motion_samples`). In go a plane of u16 values row by row and its sides; out comes its
-// half plane, written from the front of a lent buffer, or a pel displaced by a motion, its coordinates
-// clamped to the plane, or where a row of pels begins. An offset is a natural number, the signed one
-// plus a bias, so that a coordinate clamps at 0 by one test.
+// half plane, written from the front of a lent buffer, or a window: a square of pels about a place, the
+// coordinates of each clamped to the plane. An offset is a natural number, the signed one plus a bias,
+// so that a coordinate clamps at 0 by one test.
 ghost use mathlib.Core.Path.{_≡_};
 ghost use Prim.Native.Nat.{_+_, _*_, _-_, _/_, _<_, min};
-ghost use lib.ListN.{length};
+ghost use lib.ListN.{length, getD};
 ghost use Rattle.laws.specs.Buffer.{onto};
 ghost use Rattle.laws.specs.Placed.{placed};
-ghost use Rattle.plane.specs.Plane.{listing, meanOfFour, halfPel, halfPlane};
+ghost use Rattle.plane.specs.Plane.{listing, meanOfFour, halfPel, halfPlane, down, right};
 ghost use Rattle.plane.specs.Clamp as clamped;
 ghost use Rattle.plane.specs.Clamp.{offset};
 ghost use Rattle.plane.specs.Difference.{difference};
-ghost use Rattle.plane.specs.Inner.{halfOfRows, RowPair, RowRoom, Halvable, landing, Is, Near, RowIn, Lands, Starts};
+ghost use Rattle.plane.specs.Inner.{halfOfRows, RowPair, RowRoom, Halvable, landing, Is, Near, RowIn, Lands, Starts, rowPel, windowPel, windowOf, WindowRow};
 
 // The search goes by blocks of 16 × 16 pels, on half planes 8 × 8.
 pub const BLOCK: usize = 16;
@@ -97,7 +97,7 @@ pub fn absolute_difference(a: u16, b: u16) -> u32
 }
 
 // The coordinate `place` less `bias`, held to 0 .. side - 1.
-pub fn clamp(place: usize, bias: usize, side: usize) -> usize
+fn clamp(place: usize, bias: usize, side: usize) -> usize
     requires { ⌜ 0 < side ⌝ }
     ensures { λ r. ⌜ r ≡ min (place - bias) (side - 1) ⌝ }
 {
@@ -113,7 +113,7 @@ pub fn clamp(place: usize, bias: usize, side: usize) -> usize
 }
 
 // Where the n pels from a place on begin.
-pub fn row_start(n: usize, place: Place) -> usize
+fn row_start(n: usize, place: Place) -> usize
     requires { ⌜ RowIn n place ⌝ }
     ensures { λ s. ⌜ Starts n place s ⌝ }
 {
@@ -121,7 +121,7 @@ pub fn row_start(n: usize, place: Place) -> usize
 }
 
 // Where the n pels begin that lie so much less the bias from a place, their columns being inside.
-pub fn displaced_start(n: usize, place: Place, by: Offset, bias: usize) -> usize
+fn displaced_start(n: usize, place: Place, by: Offset, bias: usize) -> usize
     requires { ⌜ Lands n place by bias ⌝ }
     ensures { λ s. ⌜ Starts n (landing place by bias) s ⌝ }
 {
@@ -153,4 +153,82 @@ pub fn displaced(plane: &[u16], place: Place, by: Offset, bias: usize) -> u16
         },
     );
     plane[at]
+}
+
+// Pel by pel.
+fn clamped_row(plane: &[u16], place: Place, by: Offset, bias: usize, out: &mut [u16])
+    requires { ⌜ Near (now plane) (right place (length (now out))) by ⌝ }
+    ensures { λ _. ⌜ now (out .exit) ≡ listing (rowPel (now (plane .entry)) place by bias) (length (now (out .entry))) ⌝ }
+{
+    let mut b = 0;
+    while b < out.len() {
+        let next = Place {
+            c: place.c + b,
+            ..place
+        };
+        out[b] = displaced(plane, next, by, bias);
+        b += 1;
+    }
+}
+
+fn copy(row: &[u16], out: &mut [u16])
+    requires { ⌜ length (now row) ≡ length (now out) ⌝ }
+    ensures { λ _. ⌜ now (out .exit) ≡ listing (λ b. getD (now (row .entry)) b 0) (length (now (out .entry))) ⌝ }
+{
+    let mut b = 0;
+    while b < out.len() {
+        out[b] = row[b];
+        b += 1;
+    }
+}
+
+// Pels from a place on, displaced: a part of the plane where their columns lie inside.
+fn window_row(plane: &[u16], place: Place, by: Offset, bias: usize, out: &mut [u16])
+    requires { ⌜ Near (now plane) (right place (length (now out))) by ⌝ }
+    ensures { λ _. ⌜ now (out .exit) ≡ listing (rowPel (now (plane .entry)) place by bias) (length (now (out .entry))) ⌝ }
+{
+    let n = out.len();
+    if bias <= place.c + by.x {
+        if place.c + by.x + n <= place.width + bias {
+            let at = displaced_start(n, place, by, bias);
+            copy(&plane[at..at + n], &mut *out);
+            return;
+        }
+    }
+    clamped_row(plane, place, by, bias, &mut *out);
+}
+
+// Row a of a window, written where it lies in the buffer.
+fn place_row(
+    plane: &[u16],
+    place: Place,
+    by: Offset,
+    bias: usize,
+    side: usize,
+    a: usize,
+    out: &mut [u16],
+)
+    requires { ⌜ Near (now plane) (right (down place a) side) by ⌝ }
+    requires { ⌜ WindowRow side a (length (now out)) ⌝ }
+    ensures { λ _. ⌜ now (out .exit) ≡ placed (a * side) (listing (windowPel (now (plane .entry)) place by bias a) side) (now (out .entry)) ⌝ }
+{
+    let row = Place {
+        r: place.r + a,
+        ..place
+    };
+    let from = a * side;
+    window_row(plane, row, by, bias, &mut out[from..from + side]);
+}
+
+// The square of pels whose first lies so much less the bias from a place.
+pub fn window(plane: &[u16], place: Place, by: Offset, bias: usize, side: usize, out: &mut [u16])
+    requires { ⌜ Near (now plane) (right (down place side) side) by ⌝ }
+    requires { ⌜ length (now out) ≡ side * side ⌝ }
+    ensures { λ _. ⌜ now (out .exit) ≡ windowOf (now (plane .entry)) place by bias side ⌝ }
+{
+    let mut a = 0;
+    while a < side {
+        place_row(plane, place, by, bias, side, a, &mut *out);
+        a += 1;
+    }
 }

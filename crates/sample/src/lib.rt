@@ -29,7 +29,7 @@ const CLASSES: u32 = 4;
 // The largest stored motion, and what a stored motion is above its eighths.
 const LAST_MOTION: u32 = 446;
 
-const MOTION_BIAS: i32 = 223;
+pub const MOTION_BIAS: u32 = 223;
 
 const BLOCK_SIDE: u32 = 16;
 
@@ -133,7 +133,7 @@ fn pels_of(stored: u32) -> f64
     requires { ⌜ stored < motions ⌝ }
     ensures { λ r. ⌜ r ≡ pelsOf stored ⌝ }
 {
-    (stored as i32 - MOTION_BIAS) as f64 / 8.0
+    (stored as i32 - MOTION_BIAS as i32) as f64 / 8.0
 }
 
 pub fn sample_of(word: u32) -> MotionSample

@@ -3,3 +3,4 @@ pub mod Word
 pub mod Ending
 pub mod Range
 pub mod Words
+pub mod Counted

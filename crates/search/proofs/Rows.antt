@@ -1,17 +1,15 @@
--- The tests of the refusal table: over a list element by element, over sides that are small, and what a quiet table says.
+-- The tests of the refusal table over sides that are small, and what a quiet table says.
 -- Assumes nothing.
-use Prim.Native.Nat.{ℕ, zero, suc, _+_, _*_, _/_, _≤_, _<_, _-_}
+use Prim.Native.Nat.{ℕ, zero, suc, _*_, _/_, _≤_, _<_}
 use mathlib.Core.Bool.{Bool, true, false}
-use mathlib.Core.List.{List, [], _∷_}
-use mathlib.Core.Path.{_≡_, refl, sym, ap, _∙_}
+use mathlib.Core.List.{List}
+use mathlib.Core.Path.{_≡_, sym, ap, _∙_}
 use native.Mathlib.Nat.{mul-le-mul}
-use native.Mathlib.Numerals.{add-one}
 use native.Mathlib.Omega.{arith}
 use lib.Dec.{ltb}
-use lib.ListN.{length, take, drop, getD, drop-of-length-le}
-use lib.Seq.{drop-cons}
+use lib.ListN.{length, take}
 use borrow.Author.Tests.{ltb-false, lt-ltb}
-use Rattle.laws.specs.Refusal.{judge, any, either, both}
+use Rattle.laws.specs.Refusal.{judge, both}
 use Rattle.laws.specs.Buffer.{onto}
 use Rattle.laws.proofs.Buffer.{onto-front}
 use Rattle.laws.proofs.Refusal.{neither, quiet, or-else-quiet, length-is}
@@ -19,7 +17,7 @@ use Rattle.plane.specs.Plane.{halfPlane, largestSide}
 use Rattle.plane.specs.Inner.{Small}
 use Rattle.plane.proofs.Halves.{length-halfPlane}
 use Rattle.search.specs.Search.{sampleCount}
-use Rattle.search.specs.Refusal.{badClass, lastClass, verdict, inputRows, lentRows, tooLarge}
+use Rattle.search.specs.Refusal.{verdict, inputRows, lentRows, tooLarge}
 use Rattle.search.specs.Inner.{Ready}
 
 pub count-small : (w h : ℕ) → w ≤ largestSide → h ≤ largestSide → h / 16 * (w / 16) ≤ 4096
@@ -27,19 +25,6 @@ count-small w h p q = mul-le-mul (let a : h / 16 ≤ 64 = omega arith in a) (let
 
 pub half-small : (w h : ℕ) → w ≤ largestSide → h ≤ largestSide → h / 2 * (w / 2) ≤ 262144
 half-small w h p q = mul-le-mul (let a : h / 2 ≤ 512 = omega arith in a) (let b : w / 2 ≤ 512 = omega arith in b)
-
-module _ (p : ℕ → Bool) (l : List ℕ) (k : ℕ) where
-  any-step : k < length l → any p (drop k l) ≡ either (p (getD l k 0)) (any p (drop (suc k) l))
-  any-step h = rw (drop-cons l k 0 h)
-
-  pub any-here : k < length l → any p (drop k l) ≡ any p l → p (getD l k 0) ≡ true → any p l ≡ true
-  any-here h e q = sym e ∙ (any-step h ∙ rw q)
-
-  pub any-later : k < length l → any p (drop k l) ≡ any p l → p (getD l k 0) ≡ false → any p (drop (k + 1) l) ≡ any p l
-  any-later h e q = rw (add-one k) (sym (any-step h ∙ rw q) ∙ e)
-
-  pub any-never : length l ≤ k → any p (drop k l) ≡ any p l → false ≡ any p l
-  any-never h e = rw (drop-of-length-le l {i = k} h) at e
 
 both-false : (a b : Bool) → both a b ≡ false → a ≡ true → b ≡ false
 both-false a b e t = rw t at e
@@ -53,12 +38,6 @@ pub factor-pos : (a b k : ℕ) → k < a * b → 0 < b
 factor-pos a zero k h = absurd (omega arith)
 factor-pos a (suc b) k h = omega arith
 
--- no element passes
-any-none : (p : ℕ → Bool) (l : List ℕ) → any p l ≡ false → p 0 ≡ false → (k : ℕ) → p (getD l k 0) ≡ false
-any-none p [] e z k = z
-any-none p (x ∷ l) e z zero = neither (p x) (any p l) e .0
-any-none p (x ∷ l) e z (suc k) = any-none p l (neither (p x) (any p l) e .1) z k
-
 -- an accepted call has small sides
 pub small-sides : (w h input ref : ℕ) (classes : List ℕ) (inputHalf refHalf words : ℕ) →
     verdict w h input ref classes inputHalf refHalf words ≡ 0 → Small w h
@@ -70,8 +49,8 @@ small-sides w h input ref classes inputHalf refHalf words e =
 -- an accepted call with samples has all that it rests on
 pub ready : (input ref : List ℕ) (w h : ℕ) (classes inputHalf refHalf words : List ℕ) →
     verdict w h (length input) (length ref) classes (length inputHalf) (length refHalf) (length words) ≡ 0 → 0 < sampleCount w h →
-    Ready input ref w h classes inputHalf refHalf words
-unfolding verdict badClass
+    Ready input ref w h inputHalf refHalf words
+unfolding verdict
 ready input ref w h classes inputHalf refHalf words e s =
     let ins = inputRows w h (length input) (length ref) classes in
     let outs = lentRows w h (length inputHalf) (length refHalf) (length words) in
@@ -85,11 +64,7 @@ ready input ref w h classes inputHalf refHalf words e s =
       small = small w h (q .0);
       input-pels = sym (length-is _ _ (two .0));
       ref-pels = sym (length-is _ _ (three .0));
-      classed = record {
-        enough = length-is _ _ (three .1);
-        in-range = λ k. ltb-false lastClass (getD classes k 0) (any-none (ltb lastClass) classes (q .1 .1 .0) refl k);
-        room = ltb-false _ _ (words-short .1);
-      };
+      words-room = record { room = ltb-false _ _ (words-short .1) };
       input-room = ltb-false _ _ (short .0);
       ref-room = ltb-false _ _ (words-short .0);
     }

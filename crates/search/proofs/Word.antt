@@ -2,43 +2,63 @@
 -- Assumes nothing.
 use Prim.Native.Nat.{ℕ, _+_, _*_, _/_}
 use mathlib.Core.List.{List}
-use mathlib.Core.Path.{_≡_, sym, ap, _∙_}
+use mathlib.Core.Path.{_≡_, refl, sym, ap, _∙_}
 use native.Mathlib.Omega.{arith}
 use lib.IntN.{ℤ, pos, _*ℤ_}
 use Rattle.sample.specs.Word.{wordOf}
 use Rattle.plane.specs.Plane.{halfPlane}
 use Rattle.plane.specs.Clamp.{offset}
-use Rattle.stage.specs.Stage.{Found, coarse, fullPel, refined}
+use Rattle.stage.specs.Stage.{Found, fullPel, refined}
+use Rattle.stage.specs.Early.{Tally, coarseEarly, fineEarly}
 use Rattle.stage.specs.Inner.{seen}
 use Rattle.stage.specs.declared.Best.{Best}
-use Rattle.stage.proofs.Motion.{offset-same, offset-back, offset-twice, offset-eightfold}
-use Rattle.search.specs.Search.{motion, stored, blockAt}
+use Rattle.stage.proofs.Motion.{offset-same, offset-back, offset-twice}
+use Rattle.stage.proofs.Early.{coarse-same, fine-same}
+use Rattle.search.specs.Search.{motion, motionEarly, stored, blockAt}
+use Rattle.search.specs.Inner.{sampledAt}
 
 -- twice an offset biased by 12, biased by 27
 pub twice : (n : ℕ) {z : ℤ} → offset 12 n ≡ z → offset 27 (2 * n + 3) ≡ pos 2 *ℤ z
 twice n e = offset-same 27 (2 * n + 3) 24 (2 * n) (omega arith) ∙ (sym (offset-twice 12 n) ∙ ap (λ (z : ℤ). pos 2 *ℤ z) e)
 
--- eight times an offset biased by 27, biased by 223
-pub eightfold : (n : ℕ) {z : ℤ} → offset 27 n ≡ z → offset 223 (8 * n + 7) ≡ pos 8 *ℤ z
-eightfold n e = offset-same 223 (8 * n + 7) 216 (8 * n) (omega arith) ∙ (sym (offset-eightfold 27 n) ∙ ap (λ (z : ℤ). pos 8 *ℤ z) e)
-
 -- a stored motion is the biased one
 pub stored-is : (n : ℕ) {z : ℤ} → offset 223 n ≡ z → n ≡ stored z
 stored-is n e = sym (offset-back 223 n) ∙ ap stored e
 
--- the three stages in a row
-pub motion-is : (input ref : List ℕ) (w h R C : ℕ) (far full best : Best) →
-    seen 12 far ≡ coarse (halfPlane input w h) (halfPlane ref w h) (blockAt 8 (w / 2) (h / 2) R C) →
-    seen 27 full ≡ fullPel input ref (blockAt 16 w h R C) (offset 27 (2 * far .y + 3)) (offset 27 (2 * far .x + 3)) →
-    seen 223 best ≡ refined input ref (blockAt 16 w h R C) (offset 223 (8 * full .y + 7)) (offset 223 (8 * full .x + 7)) →
-    seen 223 best ≡ motion input ref w h R C
-unfolding motion
-motion-is input ref w h R C far full best p q r =
-    let ty = twice (far .y) (ap (λ (f : Found). f .dy) p) in
-    let tx = twice (far .x) (ap (λ (f : Found). f .dx) p) in
+-- the stages in a row
+pub motion-is : (input ref : List ℕ) (w h R C : ℕ) (far best : Best) →
+    seen 12 far ≡ coarseEarly (halfPlane input w h) (halfPlane ref w h) (blockAt 8 (w / 2) (h / 2) R C) →
+    seen 223 best ≡ fineEarly input ref (blockAt 16 w h R C) (offset 27 (2 * far .y + 3)) (offset 27 (2 * far .x + 3)) →
+    record { best = seen 223 best .best; rows = far .rows + best .rows } ≡ motionEarly input ref w h R C
+unfolding motionEarly
+motion-is input ref w h R C far best p q =
+    let ty = twice (far .y) (ap (λ (t : Tally). t .best .dy) p) in
+    let tx = twice (far .x) (ap (λ (t : Tally). t .best .dx) p) in
     let q' = rw (ty, tx) at q in
-    r ∙ rw (eightfold (full .y) (ap (λ (f : Found). f .dy) q'), eightfold (full .x) (ap (λ (f : Found). f .dx) q'))
+    ap (λ (n : ℕ). record { best = seen 223 best .best; rows = n + best .rows }) (ap (λ (t : Tally). t .rows) p)
+    ∙ ap (λ (t : Tally). record { best = t .best; rows = coarseEarly (halfPlane input w h) (halfPlane ref w h) (blockAt 8 (w / 2) (h / 2) R C) .rows + t .rows }) q'
 
--- words of equal fields
-pub word-same : (R C k : ℕ) {v u v' u' : ℕ} → v ≡ v' → u ≡ u' → wordOf R C v u k ≡ wordOf R C v' u' k
-word-same R C k p q = rw (p, q)
+-- sums that end early find the same motion
+pub motion-same : (input ref : List ℕ) (w h R C : ℕ) → motionEarly input ref w h R C .best ≡ motion input ref w h R C
+unfolding motionEarly motion
+motion-same input ref w h R C =
+    let place = blockAt 16 w h R C in
+    let far = coarseEarly (halfPlane input w h) (halfPlane ref w h) (blockAt 8 (w / 2) (h / 2) R C) in
+    fine-same input ref place (pos 2 *ℤ far .best .dy) (pos 2 *ℤ far .best .dx)
+    ∙ ap
+    (λ (f : Found). refined input ref place (pos 8 *ℤ fullPel input ref place (pos 2 *ℤ f .dy) (pos 2 *ℤ f .dx) .dy) (pos 8 *ℤ fullPel input ref place (pos 2 *ℤ f .dy) (pos 2 *ℤ f .dx) .dx))
+    (coarse-same (halfPlane input w h) (halfPlane ref w h) (blockAt 8 (w / 2) (h / 2) R C))
+
+-- a block's word and its rows
+pub sampled-is : (input ref : List ℕ) (w h R C : ℕ) (best : Best) {rows word : ℕ} →
+    record { best = seen 223 best .best; rows = rows } ≡ motionEarly input ref w h R C → word ≡ wordOf R C (best .y) (best .x) 0 →
+    record { word = word; rows = rows } ≡ sampledAt input ref w h R C
+sampled-is input ref w h R C best e q =
+    let found = ap (λ (t : Tally). t .best) e ∙ motion-same input ref w h R C in
+    rw (
+      q,
+      stored-is (best .y) (ap (λ (f : Found). f .dy) found),
+      stored-is (best .x) (ap (λ (f : Found). f .dx) found),
+      ap (λ (t : Tally). t .rows) e,
+    )
+    refl

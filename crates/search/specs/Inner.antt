@@ -3,12 +3,12 @@
 use Prim.Native.Nat.{ℕ, _*_, _/_, _≤_, _<_}
 use mathlib.Core.List.{List}
 use mathlib.Core.Path.{_≡_}
-use lib.ListN.{length, getD}
+use lib.ListN.{length}
 use Rattle.plane.specs.declared.Place.{Place}
 use Rattle.plane.specs.Plane.{halfPlane}
 use Rattle.plane.specs.Inner.{Small}
-use Rattle.search.specs.Search.{blockColumns, blockRows, sampleCount}
-use Rattle.search.specs.Refusal.{lastClass}
+use Rattle.search.specs.Search.{blockColumns, blockRows, sampleCount, wordAt, motionEarly}
+use Rattle.search.specs.declared.blocks.Sampled.{Sampled}
 
 -- two planes, and their half planes
 pub record Halves (input ref inputHalf refHalf : List ℕ) (w h : ℕ) : Type 0 where
@@ -18,23 +18,24 @@ pub record Halves (input ref inputHalf refHalf : List ℕ) (w h : ℕ) : Type 0 
   pub input-halved : inputHalf ≡ halfPlane input w h
   pub ref-halved : refHalf ≡ halfPlane ref w h
 
--- a whole block, by its row and column of blocks, and a class
-pub record Sorted (block : Place) (class : ℕ) : Type 0 where
+-- a whole block, by its row and column of blocks
+pub record Inside (block : Place) : Type 0 where
   pub row : block .r < blockRows (block .height)
   pub column : block .c < blockColumns (block .width)
-  pub class-small : class ≤ lastClass
 
--- a class for each sample, and room for its word
-pub record Room (w h : ℕ) (classes words : List ℕ) : Type 0 where
-  pub enough : length classes ≡ sampleCount w h
-  pub in-range : (k : ℕ) → getD classes k 0 ≤ lastClass
+-- room for each sample's word
+pub record Room (w h : ℕ) (words : List ℕ) : Type 0 where
   pub room : sampleCount w h ≤ length words
 
 -- what an accepted call with samples knows
-pub record Ready (input ref : List ℕ) (w h : ℕ) (classes inputHalf refHalf words : List ℕ) : Type 0 where
+pub record Ready (input ref : List ℕ) (w h : ℕ) (inputHalf refHalf words : List ℕ) : Type 0 where
   pub small : Small w h
   pub input-pels : h * w ≡ length input
   pub ref-pels : h * w ≡ length ref
-  pub classed : Room w h classes words
+  pub words-room : Room w h words
   pub input-room : h / 2 * (w / 2) ≤ length inputHalf
   pub ref-room : h / 2 * (w / 2) ≤ length refHalf
+
+-- a block's word, and the rows added to find it
+abbrev pub sampledAt : List ℕ → List ℕ → ℕ → ℕ → ℕ → ℕ → Sampled
+sampledAt input ref w h R C = record { word = wordAt input ref w h R C; rows = motionEarly input ref w h R C .rows }

@@ -7,11 +7,12 @@ use mathlib.Core.Path.{_≡_}
 use lib.Dec.{ltb, eqb}
 use lib.ListN.{length}
 use Rattle.laws.specs.Buffer.{onto}
-use Rattle.laws.specs.Refusal.{Row, row, judge, orElse, choose, either, both, any}
+use Rattle.laws.specs.Refusal.{Row, row, judge, orElse, choose, either, both}
 use Rattle.laws.specs.Call.{answered, left}
+use Rattle.class.specs.Class.{lastClass, classOver}
 use Rattle.plane.specs.Plane.{halfPlane, largestSide}
 use Rattle.search.specs.declared.Searched.{Searched}
-use Rattle.search.specs.Search.{sampleCount, sampleWords}
+use Rattle.search.specs.Search.{sampleCount, sampleWords, rowsAdded}
 
 -- what goes in
 pub record Task : Type 0 where
@@ -27,18 +28,12 @@ pub record Lent : Type 0 where
   pub refHalf : List ℕ
   pub words : List ℕ
 
-abbrev pub lastClass : ℕ
-lastClass = 3
-
 abbrev pub tooLarge : ℕ → ℕ → Bool
 tooLarge w h = either (ltb largestSide w) (ltb largestSide h)
 
 abbrev pub wrongLength : ℕ → ℕ → ℕ → ℕ → ℕ → Bool
 wrongLength w h input ref classes =
     either (not (eqb input (h * w))) (either (not (eqb ref (h * w))) (not (eqb classes (sampleCount w h))))
-
-unfoldable pub badClass : List ℕ → Bool
-badClass classes = any (ltb lastClass) classes
 
 -- half planes, and words, one for each sample; with no samples none of these
 abbrev pub tooShort : ℕ → ℕ → ℕ → ℕ → ℕ → Bool
@@ -49,7 +44,7 @@ tooShort w h inputHalf refHalf words =
 -- the rows in the table's order, over lengths: of what goes in, and then of what is lent
 abbrev pub inputRows : ℕ → ℕ → ℕ → ℕ → List ℕ → List Row
 inputRows w h input ref classes =
-    row 1 (tooLarge w h) ∷ (row 2 (wrongLength w h input ref (length classes)) ∷ (row 4 (badClass classes) ∷ []))
+    row 1 (tooLarge w h) ∷ (row 2 (wrongLength w h input ref (length classes)) ∷ (row 4 (classOver lastClass classes) ∷ []))
 
 abbrev pub lentRows : ℕ → ℕ → ℕ → ℕ → ℕ → List Row
 lentRows w h inputHalf refHalf words = row 3 (tooShort w h inputHalf refHalf words) ∷ []
@@ -64,10 +59,12 @@ refusal t l =
 
 -- a refused search has found nothing
 abbrev pub refused : ℕ → Searched
-refused n = record { refusal = n; samples = 0 }
+refused n = record { refusal = n; samples = 0; rows = 0 }
 
 unfoldable pub answer : Task → Lent → Searched
-answer t l = answered refused (refusal t l) (record { refusal = 0; samples = sampleCount (t .width) (t .height) })
+answer t l =
+    answered refused (refusal t l)
+    (record { refusal = 0; samples = sampleCount (t .width) (t .height); rows = rowsAdded (t .input) (t .ref) (t .width) (t .height) })
 
 -- the half planes and the words, from the front of each buffer; with no samples nothing
 abbrev pub written : Task → Lent → Lent
@@ -76,7 +73,7 @@ written t l =
     (record {
       inputHalf = onto (halfPlane (t .input) (t .width) (t .height)) (l .inputHalf);
       refHalf = onto (halfPlane (t .ref) (t .width) (t .height)) (l .refHalf);
-      words = onto (sampleWords (t .input) (t .ref) (t .width) (t .height) (t .classes)) (l .words);
+      words = onto (sampleWords (t .input) (t .ref) (t .width) (t .height)) (l .words);
     })
     l
 

@@ -1,14 +1,15 @@
 -- The search of docs/RULES.md: the motion of a block, the sample words of a frame pair, and how many there are.
 -- Assumes nothing.
-use Prim.Native.Nat.{ℕ, _*_, _/_, _%_}
+use Prim.Native.Nat.{ℕ, _+_, _*_, _/_, _%_}
 use mathlib.Core.List.{List}
 use lib.IntN.{ℤ, pos, negsuc, _+ℤ_, _*ℤ_}
-use lib.ListN.{getD}
+use Rattle.laws.specs.Loops.{sum}
 use Rattle.sample.specs.Sample.{motionBias}
 use Rattle.sample.specs.Word.{wordOf}
 use Rattle.plane.specs.declared.Place.{Place}
 use Rattle.plane.specs.Plane.{listing, halfPlane}
 use Rattle.stage.specs.Stage.{Found, coarse, fullPel, refined}
+use Rattle.stage.specs.Early.{Tally, coarseEarly, fineEarly}
 
 -- whole 16 × 16 blocks: in a row of blocks, in a column, and in all; none where a side is under 16
 abbrev pub blockColumns : ℕ → ℕ
@@ -31,6 +32,13 @@ motion input ref w h R C =
     let full = fullPel input ref (blockAt 16 w h R C) (pos 2 *ℤ far .dy) (pos 2 *ℤ far .dx) in
     refined input ref (blockAt 16 w h R C) (pos 8 *ℤ full .dy) (pos 8 *ℤ full .dx)
 
+-- the same with sums that end early, and the rows added to find it
+unfoldable pub motionEarly : List ℕ → List ℕ → ℕ → ℕ → ℕ → ℕ → Tally
+motionEarly input ref w h R C =
+    let far = coarseEarly (halfPlane input w h) (halfPlane ref w h) (blockAt 8 (w / 2) (h / 2) R C) in
+    let last = fineEarly input ref (blockAt 16 w h R C) (pos 2 *ℤ far .best .dy) (pos 2 *ℤ far .best .dx) in
+    record { best = last .best; rows = far .rows + last .rows }
+
 -- a motion as it is stored: its eighths plus 223
 abbrev pub natural : ℤ → ℕ
 natural (pos n) = n
@@ -39,13 +47,20 @@ natural (negsuc n) = 0
 abbrev pub stored : ℤ → ℕ
 stored m = natural (m +ℤ pos motionBias)
 
--- the word of a block and its class
-abbrev pub wordAt : List ℕ → List ℕ → ℕ → ℕ → ℕ → ℕ → ℕ → ℕ
-wordAt input ref w h R C class = wordOf R C (stored (motion input ref w h R C .dy)) (stored (motion input ref w h R C .dx)) class
+-- the word of a block: its place and its motion, with class bits zero
+abbrev pub wordAt : List ℕ → List ℕ → ℕ → ℕ → ℕ → ℕ → ℕ
+wordAt input ref w h R C = wordOf R C (stored (motion input ref w h R C .dy)) (stored (motion input ref w h R C .dx)) 0
 
--- the k-th sample's word: blocks row by row, with the k-th class
-unfoldable pub sampleWord : List ℕ → List ℕ → ℕ → ℕ → List ℕ → ℕ → ℕ
-sampleWord input ref w h classes k = wordAt input ref w h (k / blockColumns w) (k % blockColumns w) (getD classes k 0)
+-- the k-th sample's word: blocks row by row
+unfoldable pub sampleWord : List ℕ → List ℕ → ℕ → ℕ → ℕ → ℕ
+sampleWord input ref w h k = wordAt input ref w h (k / blockColumns w) (k % blockColumns w)
 
-unfoldable pub sampleWords : List ℕ → List ℕ → ℕ → ℕ → List ℕ → List ℕ
-sampleWords input ref w h classes = listing (sampleWord input ref w h classes) (sampleCount w h)
+unfoldable pub sampleWords : List ℕ → List ℕ → ℕ → ℕ → List ℕ
+sampleWords input ref w h = listing (sampleWord input ref w h) (sampleCount w h)
+
+-- the rows added for the k-th sample, and for all; none with no samples
+abbrev pub sampleRows : List ℕ → List ℕ → ℕ → ℕ → ℕ → ℕ
+sampleRows input ref w h k = motionEarly input ref w h (k / blockColumns w) (k % blockColumns w) .rows
+
+unfoldable pub rowsAdded : List ℕ → List ℕ → ℕ → ℕ → ℕ
+rowsAdded input ref w h = sum (sampleRows input ref w h) (sampleCount w h)

@@ -1,11 +1,12 @@
 // The search: how the load moved between two frames (docs/RULES.md, 'Search', rows 1, 2, 4 and 3;
 // `collect_motion_samples` of the Rust's global_motion.rs). In go two planes, their sides and one
-// class for each sample; out come half planes and sample words in lent buffers, and the count.
+// class for each sample, which is judged; out come half planes and sample words with class bits zero
+// in lent buffers, the count, and how many rows of absolute differences were added.
 ghost use mathlib.Core.Path.{_≡_};
 ghost use Rattle.laws.specs.Buffer.{onto};
 ghost use Rattle.plane.specs.Plane.{halfPlane};
 ghost use Rattle.search.specs.Refusal.{Done, task, lent};
-ghost use Rattle.search.specs.Search.{sampleWords};
+ghost use Rattle.search.specs.Search.{sampleWords, rowsAdded};
 ghost use Rattle.search.specs.Inner.{Ready};
 use plane::BLOCK;
 use plane::Sides;
@@ -13,11 +14,12 @@ use plane::Sides;
 pub mod blocks; // blocks.rt: the word of each block
 pub mod refusals; // refusals.rt: the rows of the table
 
-// The refusal's number, 0 for none, and how many samples were found.
+// The refusal's number, 0 for none, how many samples were found, and how many rows were added.
 #[repr(C)]
 pub struct Searched {
     pub refusal: u32,
     pub samples: usize,
+    pub rows: u32,
 }
 
 // Both half planes, then the words.
@@ -25,15 +27,15 @@ fn search_into(
     input_y: &[u16],
     ref_y: &[u16],
     sides: Sides,
-    classes: &[u8],
     input_half: &mut [u16],
     ref_half: &mut [u16],
     words: &mut [u32],
-)
-    requires { ⌜ Ready (now «input_y») (now «ref_y») (sides .width) (sides .height) (now classes) (now «input_half») (now «ref_half») (now words) ⌝ }
+) -> u32
+    requires { ⌜ Ready (now «input_y») (now «ref_y») (sides .width) (sides .height) (now «input_half») (now «ref_half») (now words) ⌝ }
     ensures { λ _. ⌜ now («input_half» .exit) ≡ onto (halfPlane (now («input_y» .entry)) (sides .width) (sides .height)) (now («input_half» .entry)) ⌝ }
     ensures { λ _. ⌜ now («ref_half» .exit) ≡ onto (halfPlane (now («ref_y» .entry)) (sides .width) (sides .height)) (now («ref_half» .entry)) ⌝ }
-    ensures { λ _. ⌜ now (words .exit) ≡ onto (sampleWords (now («input_y» .entry)) (now («ref_y» .entry)) (sides .width) (sides .height) (now (classes .entry))) (now (words .entry)) ⌝ }
+    ensures { λ _. ⌜ now (words .exit) ≡ onto (sampleWords (now («input_y» .entry)) (now («ref_y» .entry)) (sides .width) (sides .height)) (now (words .entry)) ⌝ }
+    ensures { λ r. ⌜ r ≡ rowsAdded (now («input_y» .entry)) (now («ref_y» .entry)) (sides .width) (sides .height) ⌝ }
 {
     plane::downsample(input_y, sides.width, sides.height, &mut *input_half);
     plane::downsample(ref_y, sides.width, sides.height, &mut *ref_half);
@@ -44,9 +46,8 @@ fn search_into(
         &input_half[..half],
         &ref_half[..half],
         sides,
-        classes,
         &mut *words,
-    );
+    )
 }
 
 pub fn collect_motion_samples(
@@ -82,6 +83,7 @@ pub fn collect_motion_samples(
         return Searched {
             refusal: refusal,
             samples: 0,
+            rows: 0,
         };
     }
     let samples = height / BLOCK * (width / BLOCK);
@@ -89,13 +91,13 @@ pub fn collect_motion_samples(
         return Searched {
             refusal: 0,
             samples: 0,
+            rows: 0,
         };
     }
-    search_into(
+    let rows = search_into(
         input_y,
         ref_y,
         sides,
-        classes,
         &mut *input_half,
         &mut *ref_half,
         &mut *words,
@@ -103,5 +105,6 @@ pub fn collect_motion_samples(
     Searched {
         refusal: 0,
         samples: samples,
+        rows: rows,
     }
 }

@@ -2,13 +2,12 @@
 ghost use mathlib.Core.Path.{_≡_};
 ghost use Rattle.laws.specs.Refusal.{judge};
 ghost use Rattle.plane.specs.Inner.{Small};
-ghost use Rattle.search.specs.Refusal.{tooLarge, wrongLength, badClass, tooShort, inputRows, lentRows, verdict};
+ghost use Rattle.search.specs.Refusal.{tooLarge, wrongLength, tooShort, inputRows, lentRows, verdict};
+use class::LAST_CLASS;
 use plane::BLOCK;
 use plane::Sides;
 
 const LARGEST_SIDE: usize = 1024;
-
-const LAST_CLASS: u8 = 3;
 
 // The rows' numbers.
 const TOO_LARGE: u32 = 1;
@@ -47,19 +46,6 @@ pub fn wrong_length(
     classes != height / BLOCK * (width / BLOCK)
 }
 
-pub fn bad_class(classes: &[u8]) -> bool
-    ensures { λ b. ⌜ b ≡ badClass (now (classes .entry)) ⌝ }
-{
-    let mut k = 0;
-    while k < classes.len() {
-        if LAST_CLASS < classes[k] {
-            return true;
-        }
-        k += 1;
-    }
-    false
-}
-
 pub fn too_short(
     width: usize,
     height: usize,
@@ -94,7 +80,7 @@ fn unfit(width: usize, height: usize, input: usize, reference: usize, classes: &
     if wrong_length(width, height, input, reference, classes.len()) {
         return WRONG_LENGTH;
     }
-    if bad_class(classes) {
+    if class::some_over(LAST_CLASS, classes) {
         return NO_SUCH_CODE;
     }
     0

@@ -24,9 +24,6 @@ offset-back b n =
     ap (λ (z : ℤ). low (offset b n +ℤ z)) (sym (offset-pos 0 b b (omega arith)))
     ∙ (ap low (offset-add b n 0 b) ∙ ap low (offset-pos (b + 0) (n + b) n (omega arith)))
 
-pub offset-inject : (b m n : ℕ) → offset b m ≡ offset b n → m ≡ n
-offset-inject b m n e = sym (offset-back b m) ∙ (ap (λ (z : ℤ). low (z +ℤ pos b)) e ∙ offset-back b n)
-
 -- twice an offset
 pub offset-twice : (b n : ℕ) → pos 2 *ℤ offset b n ≡ offset (2 * b) (2 * n)
 offset-twice b n =
@@ -40,3 +37,7 @@ offset-eightfold b n =
     offset-cases b n (λ z. pos 8 *ℤ z ≡ offset (8 * b) (8 * n))
     (λ k e. sym (offset-neg (8 * b) (8 * n) (8 * k + 7) (omega arith) ∙ ap (λ (i : ℕ). negℤ (pos i)) (let q : suc (8 * k + 7) ≡ 8 * suc k = omega arith in q)))
     (λ k e. sym (offset-pos (8 * b) (8 * n) (8 * k) (omega arith)))
+
+-- eight times an offset biased by 27, biased by 223
+pub eightfold-stored : (n : ℕ) {z : ℤ} → offset 27 n ≡ z → offset 223 (8 * n + 7) ≡ pos 8 *ℤ z
+eightfold-stored n e = offset-same 223 (8 * n + 7) 216 (8 * n) (omega arith) ∙ (sym (offset-eightfold 27 n) ∙ ap (λ (z : ℤ). pos 8 *ℤ z) e)

@@ -1,26 +1,36 @@
-// The three stages of the search for one block (docs/RULES.md, 'Search'; the loops over offsets in
-// the Rust's `collect_motion_samples`). In go two planes, or two half planes, and the place of a
-// block; out comes the best motion with its cost. The code holds a motion as a natural number,
-// the signed one plus a bias: 12 in the coarse stage, 27 by full pels, 223 in eighths.
+// The three stages of the search for one block (docs/RULES.md, 'Search' and 'Rows added'; the loops over
+// offsets in the Rust's `collect_motion_samples`). In go two planes, or two half planes, and the place of
+// a block; out come the best motion with its cost, and the rows added. A stage copies the block and a
+// window of the reference, and no candidate after that clamps a coordinate. The code holds a motion as a
+// natural number, the signed one plus a bias: 12 in the coarse stage, 27 by full pels, 223 in eighths.
 ghost use mathlib.Core.Path.{_≡_};
-ghost use Prim.Native.Nat.{_+_, _≤_, _<_};
+ghost use Prim.Native.Nat.{_+_, _*_, _≤_, _<_};
+ghost use Rattle.laws.specs.Loops.{run};
 ghost use Rattle.plane.specs.Clamp.{offset};
-ghost use Rattle.cost.specs.Cost as costs;
 ghost use Rattle.plane.specs.Difference.{difference};
 ghost use Rattle.plane.specs.Inner.{Is};
-ghost use Rattle.cost.specs.Inner.{Planes};
-ghost use Rattle.stage.specs.Stage as stages;
-ghost use Rattle.stage.specs.Stage.{consider, withOffset, fullPel, eighthsStep, refined};
-ghost use Rattle.stage.specs.Inner.{seen, replaced, Leads, Steps, Block, Roomy, Priceable};
+ghost use Rattle.stage.specs.Early.{coarseEarly, fineEarly};
+ghost use Rattle.stage.specs.Inner as inner;
+ghost use Rattle.stage.specs.Inner.{replaced, magnitudesOf, coarseTurn, coarseIn, fullTurn, fullPelIn, stepTurn, stepIn, refinedIn};
+ghost use Rattle.stage.specs.Inner.{Next, Lies, Countable, Priceable, Coarse, Fine, Roomy, Steady, Planes, Block, Leads};
+use cost::Added;
 use cost::eighths;
 use cost::whole;
-use cost::whole::FULL_BIAS;
+use cost::whole::COARSE_WINDOW;
+use cost::whole::FINE_WINDOW;
+use plane::BLOCK;
+use plane::HALF_BLOCK;
 use plane::Offset;
 use plane::Place;
 
-// The offsets of a stage: so many each way, in a row and in all; the middle one is the start.
-const COARSE_REACH: usize = 12;
+// The biases, and the offset of a window's first row and column: 4 pels before the full-pel bias.
+const COARSE_BIAS: usize = 12;
 
+const FULL_BIAS: usize = 27;
+
+const WINDOW_BIAS: usize = 31;
+
+// The offsets of a stage: so many each way, in a row and in all; the middle one is the start.
 const COARSE_SIDE: usize = 25;
 
 const COARSE_SQUARE: usize = 625;
@@ -35,33 +45,43 @@ const STEP_SIDE: usize = 3;
 
 const STEP_SQUARE: usize = 9;
 
-// The best candidate so far: its cost, and its motion plus the stage's bias.
+// The reach of the steps in eighths.
+const STEPS_REACH: usize = 7;
+
+// A start has no best to reach.
+const NO_BEST: u32 = 4294967295;
+
+// The best candidate so far: its cost, its motion plus the stage's bias, and the rows added so far.
 pub struct Best {
     pub cost: u32,
     pub y: usize,
     pub x: usize,
+    pub rows: u32,
 }
 
-// Only a strictly smaller cost replaces the best.
-fn better(best: Best, cost: u32, by: Offset) -> Best
-    ensures { λ s. ⌜ s ≡ replaced best cost by ⌝ }
+// Only a strictly smaller cost replaces the best; the rows count anyway.
+fn better(best: Best, new: Added, by: Offset) -> Best
+    requires { ⌜ Countable best new ⌝ }
+    ensures { λ s. ⌜ s ≡ replaced best new by ⌝ }
 {
-    if cost < best.cost {
+    let rows = best.rows + new.rows;
+    if new.cost < best.cost {
         Best {
-            cost: cost,
+            cost: new.cost,
             y: by.y,
             x: by.x,
+            rows: rows,
         }
     } else {
-        best
+        Best { rows: rows, ..best }
     }
 }
 
 // The magnitude of n less the bias.
 fn magnitude(n: usize, bias: usize) -> u32
-    requires { ⌜ n ≤ 512 ⌝ }
-    requires { ⌜ bias ≤ 512 ⌝ }
-    ensures { λ s. ⌜ Is (difference n bias) 512 s ⌝ }
+    requires { ⌜ n ≤ 256 ⌝ }
+    requires { ⌜ bias ≤ 256 ⌝ }
+    ensures { λ s. ⌜ Is (difference n bias) 256 s ⌝ }
 {
     if n < bias {
         (bias - n) as u32
@@ -70,67 +90,94 @@ fn magnitude(n: usize, bias: usize) -> u32
     }
 }
 
-// A cost by whole pels, plus |dy| + |dx|.
-fn with_offset(cost: u32, by: Offset, bias: usize) -> u32
-    requires { ⌜ Priceable cost by bias ⌝ }
-    ensures { λ s. ⌜ s ≡ cost + difference (by .y) bias + difference (by .x) bias ⌝ }
+// |dy| + |dx|, which a sum by whole pels begins at.
+fn offset_cost(by: Offset, bias: usize) -> u32
+    requires { ⌜ Priceable by bias ⌝ }
+    ensures { λ s. ⌜ Is (magnitudesOf bias by) 512 s ⌝ }
 {
-    cost + magnitude(by.y, bias) + magnitude(by.x, bias)
+    magnitude(by.y, bias) + magnitude(by.x, bias)
 }
 
-fn coarse_candidate(best: Best, k: usize, input: &[u16], reference: &[u16], place: Place) -> Best
-    requires { ⌜ Planes (now input) (now reference) place ⌝ }
-    requires { ⌜ Block 8 place ⌝ }
-    requires { ⌜ k < 625 ⌝ }
-    ensures { λ s. ⌜ seen 12 s ≡ consider (withOffset (costs.blockCost 8 (now (input .entry)) (now (reference .entry)) place)) 12 1 (offset 12 12) (offset 12 12) k (seen 12 best) ⌝ }
+fn coarse_candidate(best: Best, y: usize, x: usize, block: &[u16], window: &[u16]) -> Best
+    requires { ⌜ Coarse (now block) (now window) ⌝ }
+    requires { ⌜ (y < 25) × (x < 25) ⌝ }
+    requires { ⌜ best .rows ≤ 10000 ⌝ }
+    ensures { λ s. ⌜ Next 8 (best .rows) (coarseTurn (now (block .entry)) (now (window .entry)) (y * 25 + x) best) s ⌝ }
 {
-    if k == COARSE_SQUARE / 2 {
+    if y * COARSE_SIDE + x == COARSE_SQUARE / 2 {
         return best;
     }
+    let by = Offset { y: y, x: x };
+    let start = offset_cost(by, COARSE_BIAS);
+    let new = whole::sad_half(best.cost, start, block, window, by);
+    better(best, new, by)
+}
+
+// The candidates of one dy.
+fn coarse_row(start: Best, y: usize, block: &[u16], window: &[u16]) -> Best
+    requires { ⌜ Coarse (now block) (now window) ⌝ }
+    requires { ⌜ y < 25 ⌝ }
+    requires { ⌜ start .rows ≤ 8 + 200 * y ⌝ }
+    ensures { λ s. ⌜ Next 200 (start .rows) (run (coarseTurn (now (block .entry)) (now (window .entry))) (y * 25) (y * 25 + 25) start) s ⌝ }
+{
+    let mut best = start;
+    let mut x = 0;
+    while x < COARSE_SIDE {
+        best = coarse_candidate(best, y, x, block, window);
+        x += 1;
+    }
+    best
+}
+
+fn coarse_scan(block: &[u16], window: &[u16]) -> Best
+    requires { ⌜ Coarse (now block) (now window) ⌝ }
+    ensures { λ s. ⌜ Next 5008 0 (coarseIn (now (block .entry)) (now (window .entry))) s ⌝ }
+{
     let by = Offset {
-        y: k / COARSE_SIDE,
-        x: k % COARSE_SIDE,
+        y: COARSE_BIAS,
+        x: COARSE_BIAS,
     };
-    let cost = whole::sad_half(input, reference, place, by);
-    better(best, with_offset(cost, by, COARSE_REACH), by)
+    let start = whole::sad_half(NO_BEST, 0, block, window, by);
+    let mut best = Best {
+        cost: start.cost,
+        y: COARSE_BIAS,
+        x: COARSE_BIAS,
+        rows: start.rows,
+    };
+    let mut y = 0;
+    while y < COARSE_SIDE {
+        best = coarse_row(best, y, block, window);
+        y += 1;
+    }
+    best
 }
 
 // 8×8 on half planes, from (0, 0), all offsets within 12.
 pub fn coarse(input: &[u16], reference: &[u16], place: Place) -> Best
     requires { ⌜ Planes (now input) (now reference) place ⌝ }
     requires { ⌜ Block 8 place ⌝ }
-    ensures { λ s. ⌜ Leads 12 24 (stages.coarse (now (input .entry)) (now (reference .entry)) place) s ⌝ }
+    ensures { λ s. ⌜ Leads 12 24 5008 (coarseEarly (now (input .entry)) (now (reference .entry)) place) s ⌝ }
 {
-    let start = Offset {
-        y: COARSE_REACH,
-        x: COARSE_REACH,
-    };
-    let mut best = Best {
-        cost: whole::sad_half(input, reference, place, start),
-        y: COARSE_REACH,
-        x: COARSE_REACH,
-    };
-    let mut k = 0;
-    while k < COARSE_SQUARE {
-        best = coarse_candidate(best, k, input, reference, place);
-        k += 1;
-    }
-    best
+    let none = Offset { y: 0, x: 0 };
+    let mut block = [0u16; 64];
+    plane::window(input, place, none, 0, HALF_BLOCK, &mut block);
+    let mut window = [0u16; 1024];
+    plane::window(
+        reference,
+        place,
+        none,
+        COARSE_BIAS,
+        COARSE_WINDOW,
+        &mut window,
+    );
+    coarse_scan(&block, &window)
 }
 
-fn full_candidate(
-    best: Best,
-    k: usize,
-    centre: Offset,
-    input: &[u16],
-    reference: &[u16],
-    place: Place,
-) -> Best
-    requires { ⌜ Planes (now input) (now reference) place ⌝ }
-    requires { ⌜ Block 16 place ⌝ }
+fn full_candidate(best: Best, k: usize, centre: Offset, block: &[u16], window: &[u16]) -> Best
+    requires { ⌜ Fine (now block) (now window) ⌝ }
     requires { ⌜ Roomy 3 54 (centre .y) (centre .x) ⌝ }
-    requires { ⌜ k < 49 ⌝ }
-    ensures { λ s. ⌜ seen 27 s ≡ consider (withOffset (costs.blockCost 16 (now (input .entry)) (now (reference .entry)) place)) 3 1 (offset 27 (centre .y)) (offset 27 (centre .x)) k (seen 27 best) ⌝ }
+    requires { ⌜ (k < 49) × (best .rows ≤ 10000) ⌝ }
+    ensures { λ s. ⌜ Next 16 (best .rows) (fullTurn centre (now (block .entry)) (now (window .entry)) k best) s ⌝ }
 {
     if k == FULL_SQUARE / 2 {
         return best;
@@ -139,25 +186,36 @@ fn full_candidate(
         y: centre.y + k / FULL_SIDE - FULL_REACH,
         x: centre.x + k % FULL_SIDE - FULL_REACH,
     };
-    let cost = whole::sad_int(input, reference, place, by);
-    better(best, with_offset(cost, by, FULL_BIAS), by)
+    let start = offset_cost(by, FULL_BIAS);
+    let at = Offset {
+        y: k / FULL_SIDE + 1,
+        x: k % FULL_SIDE + 1,
+    };
+    let new = whole::sad_int(best.cost, start, block, window, at);
+    better(best, new, by)
 }
 
 // 16×16 by full pels, from the centre, the others within 3 of it.
-pub fn full_pel(centre: Offset, input: &[u16], reference: &[u16], place: Place) -> Best
-    requires { ⌜ Planes (now input) (now reference) place ⌝ }
-    requires { ⌜ Block 16 place ⌝ }
+fn full_pel(centre: Offset, block: &[u16], window: &[u16]) -> Best
+    requires { ⌜ Fine (now block) (now window) ⌝ }
     requires { ⌜ Roomy 3 54 (centre .y) (centre .x) ⌝ }
-    ensures { λ s. ⌜ Leads 27 54 (fullPel (now (input .entry)) (now (reference .entry)) place (offset 27 (centre .y)) (offset 27 (centre .x))) s ⌝ }
+    ensures { λ s. ⌜ Next 800 0 (fullPelIn centre (now (block .entry)) (now (window .entry))) s ⌝ }
+    ensures { λ s. ⌜ Lies 3 (centre .y) (centre .x) (s .y) (s .x) ⌝ }
 {
+    let at = Offset {
+        y: FULL_REACH + 1,
+        x: FULL_REACH + 1,
+    };
+    let start = whole::sad_int(NO_BEST, 0, block, window, at);
     let mut best = Best {
-        cost: whole::sad_int(input, reference, place, centre),
+        cost: start.cost,
         y: centre.y,
         x: centre.x,
+        rows: start.rows,
     };
     let mut k = 0;
     while k < FULL_SQUARE {
-        best = full_candidate(best, k, centre, input, reference, place);
+        best = full_candidate(best, k, centre, block, window);
         k += 1;
     }
     best
@@ -168,15 +226,15 @@ fn eighths_candidate(
     k: usize,
     step: usize,
     centre: Offset,
-    input: &[u16],
-    reference: &[u16],
-    place: Place,
+    corner: Offset,
+    block: &[u16],
+    window: &[u16],
 ) -> Best
-    requires { ⌜ Planes (now input) (now reference) place ⌝ }
-    requires { ⌜ Block 16 place ⌝ }
-    requires { ⌜ Roomy step 446 (centre .y) (centre .x) ⌝ }
-    requires { ⌜ k < 9 ⌝ }
-    ensures { λ s. ⌜ seen 223 s ≡ consider (costs.eighthsCost (now (input .entry)) (now (reference .entry)) place) 1 step (offset 223 (centre .y)) (offset 223 (centre .x)) k (seen 223 best) ⌝ }
+    requires { ⌜ Fine (now block) (now window) ⌝ }
+    requires { ⌜ Roomy 3 54 (corner .y) (corner .x) ⌝ }
+    requires { ⌜ Steady step corner centre ⌝ }
+    requires { ⌜ (k < 9) × (best .rows ≤ 10000) ⌝ }
+    ensures { λ s. ⌜ Next 16 (best .rows) (stepTurn corner centre step (now (block .entry)) (now (window .entry)) k best) s ⌝ }
 {
     if k == STEP_SQUARE / 2 {
         return best;
@@ -184,15 +242,18 @@ fn eighths_candidate(
     let y = centre.y + k / STEP_SIDE * step - step;
     let x = centre.x + k % STEP_SIDE * step - step;
     let by = Offset { y: y, x: x };
-    better(best, eighths::sad_subpel(input, reference, place, by), by)
+    let new = eighths::sad_subpel(best.cost, block, window, corner, by);
+    better(best, new, by)
 }
 
 // The eight neighbours of the best held when the step begins.
-fn eighths_step(start: Best, step: usize, input: &[u16], reference: &[u16], place: Place) -> Best
-    requires { ⌜ Planes (now input) (now reference) place ⌝ }
-    requires { ⌜ Block 16 place ⌝ }
-    requires { ⌜ Roomy step 446 (start .y) (start .x) ⌝ }
-    ensures { λ s. ⌜ Steps step start (eighthsStep (now (input .entry)) (now (reference .entry)) place step (seen 223 start)) s ⌝ }
+fn eighths_step(start: Best, step: usize, corner: Offset, block: &[u16], window: &[u16]) -> Best
+    requires { ⌜ Fine (now block) (now window) ⌝ }
+    requires { ⌜ Roomy 3 54 (corner .y) (corner .x) ⌝ }
+    requires { ⌜ Steady step corner (inner.at (start .y) (start .x)) ⌝ }
+    requires { ⌜ start .rows ≤ 1000 ⌝ }
+    ensures { λ s. ⌜ Next 144 (start .rows) (stepIn corner step (now (block .entry)) (now (window .entry)) start) s ⌝ }
+    ensures { λ s. ⌜ Lies step (start .y) (start .x) (s .y) (s .x) ⌝ }
 {
     let centre = Offset {
         y: start.y,
@@ -201,25 +262,65 @@ fn eighths_step(start: Best, step: usize, input: &[u16], reference: &[u16], plac
     let mut best = start;
     let mut k = 0;
     while k < STEP_SQUARE {
-        best = eighths_candidate(best, k, step, centre, input, reference, place);
+        best = eighths_candidate(best, k, step, centre, corner, block, window);
         k += 1;
     }
     best
 }
 
 // 16×16 in eighths, from the start, by steps 4, 2, 1.
-pub fn refine(start: Offset, input: &[u16], reference: &[u16], place: Place) -> Best
-    requires { ⌜ Planes (now input) (now reference) place ⌝ }
-    requires { ⌜ Block 16 place ⌝ }
-    requires { ⌜ Roomy 7 446 (start .y) (start .x) ⌝ }
-    ensures { λ s. ⌜ Leads 223 446 (refined (now (input .entry)) (now (reference .entry)) place (offset 223 (start .y)) (offset 223 (start .x))) s ⌝ }
+fn refine(start: Offset, corner: Offset, block: &[u16], window: &[u16]) -> Best
+    requires { ⌜ Fine (now block) (now window) ⌝ }
+    requires { ⌜ Roomy 3 54 (corner .y) (corner .x) ⌝ }
+    requires { ⌜ Steady 7 corner start ⌝ }
+    ensures { λ s. ⌜ Next 448 0 (refinedIn corner start (now (block .entry)) (now (window .entry))) s ⌝ }
+    ensures { λ s. ⌜ Lies 7 (start .y) (start .x) (s .y) (s .x) ⌝ }
 {
+    let all = eighths::sad_subpel(NO_BEST, block, window, corner, start);
     let first = Best {
-        cost: eighths::sad_subpel(input, reference, place, start),
+        cost: all.cost,
         y: start.y,
         x: start.x,
+        rows: all.rows,
     };
-    let by_4 = eighths_step(first, 4, input, reference, place);
-    let by_2 = eighths_step(by_4, 2, input, reference, place);
-    eighths_step(by_2, 1, input, reference, place)
+    let by_4 = eighths_step(first, 4, corner, block, window);
+    let by_2 = eighths_step(by_4, 2, corner, block, window);
+    eighths_step(by_2, 1, corner, block, window)
+}
+
+// Full pel, and eighths from eight times its winner.
+fn fine_scan(centre: Offset, block: &[u16], window: &[u16]) -> Best
+    requires { ⌜ Fine (now block) (now window) ⌝ }
+    requires { ⌜ Roomy 3 54 (centre .y) (centre .x) ⌝ }
+    ensures { λ s. ⌜ inner.FineIn centre (now (block .entry)) (now (window .entry)) s ⌝ }
+{
+    let full = full_pel(centre, block, window);
+    let y = 8 * full.y + STEPS_REACH;
+    let x = 8 * full.x + STEPS_REACH;
+    let start = Offset { y: y, x: x };
+    let last = refine(start, centre, block, window);
+    let rows = full.rows + last.rows;
+    Best { rows: rows, ..last }
+}
+
+// 16×16 on planes, from the centre on.
+pub fn fine(centre: Offset, input: &[u16], reference: &[u16], place: Place) -> Best
+    requires { ⌜ Planes (now input) (now reference) place ⌝ }
+    requires { ⌜ Block 16 place ⌝ }
+    requires { ⌜ Roomy 3 54 (centre .y) (centre .x) ⌝ }
+    ensures { λ s. ⌜ Leads 223 446 1248 (fineEarly (now (input .entry)) (now (reference .entry)) place (offset 27 (centre .y)) (offset 27 (centre .x))) s ⌝ }
+{
+    let none = Offset { y: 0, x: 0 };
+    let mut block = [0u16; 256];
+    plane::window(input, place, none, 0, BLOCK, &mut block);
+    let mut window = [0u16; 576];
+    plane::window(
+        reference,
+        place,
+        centre,
+        WINDOW_BIAS,
+        FINE_WINDOW,
+        &mut window,
+    );
+    fine_scan(centre, &block, &window)
 }

@@ -168,7 +168,7 @@ fn make_planes(p: Picture, input: &mut [u16], reference: &mut [u16]) {
 fn fill_classes(classes: &mut [u8]) {
     let mut i = 0;
     while i < classes.len() {
-        classes[i] = (i % 4) as u8;
+        classes[i] = (i % 5) as u8;
         i += 1;
     }
 }
@@ -513,6 +513,7 @@ fn failures(list: i32, count: u64) -> u64 {
 // A job of one flat block and what is wrong with it.
 struct Small {
     width: usize,
+    frame: u16,
     gm_type: u8,
     reference: u8,
     flag: u8,
@@ -532,6 +533,7 @@ struct Small {
 fn right() -> Small {
     Small {
         width: 16,
+        frame: 5,
         gm_type: 1,
         reference: 1,
         flag: 0,
@@ -562,7 +564,7 @@ fn with_code(s: Small, fault: u32) -> Small {
         t.places = 41;
     }
     if fault == 4 {
-        t.class = 4;
+        t.class = 5;
     }
     if fault == 5 {
         t.gm_type = 0;
@@ -609,6 +611,9 @@ fn with_fault(s: Small, fault: u32) -> Small {
         t.header_room = 124;
     }
     if fault == 18 {
+        t.frame = 0;
+    }
+    if fault == 19 {
         t.gm_type = 2;
     }
     t
@@ -638,6 +643,9 @@ fn row_of(fault: u32) -> u32 {
     }
     if fault < 18 {
         return 3;
+    }
+    if fault == 18 {
+        return 17;
     }
     6
 }
@@ -673,7 +681,7 @@ fn small_job(
     header: &mut [u8],
 ) -> Report {
     let settings = Settings {
-        frame: 5,
+        frame: s.frame,
         gm_type: s.gm_type,
         reference: s.reference,
         flag: s.flag,
@@ -857,12 +865,12 @@ fn refusal_failed(first: u32, second: u32) -> u64
 }
 
 fn failed_with(first: u32) -> u64
-    requires { ⌜ first < 19 ⌝ }
-    ensures { λ r. ⌜ r ≤ 19 ⌝ }
+    requires { ⌜ first < 20 ⌝ }
+    ensures { λ r. ⌜ r ≤ 20 ⌝ }
 {
     let mut failed = 0u64;
     let mut second = first;
-    while second < 19 {
+    while second < 20 {
         failed += refusal_failed(first, second);
         second += 1;
     }
@@ -872,7 +880,7 @@ fn failed_with(first: u32) -> u64
 fn failed_refusals() -> u64 {
     let mut failed = 0u64;
     let mut first = 1u32;
-    while first < 19 {
+    while first < 20 {
         failed += failed_with(first);
         first += 1;
     }
@@ -888,5 +896,5 @@ fn main() {
     let count = replay::next_word(list) as u64;
     replay::print_count(b"job", count, failures(list, count));
     libc::close(list);
-    replay::print_count(b"refusal", 171, failed_refusals());
+    replay::print_count(b"refusal", 190, failed_refusals());
 }

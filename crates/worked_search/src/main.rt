@@ -1,6 +1,7 @@
-// Replays the list of searches: two planes are made as windows on a texture, searched, and the answer,
-// the half planes and the sample words are compared with the Rust's. What lies behind the part used,
-// and everything where a call is refused, must be as it was.
+// Replays two lists of searches. In the first, two planes are made as windows on a texture, searched, and
+// the answer, the half planes and the sample words are compared with the Rust's, and the rows added with
+// a plain count. What lies behind the part used, and everything where a call is refused, must be as it
+// was. The second has the pels of its planes: the worked counts of docs/RULES.md.
 ghost use Prim.Native.Nat.{_≤_};
 ghost use mathlib.Core.Path.{_≡_};
 ghost use lib.ListN.{length};
@@ -163,7 +164,7 @@ fn fill_plane(t: Texture, w: Window, width: usize, plane: &mut [u16]) {
 fn fill_classes(classes: &mut [u8]) {
     let mut i = 0;
     while i < classes.len() {
-        classes[i] = (i % 4) as u8;
+        classes[i] = (i % 5) as u8;
         i += 1;
     }
 }
@@ -235,12 +236,14 @@ fn words_hold(list: i32, words: &[u32], written: usize) -> bool {
 fn holds(list: i32, s: Searched, input_half: &[u16], ref_half: &[u16], words: &[u32]) -> bool {
     let refusal = replay::next_word(list);
     let samples = size(list);
+    let rows = replay::next_word(list);
     let written = size(list);
     let input_sum = replay::next_word(list);
     let ref_sum = replay::next_word(list);
     let words_right = words_hold(list, words, samples);
     s.refusal == refusal
         && s.samples == samples
+        && s.rows == rows
         && replay::plane_holds(input_half, written, input_sum)
         && replay::plane_holds(ref_half, written, ref_sum)
         && words_right
@@ -265,36 +268,81 @@ fn replay_one(list: i32, input: &mut [u16], reference: &mut [u16]) -> bool {
     holds(list, s, &input_half, &ref_half, &words)
 }
 
+fn next_pels(list: i32, plane: &mut [u16]) {
+    let mut i = 0;
+    while i < plane.len() {
+        plane[i] = (replay::next_word(list) % 65536) as u16;
+        i += 1;
+    }
+}
+
+fn replay_planes(list: i32, input: &mut [u16], reference: &mut [u16]) -> bool {
+    let width = size(list);
+    let height = size(list);
+    let pels = size(list);
+    let input_pels = replay::least(pels, input.len());
+    let ref_pels = replay::least(pels, reference.len());
+    next_pels(list, &mut input[0..input_pels]);
+    next_pels(list, &mut reference[0..ref_pels]);
+    let samples = size(list);
+    let rows = replay::next_word(list);
+    let count = replay::least(samples, 32);
+    let classes = [0u8; 32];
+    let mut input_half = [replay::UNTOUCHED_PEL; 1632];
+    let mut ref_half = [replay::UNTOUCHED_PEL; 1632];
+    let mut words = [UNTOUCHED_WORD; 32];
+    let s = search::collect_motion_samples(
+        &input[0..input_pels],
+        &reference[0..ref_pels],
+        width,
+        height,
+        &classes[0..count],
+        &mut input_half,
+        &mut ref_half,
+        &mut words,
+    );
+    words_hold(list, &words, samples) && s.refusal == 0 && s.samples == samples && s.rows == rows
+}
+
 // 1 for a case that failed, which gets a line.
-fn failures_at(list: i32, case: u64) -> u64
+fn failures_at(list: i32, planes: bool, case: u64) -> u64
     ensures { λ r. ⌜ r ≤ 1 ⌝ }
 {
     let mut input = no_pels();
     let mut reference = no_pels();
-    if replay_one(list, &mut input, &mut reference) {
+    let right = if planes {
+        replay_planes(list, &mut input, &mut reference)
+    } else {
+        replay_one(list, &mut input, &mut reference)
+    };
+    if right {
         return 0;
     }
     replay::print_failure(b"search", case);
     1
 }
 
-fn failures(list: i32, count: u64) -> u64 {
+fn failures(list: i32, planes: bool, count: u64) -> u64 {
     let mut failed = 0u64;
     let mut case = 0u64;
     while case < count {
-        failed += failures_at(list, case);
+        failed += failures_at(list, planes, case);
         case += 1;
     }
     failed
 }
 
-fn main() {
-    let list = os::open_read(b"search.bin");
+fn replay_list(list: i32, planes: bool) {
     if list < 0 {
-        os::fail(b"search.bin");
+        os::fail(b"a list of searches");
         return;
     }
     let count = replay::next_word(list) as u64;
-    replay::print_count(b"search", count, failures(list, count));
+    replay::print_count(b"search", count, failures(list, planes, count));
     libc::close(list);
+}
+
+fn main() {
+    replay_list(os::open_read(b"search.bin"), false);
+    replay_list(os::open_read(b"planes.bin"), true);
 }

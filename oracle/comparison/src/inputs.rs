@@ -115,7 +115,7 @@ impl Scene {
 
 /// A class for each sample.
 pub fn classes(random: &mut Random, count: usize) -> Vec<u8> {
-    (0..count).map(|_| random.below(4) as u8).collect()
+    (0..count).map(|_| random.below(5) as u8).collect()
 }
 
 /// Up to 4,096 words of any field value, with fields that are all alike, near each other or free.
@@ -228,14 +228,14 @@ fn odd(random: &mut Random) -> f64 {
     if random.one_in(3) { float(random) } else { random.pick(&special) }
 }
 
-/// Words that rise by place, in range.
+/// Words that rise by place, in range, with class bits zero.
 pub fn rising_words(random: &mut Random) -> Vec<u32> {
     let most = random.pick(&[1, 3, 130, 130, 300, 300, MOST_SAMPLES]);
     let chance = random.pick(&[1, 2, 30]);
     let places = (0..MOST_SAMPLES as u32).filter(|_| random.one_in(chance)).collect::<Vec<_>>();
     let word = |place| {
         let motion = |random: &mut Random| random.below(447) as u32;
-        place << 20 | motion(random) << 11 | motion(random) << 2 | random.below(4) as u32
+        place << 20 | motion(random) << 11 | motion(random) << 2
     };
     places.into_iter().take(most).map(word).collect()
 }

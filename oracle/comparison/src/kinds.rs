@@ -5,7 +5,8 @@ use crate::random::Random;
 use belt::{
     Buffers, Fitted, Frame, Kind as FrameKind, Lent, Model, MotionSample, Refusal, Report, Settings, StoredModel, Task,
 };
-use oracle::{Models, blocks, practice};
+use oracle::blocks::{self, BLOCK, Form, ONE, TWO};
+use oracle::{Models, practice};
 use std::fmt::{Debug, Write};
 
 /// An input that is being made, in words for the one that shows a difference.
@@ -28,7 +29,7 @@ pub struct Kind {
     pub compare: fn(&mut Case) -> Result<(), String>,
 }
 
-pub const KINDS: [Kind; 22] = [
+pub const KINDS: [Kind; 23] = [
     Kind { name: "search", share: 4, compare: search },
     Kind { name: "fit translation", share: 4, compare: |case| fit(case, 1) },
     Kind { name: "fit rotation-zoom", share: 4, compare: |case| fit(case, 2) },
@@ -48,7 +49,8 @@ pub const KINDS: [Kind; 22] = [
     Kind { name: "price list", share: 1, compare: price_list },
     Kind { name: "price of a frame", share: 4, compare: frame_price },
     Kind { name: "job", share: 6, compare: job },
-    Kind { name: "blocks, by docs/RULES.md", share: 4, compare: stored_frame },
+    Kind { name: "blocks of form 2, by docs/RULES.md", share: 4, compare: stored_frame },
+    Kind { name: "blocks of form 1, by docs/RULES.md", share: 4, compare: old_frame },
     Kind { name: "shear, by clause 7.11.3.6", share: 6, compare: shear },
     Kind { name: "practice belt, by docs/RULES.md", share: 4, compare: practice },
 ];
@@ -93,6 +95,7 @@ const ENDS_FIRST: u32 = 9;
 /// Those that only the rules have.
 const OFF_GRID: u32 = 7;
 const START_OVER: u32 = 14;
+const CLOSED: u32 = 17;
 
 /// A job's buffers full of a pattern: just long enough, or longer.
 fn buffers(random: &mut Random, width: usize, height: usize) -> Buffers {
@@ -133,8 +136,8 @@ fn pair(case: &mut Case) -> Pair {
 
 /// What the search of a pair leaves in the buffers.
 fn searched(pair: &Pair, left: &mut Buffers) -> Vec<u32> {
-    let Pair { width, height, input, reference, classes } = pair;
-    let words = oracle::sample_words(input, reference, *width, *height, classes);
+    let Pair { width, height, input, reference, .. } = pair;
+    let words = oracle::sample_words(input, reference, *width, *height);
     if !words.is_empty() {
         let halves = [input, reference].map(|plane| oracle::half_plane(plane, *width, *height));
         left.input_half[..halves[0].len()].copy_from_slice(&halves[0]);
@@ -161,7 +164,8 @@ fn search(case: &mut Case) -> Result<(), String> {
         words,
     );
     let words = searched(&pair, &mut theirs);
-    same("samples", row(found), Ok(words.len()))?;
+    let rows = oracle::rows::search(&pair.input, &pair.reference, width, height).0;
+    same("samples and rows added", row(found.map(|found| (found.samples, found.rows))), Ok((words.len(), rows)))?;
     same_list("half plane of the input", &ours.input_half, &theirs.input_half)?;
     same_list("half plane of the reference", &ours.ref_half, &theirs.ref_half)?;
     same_list("words", &ours.words, &theirs.words)
@@ -484,9 +488,17 @@ fn key_frame(case: &mut Case) -> Result<(), String> {
     same("types, models and bits", read, Ok(oracle::read_key_frame(&after, at)))
 }
 
+/// A frame's number, at times that of a closed shutter.
+fn frame_number(random: &mut Random) -> u16 {
+    if random.one_in(20) { blocks::CLOSED } else { random.bits() as u16 }
+}
+
 /// The composition of the Rust's answers: what a job reports and leaves.
 fn job_of_the_rust(pair: &Pair, settings: Settings, header: &Header, left: &mut Buffers) -> Result<Report, u32> {
     let Settings { frame, gm_type, reference, flag, start } = settings;
+    if frame == blocks::CLOSED {
+        return Err(CLOSED);
+    }
     let words = searched(pair, left);
     let samples = samples(&words);
     let fitted = oracle::fit(gm_type, &samples).ok_or(SINGULAR)?;
@@ -499,7 +511,7 @@ fn job_of_the_rust(pair: &Pair, settings: Settings, header: &Header, left: &mut 
     let (mut bytes, bits) = full.written(start);
     keep_before(start, &mut bytes, &left.header);
     left.header[..bytes.len()].copy_from_slice(&bytes);
-    let stored = blocks::write(frame, &words);
+    let stored = blocks::write(TWO, frame, &blocks::classed(&words, &pair.classes));
     left.blocks[..stored.len()].copy_from_slice(&stored);
     Ok(Report { types: full.types, models: full.params.map(StoredModel), score, bits, samples: words.len() })
 }
@@ -509,7 +521,7 @@ fn job(case: &mut Case) -> Result<(), String> {
     let header = header(case);
     let random = &mut case.random;
     let settings = Settings {
-        frame: random.bits() as u16,
+        frame: frame_number(random),
         gm_type: 1 + random.below(3) as u8,
         reference: 1 + random.below(7) as u8,
         flag: header.flag,
@@ -545,85 +557,157 @@ fn job(case: &mut Case) -> Result<(), String> {
     same_list("header", &ours.header, &theirs.header)
 }
 
-/// A frame's words, some of them not to be stored; its blocks, some damaged, read back, judged and listed.
+/// A class for each word, at times none of film, so that form 1 can hold them.
+fn classes_of(random: &mut Random, count: usize) -> Vec<u8> {
+    if random.one_in(2) { vec![random.below(4) as u8; count] } else { inputs::classes(random, count) }
+}
+
+/// A frame's words and classes, some of them not to be stored; its blocks, some damaged, read back, converted, judged and
+/// listed.
 fn stored_frame(case: &mut Case) -> Result<(), String> {
     let random = &mut case.random;
     let mut words = inputs::rising_words(random);
-    let frame = random.bits() as u16;
+    let mut classes = classes_of(random, words.len());
+    let frame = frame_number(random);
     if random.one_in(6) && words.len() > 1 {
         let (i, j) = (random.below(words.len()), random.below(words.len()));
-        match random.below(3) {
+        match random.below(5) {
             0 => words.swap(i, j),
             1 => words[i] = words[j],
+            2 => words[i] |= 1 + random.below(3) as u32,
+            3 => classes[i] = random.bits() as u8,
             _ => words[i] = random.bits() as u32,
         }
     }
     if random.one_in(40) {
         words.resize(inputs::MOST_SAMPLES + 1, inputs::STILL);
     }
-    let needed = 512 * words.len().div_ceil(125);
+    if random.one_in(40) {
+        classes.resize(random.below(words.len() + 2), 0);
+    }
+    let needed = BLOCK * TWO.blocks_of(words.len());
     let room = if random.one_in(8) { random.below(needed + 1) } else { needed + random.below(700) };
     let before = random.bytes(room);
     case.note("frame", frame);
     case.note("words", &words);
+    case.note("classes", &classes);
     case.note("room", room);
     let mut after = before.clone();
-    let ours = row(belt::write_frame(frame, &words, &mut after));
+    let ours = row(belt::write_frame(frame, &words, &classes, &mut after));
     case.accepted = ours.is_ok();
-    let refusal = blocks::store_refusal(&words, room);
+    let refusal = blocks::store_refusal(frame, &words, &classes, room);
     if refusal != 0 {
         same("blocks", ours, Err(refusal))?;
         return same_list("bytes", &after, &before);
     }
-    same("blocks", ours, Ok(needed / 512))?;
-    let stored = blocks::write(frame, &words);
+    same("blocks", ours, Ok(needed / BLOCK))?;
+    let stored = blocks::write(TWO, frame, &blocks::classed(&words, &classes));
     same_list("bytes", &after, &[&stored, &before[needed..]].concat())?;
     frame_read(case, after)
 }
 
-fn frame_read(case: &mut Case, mut bytes: Vec<u8>) -> Result<(), String> {
+/// A frame's blocks of form 1, some damaged, read, converted, judged and listed.
+fn old_frame(case: &mut Case) -> Result<(), String> {
     let random = &mut case.random;
+    let words = inputs::rising_words(random);
+    let classes: Vec<u8> = words.iter().map(|_| random.below(4) as u8).collect();
+    let frame = frame_number(random);
+    let mut bytes = blocks::write(ONE, frame, &blocks::classed(&words, &classes));
+    // some frames go over to the other form in the middle
+    if random.one_in(10) {
+        let others = blocks::write(TWO, frame, &blocks::classed(&words, &classes));
+        let from = BLOCK * random.below(bytes.len() / BLOCK + 1);
+        bytes.splice(from.., others[from..].iter().copied());
+    }
+    let behind = random.below(700);
+    bytes.extend(random.bytes(behind));
+    case.note("frame", frame);
+    frame_read(case, bytes)
+}
+
+/// Some bytes flipped, most of them with the check mended, or the end cut off.
+fn damage(random: &mut Random, bytes: &mut Vec<u8>) {
     if random.one_in(3) && !bytes.is_empty() {
         for _ in 0..1 + random.below(2) {
-            let whole = 512 * (bytes.len() / 512).max(1);
+            let whole = BLOCK * (bytes.len() / BLOCK).max(1);
             let at = random.below(whole.min(bytes.len()));
-            // the heads and the first words of blocks more often than the rest
-            let at = if random.one_in(2) { at } else { at / 512 * 512 + random.below(16).min(bytes.len() - 1) };
+            // the heads and the first samples of blocks more often than the rest
+            let at = if random.one_in(2) { at } else { at / BLOCK * BLOCK + random.below(20).min(bytes.len() - 1) };
             let at = at.min(bytes.len() - 1);
             bytes[at] ^= 1 << random.below(8);
-            if random.one_in(2) && at / 512 * 512 + 512 <= bytes.len() {
-                blocks::mend(&mut bytes, at);
+            if random.one_in(2) && at / BLOCK * BLOCK + BLOCK <= bytes.len() {
+                blocks::mend(bytes, at);
             }
         }
     }
     if random.one_in(10) {
         bytes.truncate(random.below(bytes.len() + 1));
     }
-    let room = if random.one_in(5) { random.pick(&[0, 1, 125, 126, 300]) } else { 4096 + random.below(5) };
-    case.note("room for words", room);
-    case.note("bytes to read", &bytes);
-    let before = vec![0xA5A5_5A5Au32; room];
-    let mut words = before.clone();
-    let ours = row(belt::read_frame(&bytes, &mut words));
-    case.accepted = ours.is_ok();
-    let mut left = before;
-    let theirs = match blocks::read(&bytes, room) {
-        Err(refusal) => Err(refusal),
-        Ok((number, read)) => {
-            left[..read.len()].copy_from_slice(&read);
-            Ok(Frame { number, samples: read.len() })
-        }
+}
+
+fn frame_read(case: &mut Case, mut bytes: Vec<u8>) -> Result<(), String> {
+    let random = &mut case.random;
+    damage(random, &mut bytes);
+    let room = |random: &mut Random| match random.one_in(5) {
+        true => random.pick(&[0, 1, 100, 101, 125, 126, 300]),
+        false => 4096 + random.below(5),
     };
-    same("frame", ours, theirs)?;
-    same_list("words", &words, &left)?;
-    for block in bytes.chunks(512) {
+    let (room, class_room) = (room(random), room(random));
+    case.note("room for words and classes", (room, class_room));
+    case.note("bytes to read", &bytes);
+
+    let (mut words, mut classes) = (vec![0xA5A5_5A5A; room], vec![0x5A; class_room]);
+    let (mut words_left, mut classes_left) = (words.clone(), classes.clone());
+    let ours = row(belt::read_both(&bytes, &mut words, &mut classes));
+    case.accepted = ours.is_ok();
+    let theirs = blocks::read_both(&bytes, room, class_room).map(|(number, samples)| {
+        for (i, &(word, class)) in samples.iter().enumerate() {
+            (words_left[i], classes_left[i]) = (word, class);
+        }
+        Frame { number, samples: samples.len() }
+    });
+    same("frame, by the reader of both forms", ours, theirs)?;
+    same_list("words", &words, &words_left)?;
+    same_list("classes", &classes, &classes_left)?;
+
+    let mut words = vec![0xA5A5_5A5Au32; room];
+    let mut left = words.clone();
+    let ours = row(belt::read_frame(&bytes, &mut words));
+    let theirs = blocks::read_form1(&bytes, room).map(|(number, read)| {
+        left[..read.len()].copy_from_slice(&read);
+        Frame { number, samples: read.len() }
+    });
+    same("frame, by the reader of form 1", ours, theirs)?;
+    same_list("words with classes", &words, &left)?;
+
+    conversion(case, &bytes, TWO, ONE, belt::to_form1)?;
+    conversion(case, &bytes, ONE, TWO, belt::to_form2)?;
+    for block in bytes.chunks(BLOCK) {
         let ours = row(belt::judge_block(block)).map(|block| block.count);
-        let theirs = blocks::judge_alone(block).map(|words| words.len());
+        let theirs = blocks::judge_alone(block).map(|samples| samples.len());
         same("count of a block", ours, theirs)?;
         let mut text = [0xA5; belt::TEXT_BYTES];
         same("text of a block", belt::list_block(block, &mut text).to_owned(), blocks::text(block))?;
     }
     Ok(())
+}
+
+type Convert = fn(&[u8], &mut [u8]) -> Result<usize, Refusal>;
+
+fn conversion(case: &mut Case, bytes: &[u8], from: Form, to: Form, convert: Convert) -> Result<(), String> {
+    let room = match case.random.one_in(5) {
+        true => case.random.pick(&[0, 511, 512, 1023, 1024]),
+        false => BLOCK * to.blocks_of(inputs::MOST_SAMPLES),
+    };
+    let mut after = vec![0x3C; room];
+    let mut left = after.clone();
+    let ours = row(convert(bytes, &mut after));
+    let theirs = blocks::convert(from, to, bytes, room).map(|blocks| {
+        left[..blocks.len()].copy_from_slice(&blocks);
+        blocks.len() / BLOCK
+    });
+    same(&format!("blocks from form {} to {} in {room} bytes", from.number, to.number), ours, theirs)?;
+    same_list("bytes converted", &after, &left)
 }
 
 /// A codable model of a type that warps, against the stand-in, which is a writing of the clause.

@@ -46,9 +46,7 @@ fn push_case(list: &mut List, lcg: &mut Lcg) {
         () => 0,
     };
     let read_refusal = if flag > 1 { 4 } else { 0 };
-    for word in
-        [flag, first_type, types, number, numbers, prior, places, start, room, at, refusal, read_refusal]
-    {
+    for word in [flag, first_type, types, number, numbers, prior, places, start, room, at, refusal, read_refusal] {
         list.push(word);
     }
 }

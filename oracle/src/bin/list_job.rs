@@ -6,12 +6,12 @@
 //! numbers, score in two words, bits), the blocks' length in words and their words, the header's length in bytes and
 //! its bytes among `UNTOUCHED` bits, zeros up to a whole word.
 
+use oracle::blocks::{self, TWO};
 use oracle::list::{Lcg, List};
 use oracle::{IDENTITY, Models};
 use std::{env, io};
 
 const SEED: u32 = 7;
-const BLOCK_SAMPLES: usize = 125;
 /// The byte that a replay's header buffer is full of.
 const UNTOUCHED: u8 = 165;
 
@@ -102,12 +102,9 @@ fn push_case(list: &mut List, picture: &Picture, kind: u8, lcg: &mut Lcg) {
 
     let (input, plane) = picture.planes();
     let count = oracle::sample_count(picture.width, picture.height);
-    let classes: Vec<u8> = (0..count).map(|i| (i % 4) as u8).collect();
-    let words = if count == 0 {
-        Vec::new()
-    } else {
-        oracle::sample_words(&input, &plane, picture.width, picture.height, &classes)
-    };
+    let classes: Vec<u8> = (0..count).map(|i| (i % 5) as u8).collect();
+    let words =
+        if count == 0 { Vec::new() } else { oracle::sample_words(&input, &plane, picture.width, picture.height) };
     let samples: Vec<[f64; 4]> = words.iter().map(|&word| oracle::sample_of(word)).collect();
     let Some(fitted) = oracle::fit(kind, &samples) else {
         list.push(6);
@@ -130,13 +127,18 @@ fn push_case(list: &mut List, picture: &Picture, kind: u8, lcg: &mut Lcg) {
     params.iter().flatten().for_each(|&p| list.push_signed(p));
     list.push_float(oracle::score(&quantized, &samples));
     list.push(bits as u32);
-    let blocks = blocks(frame, &words);
-    list.push(blocks.len() as u32);
-    blocks.iter().for_each(|&word| list.push(word));
+    let blocks = blocks::write(TWO, frame, &blocks::classed(&words, &classes));
+    list.push((blocks.len() / 4) as u32);
+    push_bytes(list, &blocks);
     list.push(header.len() as u32);
-    for bytes in header.chunks(4) {
+    push_bytes(list, &header);
+}
+
+/// Bytes as words, zeros up to a whole one.
+fn push_bytes(list: &mut List, bytes: &[u8]) {
+    for part in bytes.chunks(4) {
         let mut word = [0; 4];
-        word[..bytes.len()].copy_from_slice(bytes);
+        word[..part.len()].copy_from_slice(part);
         list.push(u32::from_be_bytes(word));
     }
 }
@@ -180,19 +182,4 @@ fn prior(lcg: &mut Lcg) -> Models {
             IDENTITY[slot] + offset
         })
     })
-}
-
-/// The words of a frame's blocks, written out from docs/RULES.md.
-fn blocks(frame: u16, words: &[u32]) -> Vec<u32> {
-    let mut out = Vec::new();
-    for (ordinal, chunk) in words.chunks(BLOCK_SAMPLES).enumerate() {
-        let mut block =
-            vec![u32::from(frame) << 16 | 1 << 8 | chunk.len() as u32, (words.len() as u32) << 16 | ordinal as u32];
-        block.extend(chunk);
-        block.resize(127, 0);
-        let check = block.iter().fold(1u32, |sum, &word| sum.wrapping_add(word));
-        block.push(check);
-        out.extend(block);
-    }
-    out
 }

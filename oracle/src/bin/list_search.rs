@@ -1,6 +1,8 @@
-//! The list for `worked_search`: a count, then for each case 29 words of what is asked, five of what must
+//! The lists for `worked_search`. The first: a count, then for each case 29 words of what is asked, six of what must
 //! come back, and the sample words. The planes of a case are windows on a texture made from a seed. The
-//! answers are the Rust's; refusals go by the rows 1, 2, 4, 3 of docs/RULES.md. The argument is the file to write.
+//! answers are the Rust's; refusals go by the rows 1, 2, 4, 3 of docs/RULES.md, and the rows added by `oracle::rows`.
+//! The second: a count, then for each case its sides and pels, the pels of both planes, the samples, the rows added and
+//! the sample words. The arguments are the files to write.
 
 use oracle::list::{Lcg, List};
 use std::{env, io};
@@ -66,14 +68,34 @@ fn tiles(period: u32) -> Texture {
 }
 
 fn main() -> io::Result<()> {
-    let path = env::args().nth(1).expect("the argument is the file to write");
+    let path = |n| env::args().nth(n).expect("the arguments are the files to write");
     let cases: Vec<Case> = [pairs(), shifts(), edges(), rooms(), refusals()].concat();
     let mut list = List::default();
     list.push(cases.len() as u32);
     for case in cases {
         answer(&mut list, case);
     }
-    list.write(path)
+    list.write(path(1))?;
+
+    let mut planes = List::default();
+    let pairs = oracle::rows::worked();
+    planes.push(pairs.len() as u32);
+    for (width, height, input, reference, rows) in pairs {
+        let words = oracle::sample_words(&input, &reference, width, height);
+        assert_eq!(oracle::rows::search(&input, &reference, width, height).0, rows, "a worked count of docs/RULES.md");
+        for word in [width, height, input.len()] {
+            planes.push(word as u32);
+        }
+        for pel in [&input, &reference].into_iter().flatten() {
+            planes.push(u32::from(*pel));
+        }
+        planes.push(words.len() as u32);
+        planes.push(rows);
+        for word in words {
+            planes.push(word);
+        }
+    }
+    planes.write(path(2))
 }
 
 /// Two windows at the same place, each on its own texture, with everything in order.
@@ -90,7 +112,7 @@ fn plain(width: usize, height: usize, texture: Texture, seed: u32) -> Case {
         ref_pels: width * height,
         classes: oracle::sample_count(width, height),
         changed_class: 0,
-        class: (seed % 4) as u8,
+        class: (seed % 5) as u8,
         input_half_room: HALF_PELS,
         ref_half_room: HALF_PELS,
         word_room: WORDS,
@@ -238,7 +260,7 @@ fn refusals() -> Vec<Case> {
     cases.push(Case { input_pels: 239, ..none });
     cases.push(Case { ref_pels: 241, ..none });
     cases.push(Case { classes: 1, ..none });
-    cases.push(Case { classes: 1, class: 4, ..none });
+    cases.push(Case { classes: 1, class: 5, ..none });
     cases
 }
 
@@ -259,7 +281,7 @@ fn causes(case: Case) -> Vec<(u32, Change)> {
     for classes in [samples - 1, samples + 1] {
         causes.push((2, Box::new(move |c| Case { classes, ..c })));
     }
-    for (changed_class, class) in [(0, 4), (samples - 1, 4), (samples / 2, 255)] {
+    for (changed_class, class) in [(0, 5), (samples - 1, 5), (samples / 2, 255)] {
         causes.push((4, Box::new(move |c| Case { changed_class, class, ..c })));
     }
     for room in [0, half - 1] {
@@ -274,7 +296,7 @@ fn causes(case: Case) -> Vec<(u32, Change)> {
 
 /// The class list that is handed over.
 fn classes(case: &Case) -> Vec<u8> {
-    let mut classes: Vec<u8> = (0..WORDS).map(|i| (i % 4) as u8).collect();
+    let mut classes: Vec<u8> = (0..WORDS).map(|i| (i % 5) as u8).collect();
     classes[case.changed_class] = case.class;
     classes.truncate(case.classes);
     classes
@@ -289,7 +311,7 @@ fn refusal(case: &Case) -> u32 {
         1
     } else if case.input_pels != width * height || case.ref_pels != width * height || case.classes != samples {
         2
-    } else if classes(case).iter().any(|&class| class > 3) {
+    } else if classes(case).iter().any(|&class| class > 4) {
         4
     } else if samples > 0 && (case.input_half_room < half || case.ref_half_room < half || case.word_room < samples) {
         3
@@ -302,11 +324,13 @@ fn answer(list: &mut List, case: Case) {
     let refusal = refusal(&case);
     let mut half_planes = [Vec::new(), Vec::new()];
     let mut words = Vec::new();
+    let mut rows = 0;
     if refusal == 0 {
         let (width, height) = (case.width, case.height);
         let [input, reference] = [case.input, case.reference].map(|w| plane(&case, w));
-        words = oracle::sample_words(&input, &reference, width, height, &classes(&case));
+        words = oracle::sample_words(&input, &reference, width, height);
         if !words.is_empty() {
+            rows = oracle::rows::search(&input, &reference, width, height).0;
             half_planes = [input, reference].map(|p| oracle::half_plane(&p, width, height));
         }
     }
@@ -315,6 +339,7 @@ fn answer(list: &mut List, case: Case) {
     }
     list.push(refusal);
     list.push(words.len() as u32);
+    list.push(rows);
     list.push(half_planes[0].len() as u32);
     for half in &half_planes {
         list.push(sum(half));

@@ -11,7 +11,7 @@ use Rattle.job.proofs.write_out.Tie as tie
 
 returns : tie.Need-returns
 returns c =
-    let a = c .before .before .before .before .before .before .before .before .before .before .before .before .before .before .before .args in
+    let a = c .before .before .before .before .before .before .before .before .before .before .before .before .before .before .before .before .args in
     let w = c .before .before .encode-inter-global-motion .ensures in
     finish-same (ap (λ (w : Written). reportOf (a .m) (w .bits) (length (a .words .now))) (w .0)) (c .before .before .before .before .before .before .before .before .write-frame .ensures .1) (w .1)
 

@@ -7,12 +7,12 @@ use Rattle.job_task.proofs.bad_codes.Statement.{statement}
 use Rattle.job_task.proofs.bad_codes.Tie as tie
 
 returns : tie.Need-returns
-returns c = rw (sym (c .before .bad-class .ensures) ∙ c .if1 .taken)
+returns c = rw (sym (c .before .some-over .ensures) ∙ c .if1 .taken)
 
 returns-2 : tie.Need-returns-2
 returns-2 c =
     rw (
-      (sym (c .before .before .before .bad-class .ensures) ∙ c .before .before .if1 .left),
+      (sym (c .before .before .before .some-over .ensures) ∙ c .before .before .if1 .left),
       eq-eqb (c .before .before .before .before .before .before .args .settings .«gm_type») 0 (c .if2 .taken),
     )
 
@@ -20,7 +20,7 @@ returns-3 : tie.Need-returns-3
 returns-3 c =
     let t = c .before .before .before .before .before .before .before .before .args .settings .«gm_type» in
     rw (
-      (sym (c .before .before .before .before .before .bad-class .ensures) ∙ c .before .before .before .before .if1 .left),
+      (sym (c .before .before .before .before .before .some-over .ensures) ∙ c .before .before .before .before .if1 .left),
       ne-eqb t 0 (c .before .before .if2 .left),
       lt-ltb 3 t (c .if3 .taken),
     )
@@ -29,7 +29,7 @@ returns-4 : tie.Need-returns-4
 returns-4 c =
     let t = c .before .before .before .before .before .before .before .before .before .before .args .settings .«gm_type» in
     rw (
-      (sym (c .before .before .before .before .before .before .before .bad-class .ensures) ∙ c .before .before .before .before .before .before .if1 .left),
+      (sym (c .before .before .before .before .before .before .before .some-over .ensures) ∙ c .before .before .before .before .before .before .if1 .left),
       ne-eqb t 0 (c .before .before .before .before .if2 .left),
       le-ltb 3 t (c .before .before .if3 .left),
       (sym (c .before .types-over .ensures) ∙ c .if4 .taken),
@@ -40,7 +40,7 @@ returns-5 c =
     let b = c .before .before .before .before .before .before .before in
     let t = c .before .before .before .before .before .before .before .before .before .before .before .args .settings .«gm_type» in
     rw (
-      (sym (b .before .bad-class .ensures) ∙ b .if1 .left),
+      (sym (b .before .some-over .ensures) ∙ b .if1 .left),
       ne-eqb t 0 (c .before .before .before .before .before .if2 .left),
       le-ltb 3 t (c .before .before .before .if3 .left),
       (sym (c .before .before .types-over .ensures) ∙ c .before .if4 .left),

@@ -40,9 +40,17 @@ room-refusal-requires c κs =
 returns-4 : tie.Need-returns-4
 unfolding refusalBefore
 returns-4 c =
-    goes-on (c .before .before .before .before .before .before .sizes-refusal .ensures) (c .before .before .before .before .before .if1 .left)
-    (goes-on (c .before .before .before .before .codes-refusal .ensures) (c .before .before .before .if2 .left)
-    (goes-on (c .before .before .models-refusal .ensures) (c .before .if3 .left) (c .room-refusal .ensures)))
+    goes-on (c .before .before .before .before .before .before .before .sizes-refusal .ensures) (c .before .before .before .before .before .before .if1 .left)
+    (goes-on (c .before .before .before .before .before .codes-refusal .ensures) (c .before .before .before .before .if2 .left)
+    (goes-on (c .before .before .before .models-refusal .ensures) (c .before .before .if3 .left) (stops _ (c .before .room-refusal .ensures) (c .if4 .taken))))
+
+returns-5 : tie.Need-returns-5
+unfolding refusalBefore
+returns-5 c =
+    goes-on (c .before .before .before .before .before .before .before .before .sizes-refusal .ensures) (c .before .before .before .before .before .before .before .if1 .left)
+    (goes-on (c .before .before .before .before .before .before .codes-refusal .ensures) (c .before .before .before .before .before .if2 .left)
+    (goes-on (c .before .before .before .before .models-refusal .ensures) (c .before .before .before .if3 .left)
+    (goes-on (c .before .before .room-refusal .ensures) (c .before .if4 .left) (c .refusal-of .ensures))))
 
 pub refusal-of-spec : {M : Type 1} → statement M
-refusal-of-spec = tie.close (tie.spec (search needs) returns (search needs) returns-2 models-refusal-requires returns-3 room-refusal-requires returns-4)
+refusal-of-spec = tie.close (tie.spec (search needs) returns (search needs) returns-2 models-refusal-requires returns-3 room-refusal-requires returns-4 (search needs) returns-5)

@@ -5,6 +5,7 @@ use native.Mathlib.Omega.{arith}
 use borrow.Author.Tests.{lt-ltb, le-ltb}
 use mathlib.Core.Path.{sym, _∙_}
 use borrow.Author.Needs.{needs}
+use Rattle.forms.specs.Forms.{codecOf}
 use Rattle.search.proofs.Rows.{count-small}
 use Rattle.job_task.proofs.too_little.Statement.{statement}
 use Rattle.job_task.proofs.too_little.Tie as tie
@@ -23,11 +24,13 @@ blocks-of-requires c κs =
     omega (arith, count-small (e .args .sizes .width) (e .args .sizes .height) (e .pre .narrow) (e .pre .low))
 
 mul-if2 : tie.Need-mul-if2
+unfolding codecOf
 mul-if2 c =
     let e = c .before .before .before .before .before in
     omega (arith, count-small (e .args .sizes .width) (e .args .sizes .height) (e .pre .narrow) (e .pre .low), c .blocks-of .ensures)
 
 returns-2 : tie.Need-returns-2
+unfolding codecOf
 returns-2 c =
     rw (
       (sym (c .before .before .before .before .before .before .too-short .ensures) ∙ c .before .before .before .before .before .if1 .left),
@@ -36,6 +39,7 @@ returns-2 c =
     )
 
 returns-3 : tie.Need-returns-3
+unfolding codecOf
 returns-3 c =
     rw (
       (sym (c .before .before .before .before .before .before .before .too-short .ensures) ∙ c .before .before .before .before .before .before .if1 .left),

@@ -18,4 +18,4 @@ returns c =
     rw (toZ-pos w32 (a .stored) (omega arith), toZ-ofZ w32 (eighthsOf (a .stored)) (eighths-fit (a .stored) (omega arith)))
 
 pub pels-of-spec : {M : Type 1} → statement M
-pels-of-spec = tie.close (tie.spec (search needs) sub-result (search needs) returns)
+pels-of-spec = tie.close (tie.spec (search needs) (search needs) sub-result (search needs) returns)

@@ -49,7 +49,7 @@ returns-3 c =
     (sym (c .before .before .before .before .before .before .before .before .before .before .before .before .refusal-of .ensures)
     ∙ c .before .before .before .before .before .before .before .before .before .before .before .if1 .left)
     (c .before .before .before .before .before .before .before .before .before .before .if2 .left)
-    (e .0) (e .1 .0) (e .1 .1)
+    (e .0) (e .1 .0) (e .1 .1 .0) (e .1 .1 .1)
 
 pub collect-motion-samples-spec : {M : Type 1} → statement M
 collect-motion-samples-spec =

@@ -1,57 +1,70 @@
 -- `eighths_candidate`: the k-th of 3 × 3 around the centre, a step apart; two steps at most are added before one is taken back.
 -- Assumes nothing.
-use Prim.Native.Nat.{ℕ, _+_, _*_, _-_, _/_, _%_, _≤_, _<_}
-use mathlib.Core.Path.{ap, _∙_}
-use native.Mathlib.Nat.{mul-le-mul-right}
+use Prim.Native.Nat.{_/_, _%_}
 use native.Mathlib.Omega.{arith}
-use Rattle.plane.specs.declared.Offset.{Offset}
-use Rattle.plane.specs.Clamp.{offset}
-use Rattle.cost.specs.Cost.{eighthsCost}
-use Rattle.stage.specs.Inner.{seen}
-use Rattle.stage.proofs.Scan.{consider-centre, consider-other}
+use Rattle.stage.proofs.Turns.{step-stays, step-next}
+use Rattle.stage.proofs.Reach.{stepped}
 use borrow.Author.Needs.{needs}
 use Rattle.stage.proofs.eighths_candidate.Statement.{statement}
 use Rattle.stage.proofs.eighths_candidate.Tie as tie
 
-few : (k step : ℕ) → k < 9 → (k / 3 * step ≤ 2 * step) × (k % 3 * step ≤ 2 * step)
-few k step h = (
-  mul-le-mul-right step (let q : k / 3 ≤ 2 = omega arith in q),
-  mul-le-mul-right step (let q : k % 3 ≤ 2 = omega arith in q),
-)
-
 returns : tie.Need-returns
 returns c =
     let a = c .before .before .before .args in
-    let price = eighthsCost (a .input .now) (a .reference .now) (a .place) in
-    consider-centre price 1 (a .step) (offset 223 (a .centre .y)) (offset 223 (a .centre .x)) (a .k) (seen 223 (a .best)) (c .if1 .taken)
+    step-stays (a .block .now) (a .window .now) (a .best) (a .corner) (a .centre) (a .step) (a .k) (c .if1 .taken)
 
 mul-y : tie.Need-mul-y
-mul-y c = omega (arith, few (c .before .before .before .args .k) (c .before .before .before .args .step) (omega arith))
+mul-y c =
+    let a = c .before .before .before .args in
+    let p = c .before .before .before .pre in
+    let s = stepped (a .corner .y) (a .step) (a .centre .y) (a .k / 3) (p .1 .0 .y-low) (p .1 .0 .y-high) (p .1 .1 .0 .y-around) (omega (arith, p .1 .1 .1 .0)) in
+    omega (arith, s .added, s .step-small)
 
 add-y : tie.Need-add-y
-add-y c = omega (arith, few (c .before .before .before .before .args .k) (c .before .before .before .before .args .step) (omega arith))
+add-y c =
+    let a = c .before .before .before .before .args in
+    let p = c .before .before .before .before .pre in
+    let s = stepped (a .corner .y) (a .step) (a .centre .y) (a .k / 3) (p .1 .0 .y-low) (p .1 .0 .y-high) (p .1 .1 .0 .y-around) (omega (arith, p .1 .1 .1 .0)) in
+    omega (arith, s .added, s .step-small, s .m-small)
 
 mul-x : tie.Need-mul-x
-mul-x c = omega (arith, few (c .before .before .before .before .args .k) (c .before .before .before .before .args .step) (omega arith))
+mul-x c =
+    let a = c .before .before .before .before .args in
+    let p = c .before .before .before .before .pre in
+    let s = stepped (a .corner .x) (a .step) (a .centre .x) (a .k % 3) (p .1 .0 .x-low) (p .1 .0 .x-high) (p .1 .1 .0 .x-around) (omega arith) in
+    omega (arith, s .added, s .step-small)
 
 add-x : tie.Need-add-x
-add-x c = omega (arith, few (c .before .before .before .before .before .args .k) (c .before .before .before .before .before .args .step) (omega arith))
+add-x c =
+    let a = c .before .before .before .before .before .args in
+    let p = c .before .before .before .before .before .pre in
+    let s = stepped (a .corner .x) (a .step) (a .centre .x) (a .k % 3) (p .1 .0 .x-low) (p .1 .0 .x-high) (p .1 .1 .0 .x-around) (omega arith) in
+    omega (arith, s .added, s .step-small, s .m-small)
 
 sad-subpel-requires : tie.Need-sad-subpel-requires
-sad-subpel-requires c κs = (search needs, omega (arith, few (c .before .before .before .before .before .args .k) (c .before .before .before .before .before .args .step) (omega arith)))
+sad-subpel-requires c κs =
+    let a = c .before .before .before .before .before .args in
+    let p = c .before .before .before .before .before .pre in
+    let sy = stepped (a .corner .y) (a .step) (a .centre .y) (a .k / 3) (p .1 .0 .y-low) (p .1 .0 .y-high) (p .1 .1 .0 .y-around) (omega (arith, p .1 .1 .1 .0)) in
+    let sx = stepped (a .corner .x) (a .step) (a .centre .x) (a .k % 3) (p .1 .0 .x-low) (p .1 .0 .x-high) (p .1 .1 .0 .x-around) (omega arith) in
+    record { pels = p .0 .pels; seen = p .0 .seen; y-reached = sy .reached; x-reached = sx .reached }
 
 returns-2 : tie.Need-returns-2
 returns-2 c =
     let a = c .before .before .before .before .before .before .before .args in
-    let cy = a .centre .y in
-    let cx = a .centre .x in
-    let by : Offset = record { y = cy + a .k / 3 * a .step - a .step; x = cx + a .k % 3 * a .step - a .step } in
-    ap (seen 223) (c .better .ensures)
-    ∙ consider-other (eighthsCost (a .input .now) (a .reference .now) (a .place)) 1 (a .step) 223 cy cx (a .k) (a .best)
-    by (c .before .sad-subpel .result) (c .before .before .before .before .if1 .left)
-    (omega arith)
-    (omega arith)
-    (c .before .sad-subpel .ensures .same)
+    step-next (a .block .now) (a .window .now) (a .best) (a .corner) (a .centre) (a .step) (a .k) (c .before .before .before .before .if1 .left) (c .before .sad-subpel .ensures) (c .better .ensures)
 
 pub eighths-candidate-spec : {M : Type 1} → statement M
-eighths-candidate-spec = tie.close (tie.spec returns mul-y add-y (search needs) mul-x add-x (search needs) sad-subpel-requires (search needs) returns-2)
+eighths-candidate-spec =
+    tie.close
+    (tie.spec
+    returns
+    mul-y
+    add-y
+    (search needs)
+    mul-x
+    add-x
+    (search needs)
+    sad-subpel-requires
+    (search needs)
+    returns-2)

@@ -1,42 +1,57 @@
 -- `eighths_step`: what is left of the nine candidates leads from the best so far to where all lead from the start.
 -- Assumes nothing.
-use Prim.Native.Nat.{_-_}
-use mathlib.Core.Path.{_≡_, _∙_}
+use Prim.Native.Nat.{_+_, _*_, _-_, _≤_}
+use mathlib.Core.Path.{_≡_, sym, subst}
 use native.Mathlib.Omega.{arith}
-use Rattle.plane.specs.Clamp.{offset}
-use Rattle.cost.specs.Cost.{eighthsCost}
-use Rattle.stage.specs.Stage.{consider, eighthsStep}
-use Rattle.stage.specs.Inner.{seen}
-use Rattle.stage.proofs.Scan.{Turns, begins, goes-on, ends, biased}
-use Rattle.stage.proofs.Stages.{eighthsStep-is, eighthsStep-inside}
+use Rattle.stage.specs.declared.Best.{Best}
+use Rattle.stage.specs.Inner.{stepTurn, stepIn, Lies}
+use Rattle.stage.proofs.Turns.{Turns, begins, goes-on, ends}
+use Rattle.stage.proofs.Reach.{stepIn-lies}
 use borrow.Author.Needs.{needs}
 use Rattle.stage.proofs.eighths_step.Statement.{statement}
 use Rattle.stage.proofs.eighths_step.Tie as tie
 
 abbrev Inv-loop : tie.InvT-loop
-Inv-loop step input reference place centre best₀ k₀ best k =
-    Turns (consider (eighthsCost input reference place) 1 step (offset 223 (centre .y)) (offset 223 (centre .x))) 9 (seen 223 best₀) k (seen 223 best)
+Inv-loop step corner block window centre best₀ k₀ best k = Turns (stepTurn corner centre step block window) 0 9 best₀ k best × (best .rows ≤ best₀ .rows + 16 * k)
 
 abbrev μ-loop : tie.MeasureT-loop
-μ-loop step input reference place centre best₀ k₀ best k = 9 - k
+μ-loop step corner block window centre best₀ k₀ best k = 9 - k
 
 loop-holds : tie.Need-loop-holds Inv-loop μ-loop
-loop-holds c = begins _ _ _
+loop-holds c = (begins _ _ _ _ _ (omega arith) (omega arith), omega arith)
+
+eighths-candidate-requires : tie.Need-eighths-candidate-requires Inv-loop μ-loop
+eighths-candidate-requires c κs =
+    (c .before .before .before .before .pre .0, (c .before .before .before .before .pre .1 .0, (c .before .before .before .before .pre .1 .1 .0, (c .loop-test .taken, omega (arith, c .before .loop .inv .0 .within, c .before .loop .inv .1, c .before .before .before .before .pre .1 .1 .1)))))
 
 loop-less : tie.Need-loop-less Inv-loop μ-loop
 loop-less c = omega arith
 
 loop-again : tie.Need-loop-again Inv-loop μ-loop
-loop-again c = goes-on (c .before .before .loop .inv) (omega arith) (c .eighths-candidate .ensures)
+loop-again c = (
+  goes-on (c .before .before .loop .k + 1) (c .before .before .loop .inv .0) (c .before .loop-test .taken) (omega arith) (c .eighths-candidate .ensures .same),
+  omega (arith, c .eighths-candidate .ensures .few, c .before .before .loop .inv .1),
+)
 
 returns : tie.Need-returns Inv-loop μ-loop
+unfolding stepIn
 returns c =
     let a = c .before .before .before .before .args in
-    let start = seen 223 (a .start) in
-    let e : seen 223 (c .before .loop .best) ≡ eighthsStep (a .input .now) (a .reference .now) (a .place) (a .step) start =
-    ends (c .before .loop .inv) (omega arith) ∙ eighthsStep-is (a .input .now) (a .reference .now) (a .place) (a .step) start in
-    let i = biased 223 (a .step) (a .start .y) (a .start .x) (c .before .loop .best) e (eighthsStep-inside (a .input .now) (a .reference .now) (a .place) (a .step) start) in
-    record { same = e; y-low = i .0 .0; y-high = i .0 .1; x-low = i .1 .0; x-high = i .1 .1 }
+    let e : c .before .loop .best ≡ stepIn (a .corner) (a .step) (a .block .now) (a .window .now) (a .start) = ends (c .before .loop .inv .0) (omega arith) in (
+      record { same = e; few = omega (arith, c .before .loop .inv .0 .within, c .before .loop .inv .1) },
+      subst (λ (b : Best). Lies (a .step) (a .start .y) (a .start .x) (b .y) (b .x)) (sym e)
+          (stepIn-lies (a .corner) (a .step) (a .block .now) (a .window .now) (a .start) (c .before .before .before .before .pre .1 .0) (c .before .before .before .before .pre .1 .1 .0)),
+    )
 
 pub eighths-step-spec : {M : Type 1} → statement M
-eighths-step-spec = tie.close (tie.spec Inv-loop μ-loop loop-holds (search needs) (search needs) loop-less loop-again returns)
+eighths-step-spec =
+    tie.close
+    (tie.spec
+    Inv-loop
+    μ-loop
+    loop-holds
+    eighths-candidate-requires
+    (search needs)
+    loop-less
+    loop-again
+    returns)

@@ -1,12 +1,11 @@
--- `word_at`: the three stages in a row, and the word of what the last one found.
+-- `word_at`: the stages in a row, and the word of what the last one found.
 -- Assumes nothing.
 use mathlib.Core.Path.{sym, ap, _∙_}
 use native.Mathlib.Omega.{arith}
 use lib.ListN.{length}
 use borrow.Author.Needs.{needs}
 use Rattle.plane.proofs.Halves.{length-halfPlane}
-use Rattle.stage.specs.Stage.{Found}
-use Rattle.search.proofs.Word.{motion-is, stored-is, word-same}
+use Rattle.search.proofs.Word.{motion-is, sampled-is}
 use Rattle.search.proofs.blocks.word_at.Statement.{statement}
 use Rattle.search.proofs.blocks.word_at.Tie as tie
 
@@ -23,8 +22,8 @@ coarse-requires c κs =
       record { rows = omega arith; columns = omega arith },
     )
 
-full-pel-requires : tie.Need-full-pel-requires
-full-pel-requires c κs =
+fine-requires : tie.Need-fine-requires
+fine-requires c κs =
     let p = c .before .before .before .before .before .before .before .before .before .before .before .before .before .pre in
     let e = c .before .before .before .before .coarse .ensures in (
       record { small = p .0 .small; input-pels = p .0 .input-pels; ref-pels = p .0 .ref-pels },
@@ -34,60 +33,35 @@ full-pel-requires c κs =
       ),
     )
 
-refine-requires : tie.Need-refine-requires
-refine-requires c κs =
-    let p = c .before .before .before .before .before .before .before .before .before .before .before .before .before .before .before .before .pre in
-    let e = c .before .before .full-pel .ensures in (
-      record { small = p .0 .small; input-pels = p .0 .input-pels; ref-pels = p .0 .ref-pels },
-      (
-        record { rows = omega (arith, p .1 .row); columns = omega (arith, p .1 .column) },
-        record { y-low = omega arith; y-high = omega (arith, e .y-last); x-low = omega arith; x-high = omega (arith, e .x-last) },
-      ),
-    )
-
 cast-word-of : tie.Need-cast-word-of
 cast-word-of c =
-    let p = c .before .before .before .before .before .before .before .before .before .before .before .before .before .before .before .before .before .before .pre in
+    let p = c .before .before .before .before .before .before .before .before .before .before .before .before .before .before .before .pre in
     omega (arith, p .0 .small .low, p .1 .row)
 
 cast-word-of-2 : tie.Need-cast-word-of-2
 cast-word-of-2 c =
-    let p = c .before .before .before .before .before .before .before .before .before .before .before .before .before .before .before .before .before .before .before .pre in
+    let p = c .before .before .before .before .before .before .before .before .before .before .before .before .before .before .before .before .pre in
     omega (arith, p .0 .small .narrow, p .1 .column)
 
 word-of-requires : tie.Need-word-of-requires
 word-of-requires c κs =
-    let p = c .before .before .before .before .before .before .before .before .before .before .before .before .before .before .before .before .before .before .before .before .before .pre in
-    omega (
-      arith,
-      p .0 .small .low,
-      p .0 .small .narrow,
-      p .1 .row,
-      p .1 .column,
-      p .1 .class-small,
-      c .before .before .before .before .refine .ensures .y-last,
-      c .before .before .before .before .refine .ensures .x-last,
-    )
+    let p = c .before .before .before .before .before .before .before .before .before .before .before .before .before .before .before .before .before .before .pre in
+    let e = c .before .before .before .before .fine .ensures in
+    omega (arith, p .0 .small .low, p .0 .small .narrow, p .1 .row, p .1 .column, e .y-last, e .x-last)
+
+add-rows : tie.Need-add-t22
+add-rows c = omega (arith, c .before .before .before .before .before .before .before .before .before .before .before .before .coarse .ensures .few, c .before .before .before .before .before .before .before .fine .ensures .few)
 
 returns : tie.Need-returns
 returns c =
-    let a = c .before .before .before .before .before .before .before .before .before .before .before .before .before .before .before .before .before .before .before .before .before .before .args in
+    let a = c .before .before .before .before .before .before .before .before .before .before .before .before .before .before .before .before .before .before .before .before .before .args in
     let b = a .block in
-    let p = c .before .before .before .before .before .before .before .before .before .before .before .before .before .before .before .before .before .before .before .before .before .before .pre .0 in
-    let best = c .before .before .before .before .before .refine .result in
-    let far = rw (p .input-halved, p .ref-halved) at (c .before .before .before .before .before .before .before .before .before .before .before .before .before .coarse .ensures .same) in
-    let e =
-    motion-is (a .input .now) (a .reference .now) (b .width) (b .height) (b .r) (b .c)
-    (c .before .before .before .before .before .before .before .before .before .before .before .before .before .coarse .result)
-    (c .before .before .before .before .before .before .before .before .full-pel .result)
-    best
-    far
-    (c .before .before .before .before .before .before .before .before .full-pel .ensures .same)
-    (c .before .before .before .before .before .refine .ensures .same) in
-    c .word-of .ensures
-    ∙ word-same (b .r) (b .c) (a .class)
-    (stored-is (best .y) (ap (λ (f : Found). f .dy) e))
-    (stored-is (best .x) (ap (λ (f : Found). f .dx) e))
+    let p = c .before .before .before .before .before .before .before .before .before .before .before .before .before .before .before .before .before .before .before .before .before .pre .0 in
+    let far = rw (p .input-halved, p .ref-halved) at (c .before .before .before .before .before .before .before .before .before .before .before .before .coarse .ensures .same) in
+    let best = c .before .before .before .before .before .before .before .fine .result in
+    sampled-is (a .input .now) (a .reference .now) (b .width) (b .height) (b .r) (b .c) best
+    (motion-is (a .input .now) (a .reference .now) (b .width) (b .height) (b .r) (b .c) (c .before .before .before .before .before .before .before .before .before .before .before .before .coarse .result) best far (c .before .before .before .before .before .before .before .fine .ensures .same))
+    (c .before .before .word-of .ensures)
 
 pub word-at-spec : {M : Type 1} → statement M
 word-at-spec =
@@ -102,15 +76,11 @@ word-at-spec =
     (search needs)
     (search needs)
     (search needs)
-    full-pel-requires
-    (search needs)
-    (search needs)
-    (search needs)
-    (search needs)
-    refine-requires
+    fine-requires
     cast-word-of
     cast-word-of-2
     (search needs)
     (search needs)
     word-of-requires
+    add-rows
     returns)

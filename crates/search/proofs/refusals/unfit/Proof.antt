@@ -20,7 +20,7 @@ returns-3 c =
     rw (
       (sym (c .before .before .before .before .before .too-large .ensures) ∙ c .before .before .before .before .if1 .left),
       (sym (c .before .before .before .wrong-length .ensures) ∙ c .before .before .if2 .left),
-      (sym (c .before .bad-class .ensures) ∙ c .if3 .taken),
+      (sym (c .before .some-over .ensures) ∙ c .if3 .taken),
     )
 
 returns-4 : tie.Need-returns-4
@@ -28,7 +28,7 @@ returns-4 c =
     rw (
       (sym (c .before .before .before .before .before .too-large .ensures) ∙ c .before .before .before .before .if1 .left),
       (sym (c .before .before .before .wrong-length .ensures) ∙ c .before .before .if2 .left),
-      (sym (c .before .bad-class .ensures) ∙ c .if3 .left),
+      (sym (c .before .some-over .ensures) ∙ c .if3 .left),
     )
 
 pub unfit-spec : {M : Type 1} → statement M
