@@ -46,5 +46,8 @@ returns-5 c =
       (sym (c .before .before .types-over .ensures) ∙ c .before .if4 .left),
     )
 
+returns-6 : tie.Need-returns-6
+returns-6 c = ?
+
 pub bad-codes-spec : {M : Type 1} → statement M
-bad-codes-spec = tie.close (tie.spec (search needs) returns returns-2 returns-3 (search needs) returns-4 returns-5)
+bad-codes-spec = tie.close (tie.spec (search needs) returns returns-2 returns-3 (search needs) returns-4 returns-5 returns-6)
