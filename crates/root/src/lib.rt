@@ -1,0 +1,139 @@
+// The root of a binary64, correctly rounded. Any number goes in; the binary64 nearest to its root comes
+// out, a zero and plus infinity as they are, and a not-a-number for what has no root. Answers to
+// docs/RULES.md, 'Fit after trimming' (Root). The language has no root of its own: a guess by
+// arithmetic is mended by comparing whole-number squares, so any guess gives the root and a good one
+// gives it in two turns.
+ghost use mathlib.Core.Path.{_≡_};
+ghost use Prim.Native.Nat.{_+_, _*_, _≤_, _<_};
+ghost use lib.Ieee.{binary64, ofBits};
+ghost use Rattle.root.specs.Root.{root, nearestRoot};
+ghost use Rattle.root.specs.Inner.{leading, Significand, middle, significandRoot};
+
+// The weight of a significand's leading digit, 2^52, and half a significand, 2^26.
+const LEADING: u64 = 4503599627370496;
+
+const HALF: u64 = 67108864;
+
+// The patterns of plus infinity and of minus zero.
+const INFINITY: u64 = 0x7ff0_0000_0000_0000;
+
+const MINUS_ZERO: u64 = 0x8000_0000_0000_0000;
+
+// From which half a number's pattern is taken to guess the pattern of one over its root.
+const INVERSE_ROOT: u64 = 0x5fe6_eb50_c7b5_37a9;
+
+// The whole part of k (k + 1) / 2^52: the middle between k and k + 1, squared, counted as the
+// numbers that are to be rooted. By halves of k, since the square has 106 digits.
+fn middle_squared(k: u64) -> u64
+    requires { ⌜ k < 2 * leading ⌝ }
+    ensures { λ r. ⌜ r ≡ middle k ⌝ }
+{
+    let high = k / HALF;
+    let low = k % HALF;
+    high * high + (2 * high * low + (low * low + k) / HALF) / HALF
+}
+
+// Newton's step to one over a root; `half` is half the number.
+fn refined(half: f64, y: f64) -> f64 {
+    y * (1.5 - half * (y * y))
+}
+
+// A guess at the root's digits of m / 2^52, or of twice that. Nothing hangs on it but time.
+fn guess(m: u64, odd: u64) -> u64
+    requires { ⌜ Significand m ⌝ }
+    requires { ⌜ odd ≤ 1 ⌝ }
+{
+    let pattern = m + (1022 + odd) * LEADING;
+    let x = f64::from_bits(pattern);
+    let half = x * 0.5;
+    let first = f64::from_bits(INVERSE_ROOT - pattern / 2);
+    let y = refined(half, refined(half, refined(half, refined(half, first))));
+    let near = x * y;
+    let nearer = near + (x - near * near) * (y * 0.5);
+    if nearer > 1.0 && nearer < 2.0 {
+        return f64::to_bits(nearer) % LEADING + LEADING;
+    }
+    LEADING
+}
+
+// The wish where it lies between the two, and otherwise the number halfway.
+fn between(low: u64, high: u64, wish: u64) -> u64
+    requires { ⌜ low + 1 < high ⌝ }
+    ensures { λ r. ⌜ (low < r) × (r < high) ⌝ }
+{
+    if low < wish && wish < high {
+        return wish;
+    }
+    low + (high - low) / 2
+}
+
+// The whole number nearest to the root of tall * 2^52: the least that isn't too low. Away from the
+// guess the steps double, and what is then between two bounds is halved.
+fn nearest_root(tall: u64, guess: u64) -> u64
+    requires { ⌜ (leading ≤ tall) × (tall < 4 * leading) ⌝ }
+    ensures { λ r. ⌜ r ≡ nearestRoot (tall * leading) ⌝ }
+{
+    let mut low = LEADING - 1;
+    let mut high = 2 * LEADING;
+    let mut wish = guess;
+    let mut step: u64 = 1;
+    while high - low > 1 {
+        let k = between(low, high, wish);
+        if middle_squared(k) < tall {
+            low = k;
+            wish = k + step;
+        } else {
+            high = k;
+            wish = k - step;
+        }
+        step = (step + step) % LEADING;
+    }
+    high
+}
+
+// The root of a significand by a power of two: half the power moves out, an odd one leaves a factor
+// of two inside.
+fn significand_root(m: u64, power: u64) -> f64
+    requires { ⌜ Significand m ⌝ }
+    requires { ⌜ power < 2098 ⌝ }
+    ensures { λ r. ⌜ r ≡ significandRoot m power ⌝ }
+{
+    let odd = power % 2;
+    let tall = m * (1 + odd);
+    let k = nearest_root(tall, guess(m, odd));
+    f64::from_bits((power / 2 + 485) * LEADING + k)
+}
+
+// The root of a number below the least with a leading digit: doubled up to one.
+fn subnormal_root(pattern: u64) -> f64
+    requires { ⌜ (0 < pattern) × (pattern < leading) ⌝ }
+    ensures { λ r. ⌜ r ≡ root (ofBits binary64 pattern) ⌝ }
+{
+    let mut m = pattern;
+    let mut power: u64 = 52;
+    while m < LEADING {
+        m = m + m;
+        power -= 1;
+    }
+    significand_root(m, power)
+}
+
+// The correctly rounded root.
+pub fn root(x: f64) -> f64
+    ensures { λ r. ⌜ r ≡ root x ⌝ }
+{
+    if x != x {
+        return x;
+    }
+    let pattern = f64::to_bits(x);
+    if pattern == 0 || pattern == MINUS_ZERO || pattern == INFINITY {
+        return x;
+    }
+    if pattern > INFINITY {
+        return 0.0 / 0.0;
+    }
+    if pattern < LEADING {
+        return subnormal_root(pattern);
+    }
+    significand_root(pattern % LEADING + LEADING, pattern / LEADING + 51)
+}
