@@ -7,13 +7,22 @@ use Rattle.job_model.proofs.models_of.Statement.{statement}
 use Rattle.job_model.proofs.models_of.Tie as tie
 
 returns : tie.Need-returns
-returns c = ?
+returns c =
+    let a = c .before .before .before .before .before .before .args in
+    c .not-modelled .ensures
+    ∙ refused-as (a .settings) (a .types .now) (a .models .now) (a .words .now) (c .before .before .before .own-of .ensures) (c .before .if1 .taken)
 
 with-model-requires : tie.Need-with-model-requires
-with-model-requires c κs = ?
+with-model-requires c κs =
+    let e = c .before .before .before .before .before .before in
+    let a = e .args in
+    with-own (a .settings) (a .types .now) (a .models .now) (a .words .now) (c .before .before .before .own-of .ensures) (e .pre) (c .before .if1 .left)
 
 returns-2 : tie.Need-returns-2
-returns-2 c = ?
+returns-2 c =
+    let a = c .before .before .before .before .before .before .before .args in
+    c .with-model .ensures
+    ∙ accepted-as (a .settings) (a .types .now) (a .models .now) (a .words .now) (c .before .before .before .before .own-of .ensures) (c .before .before .if1 .left)
 
 pub models-of-spec : {M : Type 1} → statement M
-models-of-spec = tie.close (tie.spec (search needs) (search needs) (search needs) returns with-model-requires returns-2)
+models-of-spec = tie.close (tie.spec (search needs) (search needs) returns with-model-requires returns-2)
