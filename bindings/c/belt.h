@@ -8,8 +8,8 @@
 
    The library allocates nothing, keeps nothing between calls and has no state of its own: any number of threads
    may call it at once, each with its own buffers. A call that trims, which a job may, takes about 165 kB of the
-   thread's stack for its samples and residuals; no other call takes more than @RUN@ kB. It expects the floating-point environment that a process begins
-   with: rounding to nearest, traps off, subnormal numbers kept. It needs memcpy, memset and no other function.
+   thread's stack for its samples and residuals. The library expects the floating-point environment that a process
+   begins with: rounding to nearest, traps off, subnormal numbers kept. It needs memcpy, memset and no other function.
 
    A result's first field is the refusal: BELT_ACCEPTED, or the number of the row that refuses ('When a call
    says no'), and then all fields after it are 0. A refused call leaves its lent buffers as they were; belt_job
