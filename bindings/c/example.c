@@ -213,6 +213,28 @@ static void conversions(void) {
     wants("form 2 to form 2", belt_to_form2(blocks, BLOCKS, back, BLOCKS).refusal, BELT_WRONG_BLOCK);
 }
 
+/* Loose film over the first block moves on its own; a fit after trimming leaves it out. */
+static void trimming(struct belt_settings settings) {
+    draw(4, -2);
+    for (size_t y = 0; y < BELT_BLOCK_SIDE; y++)
+        for (size_t x = 0; x < BELT_BLOCK_SIDE; x++)
+            input[y * WIDTH + x] = reference[(y + 20) * WIDTH + x + 9];
+    struct belt_report all = run(settings, PELS);
+    refused("belt_job", all.refusal);
+    print_motion(own_model(&all, settings), all.samples);
+    settings.trim = BELT_TRIM;
+    struct belt_report report = run(settings, PELS);
+    refused("belt_job", report.refusal);
+    struct belt_model own = own_model(&report, settings);
+    print_motion(own, report.samples);
+    struct belt_trimmed fitted = belt_fit_trimmed(settings.type, words, SAMPLES);
+    refused("belt_fit_trimmed", fitted.refusal);
+    struct belt_trimmed_model model = belt_quantize_trimmed(settings.type, settings.flag, words, SAMPLES);
+    refused("belt_quantize_trimmed", model.refusal);
+    printf("after trimming: %u of %u samples used\n", (unsigned)model.used, (unsigned)report.samples);
+    same(fitted.used == model.used && memcmp(&model.model, &own, sizeof own) == 0, "model after trimming");
+}
+
 /* A pan by 40 columns is beyond the range: no row refuses it, but few samples agree. */
 static void too_far(struct belt_settings settings) {
     draw(0, 40);
@@ -236,6 +258,9 @@ static void refusals(struct belt_settings settings) {
     wants("a job on a plane that is a pel short", run(settings, PELS - 1).refusal, BELT_WRONG_LENGTH);
     settings.frame = 0;
     wants("a job on frame 0", run(settings, PELS).refusal, BELT_SHUTTER_CLOSED);
+    settings.trim = 2;
+    wants("a job with trim code 2", run(settings, PELS).refusal, BELT_NO_SUCH_CODE);
+    wants("an affine model of 7 words after trimming", belt_fit_trimmed(BELT_AFFINE, words, 7).refusal, BELT_TOO_FEW);
     wants("a search of a plane 1,025 wide",
           belt_collect_motion_samples(input, PELS, reference, PELS, 1025, HEIGHT, classes, SAMPLES, input_half, HALF,
                                       ref_half, HALF, words, SAMPLES)
@@ -306,7 +331,7 @@ int main(void) {
          "sizes");
     draw(4, -2);
     for (uint8_t type = BELT_TRANSLATION; type <= BELT_AFFINE; type++) {
-        const struct belt_settings settings = {5, type, 2, BELT_HIGH_PRECISION, (size_t)(2 * type)};
+        const struct belt_settings settings = {5, type, 2, BELT_HIGH_PRECISION, BELT_ALL_SAMPLES, (size_t)(2 * type)};
         struct belt_report report = run(settings, PELS);
         refused("belt_job", report.refusal);
         print_report(&report, settings);
@@ -318,7 +343,8 @@ int main(void) {
     for (uint8_t class_code = BELT_UNSORTED; class_code <= BELT_FILM; class_code++)
         printf("class %d: %s\n", class_code, belt_class_text(class_code));
     conversions();
-    const struct belt_settings settings = {5, BELT_TRANSLATION, 2, BELT_HIGH_PRECISION, 0};
+    const struct belt_settings settings = {5, BELT_TRANSLATION, 2, BELT_HIGH_PRECISION, BELT_ALL_SAMPLES, 0};
+    trimming(settings);
     too_far(settings);
     refusals(settings);
     practise();

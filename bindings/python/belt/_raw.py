@@ -33,6 +33,14 @@ class QuantizedModel(ctypes.Structure):
     _fields_ = [("refusal", c_uint32), ("params", c_int32 * 6)]
 
 
+class Trimmed(ctypes.Structure):
+    _fields_ = [("refusal", c_uint32), ("used", c_uint32), ("numbers", c_double * 6)]
+
+
+class TrimmedModel(ctypes.Structure):
+    _fields_ = [("refusal", c_uint32), ("used", c_uint32), ("params", c_int32 * 6)]
+
+
 class QuantizedParam(ctypes.Structure):
     _fields_ = [("refusal", c_uint32), ("value", c_int32)]
 
@@ -85,7 +93,14 @@ class Made(ctypes.Structure):
 
 
 class Settings(ctypes.Structure):
-    _fields_ = [("frame", c_uint16), ("gm_type", c_uint8), ("reference", c_uint8), ("flag", c_uint8), ("start", c_size_t)]
+    _fields_ = [
+        ("frame", c_uint16),
+        ("gm_type", c_uint8),
+        ("reference", c_uint8),
+        ("flag", c_uint8),
+        ("trim", c_uint8),
+        ("start", c_size_t),
+    ]
 
 
 class Report(ctypes.Structure):
@@ -116,6 +131,8 @@ CALLS = {
     "belt_fit_translation": (_WORDS, FitAnswer),
     "belt_fit_rotzoom": (_WORDS, FitAnswer),
     "belt_fit_affine": (_WORDS, FitAnswer),
+    "belt_fit_trimmed": ([c_uint8] + _WORDS, Trimmed),
+    "belt_quantize_trimmed": ([c_uint8, c_uint8] + _WORDS, TrimmedModel),
     "belt_quantize_model": ([c_uint8, POINTER(c_double * 6), c_uint8] + _WORDS, QuantizedModel),
     "belt_mean_sq_residual": ([POINTER(c_int32 * 6)] + _WORDS, Score),
     "belt_fit_translation_samples": (_SAMPLES, FitAnswer),

@@ -202,7 +202,7 @@ class Refused(unittest.TestCase):
 
 class Refusals(Refused):
     def test_the_table(self):
-        self.assertEqual(list(belt.REFUSALS), [1, 18, 2, 4, 5, 14, 7, 8, 12, 13, 3, 17, 6, 9, 10, 11])
+        self.assertEqual(list(belt.REFUSALS), [1, 18, 2, 4, 5, 14, 7, 8, 12, 13, 3, 15, 17, 6, 16, 9, 10, 11])
         rules = (Path(__file__).resolve().parents[3] / "docs" / "RULES.md").read_text(encoding="utf-8")
         for number, text in belt.REFUSALS.items():
             self.assertIn(f"| {number} | {text} |", rules)
@@ -227,6 +227,7 @@ class Refusals(Refused):
             (4, dict(settings=Settings(1, 0, 1, 1))),
             (4, dict(settings=Settings(1, 4, 1, 1))),
             (4, dict(settings=Settings(1, 1, 1, 2))),
+            (4, dict(settings=Settings(1, 1, 1, 1, trim=2))),
             (4, dict(types=bytes([0, 0, 0, 0, 0, 4]))),
             (5, dict(settings=Settings(1, 1, 0, 1))),
             (5, dict(settings=Settings(1, 1, 8, 1))),
@@ -236,6 +237,9 @@ class Refusals(Refused):
             (7, dict(models=IDENTITIES[:5] + (stored(2, 65537),), types=[0, 0, 0, 0, 0, 3])),
             (8, dict(prior=(stored(3, 8193),) + IDENTITIES[:6])),
             (8, dict(prior=IDENTITIES[:6] + (stored(1, -(2**31)),))),
+            (15, dict(settings=Settings(1, 3, 1, 1, trim=1))),
+            (15, dict(settings=Settings(0, 3, 1, 1, trim=1))),
+            (17, dict(settings=Settings(0, 2, 1, 1, trim=1))),
         ]
         for number, change in changes:
             buffers = Guarded(48, 32)
@@ -276,7 +280,7 @@ class Refusals(Refused):
         self.refused(2, call, pels=1535)
         self.refused(2, call, ref_pels=1535)
         self.refused(2, call, classes=bytes(5))
-        self.assertEqual(call(classes=bytes([belt.FILM] * 6)), 6)
+        self.assertEqual(call(classes=bytes([belt.FILM] * 6)).samples, 6)
         self.refused(4, call, classes=bytes([5] * 6))
         self.refused(3, call, rooms=(383, 384, 6))
         self.refused(3, call, rooms=(384, 383, 6))
@@ -299,6 +303,26 @@ class Refusals(Refused):
         self.refused(1, belt.quantize_model, belt.Fitted(3, numbers), 1, many)
         self.refused(4, belt.quantize_model, belt.Fitted(0, numbers), 1, many[:9])
         self.refused(4, belt.quantize_model, belt.Fitted(3, numbers), 2, many[:9])
+        self.assertEqual(belt.quantize_model(belt.Fitted(3, numbers), 1, many[:9]), still)
+        self.refused(4, belt.quantize_global_param, 4, 0, 0, 0)
+        self.refused(5, belt.quantize_global_param, 3, 1, 6, 0)
+        self.assertEqual(belt.quantize_global_param(3, 0, 2, 65537), 65538)
+        self.assertEqual(belt.quantize_global_param(1, 1, 1, -4096), -8192)
+
+    def test_fits_after_trimming(self):
+        def moving(*eighths):
+            return [place << 20 | 223 << 11 | (223 + u) << 2 for place, u in enumerate(eighths)]
+
+        self.assertEqual(belt.fit_trimmed(1, moving(0, 0, 0, 0, 80)), (belt.Fitted(1, (0.0,) * 6), 4))
+        self.assertEqual(belt.fit_trimmed(1, moving(0, 0, 0, 80, -40)), (belt.Fitted(1, (1.0,) + (0.0,) * 5), 5))
+        self.assertEqual(belt.quantize_trimmed(1, 1, moving(0, 0, 0, 0, 80)), (Model(belt.STILL), 4))
+        self.refused(1, belt.fit_trimmed, 1, words(4097))
+        self.refused(4, belt.fit_trimmed, 0, [])
+        self.refused(4, belt.quantize_trimmed, 1, 2, [])
+        for gm_type, least in ((1, 4), (2, 6), (3, 8)):
+            self.refused(15, belt.fit_trimmed, gm_type, words(least - 1))
+            self.refused(15, belt.quantize_trimmed, gm_type, 1, words(least - 1))
+        self.refused(6, belt.fit_trimmed, 2, [words(1)[0]] * 6)
 
     def test_fits_and_scores_of_samples(self):
         many = [(0.1 * i, 0.2, math.inf, -0.0) for i in range(4097)]
@@ -317,11 +341,8 @@ class Refusals(Refused):
         self.refused(1, belt.quantize_model_samples, belt.Fitted(3, numbers), 1, many)
         self.refused(4, belt.quantize_model_samples, belt.Fitted(0, numbers), 1, many[:9])
         self.refused(4, belt.quantize_model_samples, belt.Fitted(3, numbers), 2, many[:9])
-        self.assertEqual(belt.quantize_model(belt.Fitted(3, numbers), 1, many[:9]), still)
-        self.refused(4, belt.quantize_global_param, 4, 0, 0, 0)
-        self.refused(5, belt.quantize_global_param, 3, 1, 6, 0)
-        self.assertEqual(belt.quantize_global_param(3, 0, 2, 65537), 65538)
-        self.assertEqual(belt.quantize_global_param(1, 1, 1, -4096), -8192)
+        unmoved = [(0.1 * i, 0.2, 0.0, -0.0) for i in range(9)]
+        self.assertEqual(belt.quantize_model_samples(belt.Fitted(3, numbers), 1, unmoved), still)
 
     def test_frames(self):
         good, metal, film = words(126), bytes([belt.METAL] * 126), bytes([belt.FILM] * 126)

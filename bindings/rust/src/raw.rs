@@ -47,6 +47,20 @@ pub struct QuantizedModel {
 }
 
 #[repr(C)]
+pub struct Trimmed {
+    pub refusal: u32,
+    pub used: u32,
+    pub numbers: [f64; 6],
+}
+
+#[repr(C)]
+pub struct TrimmedModel {
+    pub refusal: u32,
+    pub used: u32,
+    pub params: Model,
+}
+
+#[repr(C)]
 pub struct QuantizedParam {
     pub refusal: u32,
     pub value: i32,
@@ -128,6 +142,7 @@ pub struct Settings {
     pub gm_type: u8,
     pub reference: u8,
     pub flag: u8,
+    pub trim: u8,
     pub start: usize,
 }
 
@@ -161,6 +176,8 @@ unsafe extern "C" {
     fn belt_fit_translation(words: *const u32, count: usize) -> FitAnswer;
     fn belt_fit_rotzoom(words: *const u32, count: usize) -> FitAnswer;
     fn belt_fit_affine(words: *const u32, count: usize) -> FitAnswer;
+    fn belt_fit_trimmed(gm_type: u8, words: *const u32, count: usize) -> Trimmed;
+    fn belt_quantize_trimmed(gm_type: u8, flag: u8, words: *const u32, count: usize) -> TrimmedModel;
     fn belt_quantize_model(
         gm_type: u8,
         numbers: *const [f64; 6],
@@ -344,6 +361,16 @@ pub fn fit_rotzoom(words: &[u32]) -> FitAnswer {
 pub fn fit_affine(words: &[u32]) -> FitAnswer {
     // SAFETY: one slice is read.
     unsafe { belt_fit_affine(words.as_ptr(), words.len()) }
+}
+
+pub fn fit_trimmed(gm_type: u8, words: &[u32]) -> Trimmed {
+    // SAFETY: one slice is read.
+    unsafe { belt_fit_trimmed(gm_type, words.as_ptr(), words.len()) }
+}
+
+pub fn quantize_trimmed(gm_type: u8, flag: u8, words: &[u32]) -> TrimmedModel {
+    // SAFETY: one slice is read.
+    unsafe { belt_quantize_trimmed(gm_type, flag, words.as_ptr(), words.len()) }
 }
 
 pub fn quantize_model(gm_type: u8, numbers: &[f64; 6], flag: u8, words: &[u32]) -> QuantizedModel {

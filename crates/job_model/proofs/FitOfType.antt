@@ -3,11 +3,12 @@
 use Prim.Native.Nat.{ℕ, zero, suc, _≤_}
 use mathlib.Core.List.{List}
 use mathlib.Core.Logic.{_⊎_, inl, inr}
-use mathlib.Core.Path.{_≡_, refl, _∙_}
+use mathlib.Core.Path.{_≡_, refl}
 use native.Mathlib.Omega.{arith}
 use borrow.Author.Tests.{le-ltb, ne-eqb}
 use lib.ListN.{length}
 use Rattle.laws.specs.Binary64.{_⊕_, one}
+use Rattle.laws.proofs.Call.{answered-accepted}
 use Rattle.solve.specs.declared.Outcome.{Outcome}
 use Rattle.solve.specs.declared.Outcome.the-variants.{Solved, Singular}
 use Rattle.solve.specs.declared.Solution.{Solution}
@@ -17,8 +18,7 @@ use Rattle.fit.specs.declared.Fitted.{Fitted}
 use Rattle.fit.specs.declared.Fitted.the-variants.{Refused, RotZoom, Affine}
 use Rattle.fit.specs.Fitted.{fitOf, fitted, refusalOf, typeOf, translationFrom, rotZoomFrom, affineFrom, rotZoomModel, affineModel, rotZoomSystem, affineU, affineV, at}
 use Rattle.fit.specs.Sums.{countOf, rotZoomSums, affineSums}
-use Rattle.quantize.specs.Quantize.{params, quantizedModel}
-use Rattle.quantize.proofs.Accepted.{refusal-is, accepted-params}
+use Rattle.quantize.specs.Quantize.{params, quantizeRefusal, quantizedAs, refusedModel, quantizedModel}
 
 -- what a fit of a type may answer: refused with 6, or a model of that type
 pub record OfType (kind : ℕ) (f : Fitted) : Type 0 where
@@ -63,10 +63,9 @@ module _ (kind : ℕ) (ws : List ℕ) (least : 1 ≤ kind) (most : kind ≤ 3) w
     fit-answers = rw (le-ltb 4096 (length ws) few, ne-eqb kind 0 (omega arith), le-ltb 3 kind most)
 
     -- the grid accepts the fitted model
-    pub grid-accepts : (flag : ℕ) → flag ≤ 1 → refusalOf (fitOf kind ws) ≡ 0 → quantizedModel (fitOf kind ws) flag ws .refusal ≡ 0
-    grid-accepts flag l e =
-        refusal-is (fitOf kind ws) flag ws
-        ∙ rw (le-ltb 4096 (length ws) few, type-asked-for e, ne-eqb kind 0 (omega arith), le-ltb 1 flag l)
+    grid-accepts : (flag : ℕ) → flag ≤ 1 → refusalOf (fitOf kind ws) ≡ 0 → quantizeRefusal (fitOf kind ws) flag (length ws) ≡ 0
+    grid-accepts flag l e = rw (le-ltb 4096 (length ws) few, type-asked-for e, ne-eqb kind 0 (omega arith), le-ltb 1 flag l)
 
-    pub grid-answers : (flag : ℕ) → flag ≤ 1 → refusalOf (fitOf kind ws) ≡ 0 → quantizedModel (fitOf kind ws) flag ws .params ≡ params (fitOf kind ws) flag ws
-    grid-answers flag l e = accepted-params (fitOf kind ws) flag ws (grid-accepts flag l e)
+    pub grid-answers : (flag : ℕ) → flag ≤ 1 → refusalOf (fitOf kind ws) ≡ 0 → quantizedModel (fitOf kind ws) flag ws ≡ quantizedAs 0 (params (fitOf kind ws) flag ws)
+    grid-answers flag l e =
+        answered-accepted refusedModel (quantizeRefusal (fitOf kind ws) flag (length ws)) (quantizedAs 0 (params (fitOf kind ws) flag ws)) (grid-accepts flag l e)

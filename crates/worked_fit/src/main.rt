@@ -1,5 +1,5 @@
-// Replays the oracle's lists of fits, systems, grid numbers, words in several orders and samples of any
-// numbers, then tries the refusals.
+// Replays the oracle's lists of fits, systems, grid numbers, words in several orders, samples of any
+// numbers and fits after trimming, then tries the refusals.
 ghost use Prim.Native.Nat.{_≤_};
 use fit::Fitted;
 use fit_numbers::FitAnswer;
@@ -9,6 +9,7 @@ use libc::STDOUT_FILENO;
 use sample::MotionSample;
 use solve::Outcome;
 use solve::System;
+use trim::Trimmed;
 
 // The bits that the lists have for every not-a-number.
 const NOT_A_NUMBER: u64 = 0x7ff8_0000_0000_0000;
@@ -25,6 +26,8 @@ const SYSTEMS: u8 = 1;
 const ORDERS: u8 = 2;
 
 const SAMPLES: u8 = 3;
+
+const TRIMMED: u8 = 5;
 
 // One sample more than a list may have.
 const OVER: usize = 4097;
@@ -223,6 +226,51 @@ fn replay_orders(list: i32, flag: u8) -> bool {
     replay_order(list, flag, &mut words)
 }
 
+// A fit after trimming: its refusal, or the samples that it used and the values.
+fn same_trimmed(t: Trimmed, refusal: u32, used: u32, w: Values) -> bool {
+    let fitted = t.fitted;
+    if t.used != used {
+        return false;
+    }
+    if refusal != 0 {
+        return fit::refusal_of(fitted) == refusal;
+    }
+    same_model(fitted, w)
+}
+
+fn trimmed_holds(list: i32, words: &[u32]) -> bool {
+    let gm_type = (replay::next_word(list) % 256) as u8;
+    let flag = (replay::next_word(list) % 256) as u8;
+    let fit_refusal = replay::next_word(list);
+    let fit_used = replay::next_word(list);
+    let values = next_values(list, gm_type);
+    let refusal = replay::next_word(list);
+    let used = replay::next_word(list);
+    let wanted = next_params(list);
+    let fitted = trim::fit_trimmed(gm_type, words);
+    let model = trim::quantize_trimmed(gm_type, flag, words);
+    let params = model.params;
+    same_trimmed(fitted, fit_refusal, fit_used, values)
+        && model.refusal == refusal
+        && model.used == used
+        && same_params(params, wanted)
+}
+
+// The words of a case, up to one more than a list may have.
+fn replay_trimmed_words(list: i32, words: &mut [u32]) -> bool {
+    let count = replay::next_word(list) as usize;
+    if count > words.len() {
+        return false;
+    }
+    copy(&mut words[..count], list);
+    trimmed_holds(list, &words[..count])
+}
+
+fn replay_trimmed(list: i32) -> bool {
+    let mut words = [0u32; OVER];
+    replay_trimmed_words(list, &mut words)
+}
+
 fn next_sample(list: i32) -> MotionSample {
     let x = next_float(list);
     let y = next_float(list);
@@ -390,6 +438,9 @@ fn replay_one(list: i32, which: u8, flag: u8) -> bool {
     if which == SAMPLES {
         return replay_samples(list, flag);
     }
+    if which == TRIMMED {
+        return replay_trimmed(list);
+    }
     replay_grid_number(list)
 }
 
@@ -507,6 +558,7 @@ fn main() {
     replay_list(SYSTEMS, b"systems", b"systems.bin");
     replay_list(ORDERS, b"orders", b"orders.bin");
     replay_list(SAMPLES, b"samples", b"samples.bin");
+    replay_list(TRIMMED, b"trimmed", b"trimmed.bin");
     replay_list(4, b"grid numbers", b"grid_numbers.bin");
     let words = [0u32; 4097];
     let few = [0u32; 8];

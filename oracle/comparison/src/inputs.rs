@@ -152,6 +152,34 @@ pub fn words(random: &mut Random) -> Vec<u32> {
     (0..count).map(word).collect()
 }
 
+/// Words to trim: those above, or a field that moves as one, more or less evenly, with some words that move on their own.
+pub fn loose_words(random: &mut Random) -> Vec<u32> {
+    if random.one_in(4) {
+        return words(random);
+    }
+    let count = match random.below(20) {
+        0 => MOST_SAMPLES,
+        1..=8 => 3 + random.below(8),
+        _ => 3 + random.below(120),
+    };
+    let across = 1 + random.below(63);
+    let slopes: [i64; 6] = std::array::from_fn(|_| random.between(-4, 4));
+    let (loose, uneven) = (random.pick(&[0, 1, 3, 8]), random.pick(&[0, 1, 4, 12]));
+    let word = |place: usize| {
+        let (row, column) = ((place / across % 64) as i64, (place % across) as i64);
+        let free = random.below(32) < loose;
+        let mut motion = |at: usize| match free {
+            true => random.below(512) as i64,
+            false => {
+                let even = 223 + 8 * slopes[at] + slopes[at + 1] * column / 4 + slopes[at + 2] * row / 4;
+                (even + random.between(-uneven, uneven)).clamp(0, 446)
+            }
+        };
+        (row << 26 | column << 20 | motion(0) << 11 | motion(3) << 2) as u32
+    };
+    (0..count).map(word).collect()
+}
+
 /// Words whose sums of x·x and x·y are equal, so that an affine fit has two pivots of one magnitude to choose from:
 /// a block left of the diagonal, one right of it, as often as makes up for it, and blocks on the diagonal.
 fn words_of_a_tie(random: &mut Random) -> Vec<u32> {

@@ -6,7 +6,7 @@ use belt::{
     Buffers, Fitted, Frame, Kind as FrameKind, Lent, Model, MotionSample, Refusal, Report, Settings, StoredModel, Task,
 };
 use oracle::blocks::{self, BLOCK, Form, ONE, TWO};
-use oracle::{Models, practice};
+use oracle::{Models, Trimmed, practice};
 use std::fmt::{Debug, Write};
 
 /// An input that is being made, in words for the one that shows a difference.
@@ -29,12 +29,14 @@ pub struct Kind {
     pub compare: fn(&mut Case) -> Result<(), String>,
 }
 
-pub const KINDS: [Kind; 23] = [
+pub const KINDS: [Kind; 26] = [
     Kind { name: "search", share: 4, compare: search },
     Kind { name: "fit translation", share: 4, compare: |case| fit(case, 1) },
     Kind { name: "fit rotation-zoom", share: 4, compare: |case| fit(case, 2) },
     Kind { name: "fit affine", share: 4, compare: |case| fit(case, 3) },
     Kind { name: "quantized model", share: 6, compare: quantized_model },
+    Kind { name: "trimmed fit", share: 8, compare: trimmed_fit },
+    Kind { name: "trimmed model", share: 8, compare: trimmed_model },
     Kind { name: "score", share: 4, compare: score },
     Kind { name: "samples, translation", share: 4, compare: |case| fit_samples(case, 1) },
     Kind { name: "samples, rotation-zoom", share: 6, compare: |case| fit_samples(case, 2) },
@@ -48,7 +50,8 @@ pub const KINDS: [Kind; 23] = [
     Kind { name: "key frame", share: 4, compare: key_frame },
     Kind { name: "price list", share: 1, compare: price_list },
     Kind { name: "price of a frame", share: 4, compare: frame_price },
-    Kind { name: "job", share: 6, compare: job },
+    Kind { name: "job", share: 6, compare: |case| job(case, 0) },
+    Kind { name: "job that trims", share: 6, compare: |case| job(case, 1) },
     Kind { name: "blocks of form 2, by docs/RULES.md", share: 4, compare: stored_frame },
     Kind { name: "blocks of form 1, by docs/RULES.md", share: 4, compare: old_frame },
     Kind { name: "shear, by clause 7.11.3.6", share: 6, compare: shear },
@@ -95,6 +98,7 @@ const ENDS_FIRST: u32 = 9;
 /// Those that only the rules have.
 const OFF_GRID: u32 = 7;
 const START_OVER: u32 = 14;
+const TOO_FEW: u32 = 15;
 const CLOSED: u32 = 17;
 
 /// A job's buffers full of a pattern: just long enough, or longer.
@@ -192,6 +196,38 @@ fn fit(case: &mut Case, kind: u8) -> Result<(), String> {
     case.accepted = ours.is_ok();
     let theirs = oracle::fit(kind, &samples(&words)).map(|numbers| (kind, carried(kind, numbers)));
     same("bits of the numbers", ours, theirs.ok_or(SINGULAR))
+}
+
+/// The Rust's fit after trimming, or the row that the rules have for none. Its residuals are finite: the words' are.
+fn rust_trimmed(kind: u8, flag: u8, words: &[u32]) -> Result<Trimmed, u32> {
+    if words.len() < oracle::least_samples(kind) {
+        return Err(TOO_FEW);
+    }
+    oracle::trimmed(kind, flag == 1, &samples(words)).ok_or(SINGULAR)
+}
+
+fn trimmed_fit(case: &mut Case) -> Result<(), String> {
+    let words = inputs::loose_words(&mut case.random);
+    let kind = 1 + case.random.below(3) as u8;
+    case.note("type", kind);
+    case.note("words", &words);
+    let ours = row(belt::fit_trimmed(kind, &words));
+    case.accepted = ours.is_ok();
+    let ours = ours.map(|trimmed| (trimmed.fitted.gm_type, trimmed.fitted.numbers.map(bits), trimmed.used));
+    let theirs = rust_trimmed(kind, 0, &words).map(|trimmed| (kind, carried(kind, trimmed.model), trimmed.used));
+    same("bits of the numbers, samples used", ours, theirs)
+}
+
+fn trimmed_model(case: &mut Case) -> Result<(), String> {
+    let words = inputs::loose_words(&mut case.random);
+    let (kind, flag) = (1 + case.random.below(3) as u8, case.random.below(2) as u8);
+    case.note("type, flag", (kind, flag));
+    case.note("words", &words);
+    let ours = row(belt::quantize_trimmed(kind, flag, &words));
+    case.accepted = ours.is_ok();
+    let ours = ours.map(|trimmed| (trimmed.model, trimmed.used));
+    let theirs = rust_trimmed(kind, flag, &words).map(|trimmed| (Model(trimmed.params), trimmed.used));
+    same("model, samples used", ours, theirs)
 }
 
 /// Samples with the layout of the library.
@@ -495,14 +531,22 @@ fn frame_number(random: &mut Random) -> u16 {
 
 /// The composition of the Rust's answers: what a job reports and leaves.
 fn job_of_the_rust(pair: &Pair, settings: Settings, header: &Header, left: &mut Buffers) -> Result<Report, u32> {
-    let Settings { frame, gm_type, reference, flag, start } = settings;
+    let Settings { frame, gm_type, reference, flag, trim, start } = settings;
+    if trim == 1 && oracle::sample_count(pair.width, pair.height) < oracle::least_samples(gm_type) {
+        return Err(TOO_FEW);
+    }
     if frame == blocks::CLOSED {
         return Err(CLOSED);
     }
     let words = searched(pair, left);
     let samples = samples(&words);
-    let fitted = oracle::fit(gm_type, &samples).ok_or(SINGULAR)?;
-    let model = oracle::quantize_model(&fitted, gm_type, flag == 1, &samples);
+    let model = match trim {
+        1 => rust_trimmed(gm_type, flag, &words)?.params,
+        _ => {
+            let fitted = oracle::fit(gm_type, &samples).ok_or(SINGULAR)?;
+            oracle::quantize_model(&fitted, gm_type, flag == 1, &samples)
+        }
+    };
     let score = oracle::score(&model, &samples);
     let place = usize::from(reference) - 1;
     let mut full = Header { flag, ..*header };
@@ -516,7 +560,7 @@ fn job_of_the_rust(pair: &Pair, settings: Settings, header: &Header, left: &mut 
     Ok(Report { types: full.types, models: full.params.map(StoredModel), score, bits, samples: words.len() })
 }
 
-fn job(case: &mut Case) -> Result<(), String> {
+fn job(case: &mut Case, trim: u8) -> Result<(), String> {
     let pair = pair(case);
     let header = header(case);
     let random = &mut case.random;
@@ -525,6 +569,7 @@ fn job(case: &mut Case) -> Result<(), String> {
         gm_type: 1 + random.below(3) as u8,
         reference: 1 + random.below(7) as u8,
         flag: header.flag,
+        trim,
         start: start(random),
     };
     let mut ours = buffers(random, pair.width, pair.height);
