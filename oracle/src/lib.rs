@@ -78,6 +78,11 @@ pub struct Trimmed {
     pub params: [i32; 6],
 }
 
+/// The rows of docs/RULES.md that a fit after trimming may be refused by, of a list that isn't too long.
+pub const SINGULAR: u32 = 6;
+pub const TOO_FEW: u32 = 15;
+pub const NOT_FINITE: u32 = 16;
+
 /// The fewest samples that `candidate_for` takes for a type.
 pub fn least_samples(kind: u8) -> usize {
     [4, 6, 8][usize::from(kind) - 1]
@@ -148,6 +153,20 @@ pub fn quantize_model(model: &[f64; 6], kind: u8, high: bool, samples: &[[f64; 4
 /// The lines of `candidate_for` that fit, trim and fit again, through the quantized model.
 pub fn trimmed(kind: u8, high: bool, samples: &[[f64; 4]]) -> Option<Trimmed> {
     Samples::new(samples).trimmed(kind, high)
+}
+
+/// The same, or the row that refuses. The Rust has no row 16: it stops at a residual that is not-a-number, and goes on
+/// with one that is infinite.
+pub fn trimmed_or_row(kind: u8, high: bool, samples: &[[f64; 4]]) -> Result<Trimmed, u32> {
+    if samples.len() < least_samples(kind) {
+        return Err(TOO_FEW);
+    }
+    let samples = Samples::new(samples);
+    let first = samples.fit(kind).ok_or(SINGULAR)?;
+    if global_motion::residuals(&first, &samples.0).iter().any(|residual| !residual.is_finite()) {
+        return Err(NOT_FINITE);
+    }
+    samples.trimmed(kind, high).ok_or(SINGULAR)
 }
 
 pub fn quantize_global_param(kind: u8, high: bool, slot: usize, value: i32) -> i32 {

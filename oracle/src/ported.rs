@@ -101,6 +101,12 @@ pub mod encoder {
             include!(concat!(env!("OUT_DIR"), "/trimmed.rs"))
         }
 
+        /// How far each sample lies from a model.
+        pub fn residuals(m: &[f64; 6], samples: &[MotionSample]) -> Vec<f64> {
+            let first = ContinuousModel { m: *m };
+            include!(concat!(env!("OUT_DIR"), "/residuals.rs"))
+        }
+
         pub fn quantize(m: &[f64; 6], gm_type: WarpModelType, high: bool, samples: &[MotionSample]) -> [i32; 6] {
             quantize_model(&ContinuousModel { m: *m }, gm_type, high, samples)
         }

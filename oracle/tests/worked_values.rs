@@ -3,8 +3,8 @@
 use oracle::blocks::{self, ONE, TWO};
 use oracle::list::tilted_words;
 use oracle::{
-    IDENTITY, coefficient, fit, quantize_global_param, quantize_model, read_header, sample_of, sample_words, score,
-    search, trimmed, write_header,
+    IDENTITY, NOT_FINITE, TOO_FEW, coefficient, fit, quantize_global_param, quantize_model, read_header, sample_of, sample_words, score,
+    search, trimmed, trimmed_or_row, write_header,
 };
 
 const TRANSLATION: u8 = 1;
@@ -206,6 +206,18 @@ fn fits_after_trimming() {
         assert!(trimmed(kind, true, &across(&vec![0; least - 1])).is_none());
         assert_eq!(trimmed(kind, true, &vec![across(&[0])[0]; least]).is_some(), kind == TRANSLATION);
     }
+}
+
+/// A sample that moves by so much, among so many in all, at rest and at one place.
+#[test]
+fn residuals_that_are_not_finite() {
+    let row = |count, u| {
+        let mut samples = vec![[0.0; 4]; count];
+        samples[0][2] = u;
+        trimmed_or_row(TRANSLATION, true, &samples).map(|trimmed| trimmed.used)
+    };
+    assert_eq!([row(4, 1e150), row(4, 1e200), row(4, f64::NAN)], [Ok(4), Err(NOT_FINITE), Err(NOT_FINITE)]);
+    assert_eq!([row(4, f64::INFINITY), row(3, f64::NAN), row(3, 0.0)], [Err(NOT_FINITE), Err(TOO_FEW), Err(TOO_FEW)]);
 }
 
 /// A 64×64 bowl, and the input that is it drawn together by a sixteenth.

@@ -24,10 +24,10 @@ fn fit_answer(kind: u8, numbers: &[f64; 16384], samples: usize) -> TrimmedAnswer
     trim_numbers::answer_of(trim::trimmed_fit(kind, numbers, samples))
 }
 
-fn model_answer(fit: ToTrim, numbers: &[f64; 16384], samples: usize) -> TrimmedModel
-    ensures { λ r. ⌜ r ≡ trimmedModelFrom itself (fit .kind) (fit .flag) (samplesIn (now (numbers .entry)) samples) ⌝ }
+fn model_answer(codes: ToTrim, numbers: &[f64; 16384], samples: usize) -> TrimmedModel
+    ensures { λ r. ⌜ r ≡ trimmedModelFrom itself (codes .kind) (codes .flag) (samplesIn (now (numbers .entry)) samples) ⌝ }
 {
-    trim::trimmed_model(fit.kind, fit.flag, numbers, samples)
+    trim::trimmed_model(codes.kind, codes.flag, numbers, samples)
 }
 
 #[no_mangle]
@@ -38,7 +38,7 @@ pub extern "C" fn belt_fit_trimmed_samples(samples: &[MotionSample], kind: u8) -
     let mut kept = [0.0f64; 16384];
     let mut i = 0usize;
     while i < n {
-        trim::store(&mut kept, i, samples[i]);
+        trim::store(&mut kept, i, samples[i]); // each in its place
         i += 1;
     }
     fit_answer(kind, &kept, samples.len())
@@ -47,9 +47,9 @@ pub extern "C" fn belt_fit_trimmed_samples(samples: &[MotionSample], kind: u8) -
 #[no_mangle]
 pub extern "C" fn belt_quantize_trimmed_samples(
     samples: &[MotionSample],
-    fit: ToTrim,
+    codes: ToTrim,
 ) -> TrimmedModel
-    ensures { λ r. ⌜ r ≡ trimmedModelFrom itself (fit .kind) (fit .flag) (now (samples .entry)) ⌝ }
+    ensures { λ r. ⌜ r ≡ trimmedModelFrom itself (codes .kind) (codes .flag) (now (samples .entry)) ⌝ }
 {
     let n = fit::list_taken(samples.len());
     let mut kept = [0.0f64; 16384];
@@ -58,5 +58,5 @@ pub extern "C" fn belt_quantize_trimmed_samples(
         trim::store(&mut kept, i, samples[i]);
         i += 1;
     }
-    model_answer(fit, &kept, samples.len())
+    model_answer(codes, &kept, samples.len())
 }

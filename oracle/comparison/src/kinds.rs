@@ -6,7 +6,7 @@ use belt::{
     Buffers, Fitted, Frame, Kind as FrameKind, Lent, Model, MotionSample, Refusal, Report, Settings, StoredModel, Task,
 };
 use oracle::blocks::{self, BLOCK, Form, ONE, TWO};
-use oracle::{Models, Trimmed, practice};
+use oracle::{Models, SINGULAR, TOO_FEW, practice};
 use std::fmt::{Debug, Write};
 
 /// An input that is being made, in words for the one that shows a difference.
@@ -29,7 +29,7 @@ pub struct Kind {
     pub compare: fn(&mut Case) -> Result<(), String>,
 }
 
-pub const KINDS: [Kind; 26] = [
+pub const KINDS: [Kind; 28] = [
     Kind { name: "search", share: 4, compare: search },
     Kind { name: "fit translation", share: 4, compare: |case| fit(case, 1) },
     Kind { name: "fit rotation-zoom", share: 4, compare: |case| fit(case, 2) },
@@ -43,6 +43,8 @@ pub const KINDS: [Kind; 26] = [
     Kind { name: "samples, affine", share: 6, compare: |case| fit_samples(case, 3) },
     Kind { name: "samples, quantized model", share: 6, compare: quantized_samples },
     Kind { name: "samples, score", share: 4, compare: score_samples },
+    Kind { name: "samples, trimmed fit", share: 8, compare: trimmed_fit_samples },
+    Kind { name: "samples, trimmed model", share: 8, compare: trimmed_model_samples },
     Kind { name: "quantize_global_param", share: 8, compare: grid },
     Kind { name: "header written", share: 8, compare: header_written },
     Kind { name: "header read", share: 6, compare: header_read },
@@ -93,12 +95,10 @@ fn row<T>(answer: Result<T, Refusal>) -> Result<T, u32> {
 
 /// The rows that the Rust's own refusals stand for.
 const TOO_SHORT: u32 = 3;
-const SINGULAR: u32 = 6;
 const ENDS_FIRST: u32 = 9;
 /// Those that only the rules have.
 const OFF_GRID: u32 = 7;
 const START_OVER: u32 = 14;
-const TOO_FEW: u32 = 15;
 const CLOSED: u32 = 17;
 
 /// A job's buffers full of a pattern: just long enough, or longer.
@@ -198,14 +198,6 @@ fn fit(case: &mut Case, kind: u8) -> Result<(), String> {
     same("bits of the numbers", ours, theirs.ok_or(SINGULAR))
 }
 
-/// The Rust's fit after trimming, or the row that the rules have for none. Its residuals are finite: the words' are.
-fn rust_trimmed(kind: u8, flag: u8, words: &[u32]) -> Result<Trimmed, u32> {
-    if words.len() < oracle::least_samples(kind) {
-        return Err(TOO_FEW);
-    }
-    oracle::trimmed(kind, flag == 1, &samples(words)).ok_or(SINGULAR)
-}
-
 fn trimmed_fit(case: &mut Case) -> Result<(), String> {
     let words = inputs::loose_words(&mut case.random);
     let kind = 1 + case.random.below(3) as u8;
@@ -214,7 +206,8 @@ fn trimmed_fit(case: &mut Case) -> Result<(), String> {
     let ours = row(belt::fit_trimmed(kind, &words));
     case.accepted = ours.is_ok();
     let ours = ours.map(|trimmed| (trimmed.fitted.gm_type, trimmed.fitted.numbers.map(bits), trimmed.used));
-    let theirs = rust_trimmed(kind, 0, &words).map(|trimmed| (kind, carried(kind, trimmed.model), trimmed.used));
+    let theirs = oracle::trimmed_or_row(kind, false, &samples(&words));
+    let theirs = theirs.map(|trimmed| (kind, carried(kind, trimmed.model), trimmed.used));
     same("bits of the numbers, samples used", ours, theirs)
 }
 
@@ -226,7 +219,8 @@ fn trimmed_model(case: &mut Case) -> Result<(), String> {
     let ours = row(belt::quantize_trimmed(kind, flag, &words));
     case.accepted = ours.is_ok();
     let ours = ours.map(|trimmed| (trimmed.model, trimmed.used));
-    let theirs = rust_trimmed(kind, flag, &words).map(|trimmed| (Model(trimmed.params), trimmed.used));
+    let theirs = oracle::trimmed_or_row(kind, flag == 1, &samples(&words));
+    let theirs = theirs.map(|trimmed| (Model(trimmed.params), trimmed.used));
     same("model, samples used", ours, theirs)
 }
 
@@ -302,6 +296,32 @@ fn score_samples(case: &mut Case) -> Result<(), String> {
     let params = to_score(case);
     let ours = belt::mean_sq_residual_samples(&Model(params), &lent(&samples)).map(bits);
     same("bits of the score", ours, Ok(bits(oracle::score(&params, &samples))))
+}
+
+fn trimmed_fit_samples(case: &mut Case) -> Result<(), String> {
+    let samples = inputs::loose_samples(&mut case.random);
+    let kind = 1 + case.random.below(3) as u8;
+    case.note("type", kind);
+    case.note("samples", &samples);
+    let ours = row(belt::fit_trimmed_samples(kind, &lent(&samples)));
+    case.accepted = ours.is_ok();
+    let ours = ours.map(|trimmed| (trimmed.fitted.gm_type, trimmed.fitted.numbers.map(bits), trimmed.used));
+    let theirs = oracle::trimmed_or_row(kind, false, &samples);
+    let theirs = theirs.map(|trimmed| (kind, carried(kind, trimmed.model), trimmed.used));
+    same("bits of the numbers, samples used", ours, theirs)
+}
+
+fn trimmed_model_samples(case: &mut Case) -> Result<(), String> {
+    let samples = inputs::loose_samples(&mut case.random);
+    let (kind, flag) = (1 + case.random.below(3) as u8, case.random.below(2) as u8);
+    case.note("type, flag", (kind, flag));
+    case.note("samples", &samples);
+    let ours = row(belt::quantize_trimmed_samples(kind, flag, &lent(&samples)));
+    case.accepted = ours.is_ok();
+    let ours = ours.map(|trimmed| (trimmed.model, trimmed.used));
+    let theirs = oracle::trimmed_or_row(kind, flag == 1, &samples);
+    let theirs = theirs.map(|trimmed| (Model(trimmed.params), trimmed.used));
+    same("model, samples used", ours, theirs)
 }
 
 fn score(case: &mut Case) -> Result<(), String> {
@@ -541,7 +561,7 @@ fn job_of_the_rust(pair: &Pair, settings: Settings, header: &Header, left: &mut 
     let words = searched(pair, left);
     let samples = samples(&words);
     let model = match trim {
-        1 => rust_trimmed(gm_type, flag, &words)?.params,
+        1 => oracle::trimmed_or_row(gm_type, flag == 1, &samples)?.params,
         _ => {
             let fitted = oracle::fit(gm_type, &samples).ok_or(SINGULAR)?;
             oracle::quantize_model(&fitted, gm_type, flag == 1, &samples)

@@ -4,14 +4,13 @@
 //! A list of words is remade from a seed: each word of the generator, its bits outside a mask cleared, with fixed bits set.
 //! Of a list of samples some are written out, and come round again up to its count.
 
+use oracle::SINGULAR;
 use oracle::list::{Lcg, List, MOST_SAMPLES, tilted_words};
 use std::{env, io};
 
 const SEED: u32 = 6;
 const TOO_MANY: u32 = 1;
 const BAD_CODE: u32 = 4;
-const TOO_FEW: u32 = 15;
-const SINGULAR: u32 = 6;
 
 /// Counts that every shape of list is tried with, and how many random ones besides.
 const COUNTS: [usize; 16] = [0, 1, 2, 3, 4, 5, 6, 7, 8, 9, 16, 33, 125, 500, 1000, MOST_SAMPLES];
@@ -214,13 +213,15 @@ fn push_trimmed(list: &mut List, words: &[u32], kind: u8, flag: u8) {
     words.iter().for_each(|&word| list.push(word));
     list.push(u32::from(kind));
     list.push(u32::from(flag));
-    let known = (1..=3).contains(&kind);
-    let samples = words.iter().map(|&word| oracle::sample_of(word)).collect::<Vec<_>>();
+    push_after_trimming(list, kind, flag, &words.iter().map(|&word| oracle::sample_of(word)).collect::<Vec<_>>());
+}
+
+/// The fit after trimming and its quantized model: of each the refusal, the samples used and the numbers.
+fn push_after_trimming(list: &mut List, kind: u8, flag: u8, samples: &[[f64; 4]]) {
     let answer = |flag: u8| match samples.len() {
         count if count > MOST_SAMPLES => Err(TOO_MANY),
-        _ if !known || flag > 1 => Err(BAD_CODE),
-        count if count < oracle::least_samples(kind) => Err(TOO_FEW),
-        _ => oracle::trimmed(kind, flag == 1, &samples).ok_or(SINGULAR),
+        _ if !(1..=3).contains(&kind) || flag > 1 => Err(BAD_CODE),
+        _ => oracle::trimmed_or_row(kind, flag == 1, samples),
     };
     // the values that the replay reads for a code: two for no type and a translation, four, six
     let carried = [2, 2, 4, 6, 6][usize::from(kind)];
@@ -288,6 +289,19 @@ fn samples() -> List {
             cases.push((corners, made.collect()));
         }
     }
+    // a residual that is large, one whose square is infinite, one that is not-a-number, and too few with one such
+    for (count, u) in [(4, 1e150), (4, 1e200), (4, f64::NAN), (3, f64::NAN)] {
+        let mut made = vec![[0.0; 4]; count];
+        made[0][2] = u;
+        cases.push((count, made));
+    }
+    // samples that lie on a model but for a few, which the trim drops, about the least lists
+    for count in (4..=12).chain([16, 25, 60]) {
+        for loose in [0, 3, 9] {
+            let words = loose_words(lcg, count, loose);
+            cases.push((count, words.iter().map(|&word| oracle::sample_of(word).map(|number| 1.1 * number)).collect()));
+        }
+    }
     let mut list = List::default();
     list.push(cases.len() as u32);
     for (case, (count, written)) in cases.iter().enumerate() {
@@ -300,6 +314,7 @@ fn samples() -> List {
                 0..=MOST_SAMPLES => push_fit(&mut list, kind, case % 2 == 1, &samples),
                 _ => push_refusal(&mut list, [2, 4, 6][usize::from(kind) - 1], TOO_MANY),
             }
+            push_after_trimming(&mut list, kind, (case % 2) as u8, &samples);
         }
     }
     list
