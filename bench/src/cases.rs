@@ -232,16 +232,21 @@ fn score(n: usize) -> Sides {
     )
 }
 
+/// The samples of words, with the library's layout.
+fn lent_samples(words: &[u32]) -> Vec<MotionSample> {
+    words.iter().map(|&word| MotionSample::of_word(word)).collect()
+}
+
 /// Ready-made samples for both sides.
 fn on_samples(
     words: &[u32],
     mut ours: impl FnMut(&[MotionSample]) + 'static,
     rust: impl Fn(&Samples) + 'static,
 ) -> Sides {
-    let made: Vec<_> = words.iter().map(|&word| MotionSample::of_word(word)).collect();
+    let lent = lent_samples(words);
     let samples = Samples::of_words(words);
     Sides {
-        ours: Box::new(move || ours(black_box(&made))),
+        ours: Box::new(move || ours(black_box(&lent))),
         rust: Box::new(move || rust(black_box(&samples))),
         ready: None,
     }
@@ -251,8 +256,7 @@ fn fit_samples(kind: u8, n: usize) -> Sides {
     let words = oracle::blocks::words(n as u32, n);
     let ours = [belt::fit_translation_samples, belt::fit_rotzoom_samples, belt::fit_affine_samples];
     let ours = ours[usize::from(kind) - 1];
-    let made: Vec<_> = words.iter().map(|&word| MotionSample::of_word(word)).collect();
-    assert_eq!(ours(&made).ok(), library_fit(kind, &words).ok());
+    assert_eq!(ours(&lent_samples(&words)), Ok(fits(kind, &words).0));
     on_samples(
         &words,
         move |samples| {
@@ -266,6 +270,8 @@ fn fit_samples(kind: u8, n: usize) -> Sides {
 
 fn score_samples(n: usize) -> Sides {
     let words = oracle::blocks::words(n as u32, n);
+    let ours = belt::mean_sq_residual_samples(&Model(PARAMS), &lent_samples(&words)).expect("not too many samples");
+    assert!(same(ours, Samples::of_words(&words).score(&PARAMS)));
     on_samples(
         &words,
         |samples| {

@@ -276,7 +276,7 @@ class Refusals(Refused):
         self.refused(2, call, pels=1535)
         self.refused(2, call, ref_pels=1535)
         self.refused(2, call, classes=bytes(5))
-        self.assertEqual(call(classes=bytes([belt.FILM] * 6)), 6)
+        self.assertEqual(call(classes=bytes([belt.FILM] * 6)).samples, 6)
         self.refused(4, call, classes=bytes([5] * 6))
         self.refused(3, call, rooms=(383, 384, 6))
         self.refused(3, call, rooms=(384, 383, 6))
@@ -299,6 +299,11 @@ class Refusals(Refused):
         self.refused(1, belt.quantize_model, belt.Fitted(3, numbers), 1, many)
         self.refused(4, belt.quantize_model, belt.Fitted(0, numbers), 1, many[:9])
         self.refused(4, belt.quantize_model, belt.Fitted(3, numbers), 2, many[:9])
+        self.assertEqual(belt.quantize_model(belt.Fitted(3, numbers), 1, many[:9]), still)
+        self.refused(4, belt.quantize_global_param, 4, 0, 0, 0)
+        self.refused(5, belt.quantize_global_param, 3, 1, 6, 0)
+        self.assertEqual(belt.quantize_global_param(3, 0, 2, 65537), 65538)
+        self.assertEqual(belt.quantize_global_param(1, 1, 1, -4096), -8192)
 
     def test_fits_and_scores_of_samples(self):
         many = [(0.1 * i, 0.2, math.inf, -0.0) for i in range(4097)]
@@ -317,11 +322,8 @@ class Refusals(Refused):
         self.refused(1, belt.quantize_model_samples, belt.Fitted(3, numbers), 1, many)
         self.refused(4, belt.quantize_model_samples, belt.Fitted(0, numbers), 1, many[:9])
         self.refused(4, belt.quantize_model_samples, belt.Fitted(3, numbers), 2, many[:9])
-        self.assertEqual(belt.quantize_model(belt.Fitted(3, numbers), 1, many[:9]), still)
-        self.refused(4, belt.quantize_global_param, 4, 0, 0, 0)
-        self.refused(5, belt.quantize_global_param, 3, 1, 6, 0)
-        self.assertEqual(belt.quantize_global_param(3, 0, 2, 65537), 65538)
-        self.assertEqual(belt.quantize_global_param(1, 1, 1, -4096), -8192)
+        unmoved = [(0.1 * i, 0.2, 0.0, -0.0) for i in range(9)]
+        self.assertEqual(belt.quantize_model_samples(belt.Fitted(3, numbers), 1, unmoved), still)
 
     def test_frames(self):
         good, metal, film = words(126), bytes([belt.METAL] * 126), bytes([belt.FILM] * 126)
