@@ -1,23 +1,21 @@
 // The root of a binary64, correctly rounded. Any number goes in; the binary64 nearest to its root comes
 // out, a zero and plus infinity as they are, and a not-a-number for what has no root. Answers to
-// docs/RULES.md, 'Fit after trimming' (Root). The language has no root of its own: a guess by
+// docs/RULES.md, 'Trimming' (Root). The language has no root of its own: a guess by
 // arithmetic is mended by comparing whole-number squares, so any guess gives the root and a good one
 // gives it in two turns.
 ghost use mathlib.Core.Path.{_≡_};
 ghost use Prim.Native.Nat.{_+_, _*_, _≤_, _<_};
 ghost use lib.Ieee.{binary64, ofBits};
 ghost use Rattle.root.specs.Root.{root, nearestRoot};
-ghost use Rattle.root.specs.Inner.{leading, Significand, middle, significandRoot};
+ghost use Rattle.root.specs.Inner.{leading, Significand, Tall, middle, significandRoot};
 
 // The weight of a significand's leading digit, 2^52, and half a significand, 2^26.
 const LEADING: u64 = 4503599627370496;
 
 const HALF: u64 = 67108864;
 
-// The patterns of plus infinity and of minus zero.
+// The pattern of plus infinity.
 const INFINITY: u64 = 0x7ff0_0000_0000_0000;
-
-const MINUS_ZERO: u64 = 0x8000_0000_0000_0000;
 
 // From which half a number's pattern is taken to guess the pattern of one over its root.
 const INVERSE_ROOT: u64 = 0x5fe6_eb50_c7b5_37a9;
@@ -50,8 +48,11 @@ fn guess(m: u64, odd: u64) -> u64
     let y = refined(half, refined(half, refined(half, refined(half, first))));
     let near = x * y;
     let nearer = near + (x - near * near) * (y * 0.5);
-    if nearer > 1.0 && nearer < 2.0 {
-        return f64::to_bits(nearer) % LEADING + LEADING;
+    if nearer > 1.0 {
+        if nearer < 2.0 {
+            return f64::to_bits(nearer) % LEADING + LEADING;
+        }
+        return 2 * LEADING - 1;
     }
     LEADING
 }
@@ -70,7 +71,7 @@ fn between(low: u64, high: u64, wish: u64) -> u64
 // The whole number nearest to the root of tall * 2^52: the least that isn't too low. Away from the
 // guess the steps double, and what is then between two bounds is halved.
 fn nearest_root(tall: u64, guess: u64) -> u64
-    requires { ⌜ (leading ≤ tall) × (tall < 4 * leading) ⌝ }
+    requires { ⌜ Tall tall ⌝ }
     ensures { λ r. ⌜ r ≡ nearestRoot (tall * leading) ⌝ }
 {
     let mut low = LEADING - 1;
@@ -118,22 +119,22 @@ fn subnormal_root(pattern: u64) -> f64
     significand_root(m, power)
 }
 
-// The correctly rounded root.
+// The correctly rounded root. A zero, plus infinity and a not-a-number are their own roots.
 pub fn root(x: f64) -> f64
     ensures { λ r. ⌜ r ≡ root x ⌝ }
 {
-    if x != x {
+    if x > 0.0 {
+        let pattern = f64::to_bits(x);
+        if pattern < LEADING {
+            return subnormal_root(pattern);
+        }
+        if pattern < INFINITY {
+            return significand_root(pattern % LEADING + LEADING, pattern / LEADING + 51);
+        }
         return x;
     }
-    let pattern = f64::to_bits(x);
-    if pattern == 0 || pattern == MINUS_ZERO || pattern == INFINITY {
-        return x;
-    }
-    if pattern > INFINITY {
+    if x < 0.0 {
         return 0.0 / 0.0;
     }
-    if pattern < LEADING {
-        return subnormal_root(pattern);
-    }
-    significand_root(pattern % LEADING + LEADING, pattern / LEADING + 51)
+    x
 }
