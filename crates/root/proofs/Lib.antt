@@ -4,6 +4,7 @@ pub mod Scaling
 pub mod Patterns
 pub mod Ends
 pub mod Normalised
+pub mod Rounded
 pub mod Signs
 pub mod Rising
 pub mod Worked

@@ -82,6 +82,12 @@ module _ {n m p : ℕ} (normal : Normal n m p) where
       four-pos : (k : ℕ) → 0 < 4 ^ k
       four-pos k = rw (four-power k) (pow-pos (k + k))
 
+  -- nothing is lost by it
+  pub scaled-exact : scaled n * 4 ^ halfDigits n ≡ n * 4 ^ 53
+  scaled-exact =
+      rw (scaled-of, half-digits-of normal, pow-add 4 (p / 2) 1)
+      (sym (regrouped n m (2 ^ (p % 2)) (4 ^ (p / 2)) (ap (λ (x : ℕ). m * x) (sym (by-halves p)) ∙ normal .is)))
+
   pub scaled-back : scaledBack (scaled n) (halfDigits n) ≡ significandRoot m p
   scaled-back = rw (scaled-of, half-digits-of normal)
 
@@ -96,6 +102,16 @@ pub tall : (m r : ℕ) → Significand m → r < 2 → Tall (m * (1 + r))
 tall m zero s h = record { low = omega arith; high = omega arith }
 tall m (suc zero) s h = record { low = omega arith; high = omega arith }
 tall m (suc (suc r)) s h = absurd (omega arith)
+
+-- 105 or 106 digits
+pub scaled-range : {n m p : ℕ} → Normal n m p → (4 ^ 52 ≤ scaled n) × (scaled n < 4 ^ 53)
+scaled-range {n} {m} {p} normal =
+    let r : p % 2 < 2 = omega arith in
+    let t = tall m (p % 2) (normal .digits) r in
+    rw (scaled-of normal, odd-power (p % 2) r) (range (m * (1 + p % 2)) t)
+  where
+    range : (t : ℕ) → Tall t → (4 ^ 52 ≤ t * leading) × (t * leading < 4 ^ 53)
+    range t h = (omega (arith, h .low), omega (arith, h .high))
 
 -- the root has its leading digit at 2 ^ 52 and stays below 2 ^ 53
 pub root-digits : (t : ℕ) → Tall t → Significand (nearestRoot (t * leading))

@@ -87,8 +87,20 @@ module _ {n k : ℕ} (near : Nearest n k) where
 pub rising : {n n' k k' : ℕ} → Nearest n k → Nearest n' k' → n ≤ n' → k ≤ k'
 rising {n} {n'} {k} {k'} p q h = at-most p k' (omega (arith, q .high))
 
+-- only one number is nearest
 pub only-one : {n k k' : ℕ} → Nearest n k → Nearest n k' → k ≡ k'
 only-one {n} p q = le-antisymm (rising p q (omega arith)) (rising q p (omega arith))
+
+-- and only one has those squares about it
+from-squares : {n : ℕ} (k : ℕ) → 0 < n → (2 * k - 1) * (2 * k - 1) < 4 * n → 4 * n < (2 * k + 1) * (2 * k + 1) → Nearest n k
+from-squares {n} zero some l h = absurd (omega arith)
+from-squares {n} (suc k) some l h =
+    let odd : 2 * suc k - 1 ≡ 2 * k + 1 = omega arith in
+    let low : (2 * k + 1) * (2 * k + 1) < 4 * n = subst (λ (x : ℕ). x * x < 4 * n) odd l in
+    record { low = omega arith; high = omega arith }
+
+pub only-one-between-squares : (n k : ℕ) → 0 < n → n < 4 ^ 53 → (2 * k - 1) * (2 * k - 1) < 4 * n → 4 * n < (2 * k + 1) * (2 * k + 1) → k ≡ nearestRoot n
+only-one-between-squares n k some small l h = only-one (from-squares k some l h) (nearest-root n some small)
 
 -- a number between two middles that follow each other
 pub between-middles : (n low : ℕ) → n < 4 ^ 53 → low * low + low < n → n ≤ (low + 1) * (low + 1) + (low + 1) → nearestRoot n ≡ low + 1

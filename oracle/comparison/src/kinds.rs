@@ -27,7 +27,7 @@ pub struct Kind {
     pub compare: fn(&mut Case) -> Result<(), String>,
 }
 
-pub const KINDS: [Kind; 18] = [
+pub const KINDS: [Kind; 19] = [
     Kind { name: "search", share: 4, compare: search },
     Kind { name: "fit translation", share: 4, compare: |case| fit(case, 1) },
     Kind { name: "fit rotation-zoom", share: 4, compare: |case| fit(case, 2) },
@@ -46,6 +46,7 @@ pub const KINDS: [Kind; 18] = [
     Kind { name: "blocks of form 1, by docs/RULES.md", share: 4, compare: old_frame },
     Kind { name: "shear, by clause 7.11.3.6", share: 6, compare: shear },
     Kind { name: "practice belt, by docs/RULES.md", share: 4, compare: practice },
+    Kind { name: "roots, by the processor's", share: 4, compare: roots },
 ];
 
 /// The sides of practice belts that are likely to differ.
@@ -663,6 +664,15 @@ fn shear(case: &mut Case) -> Result<(), String> {
     let ours =
         belt::setup_shear(kind, &model).map(|shear| (shear.valid, [shear.alpha, shear.beta, shear.gamma, shear.delta]));
     same("shear", ours.ok(), oracle::shear(&model))
+}
+
+/// Roots of numbers of every kind, against the processor's.
+fn roots(case: &mut Case) -> Result<(), String> {
+    for _ in 0..200 {
+        let x = inputs::radicand(&mut case.random);
+        same(&format!("root of {x:?}, bits {:016X}", x.to_bits()), bits(belt::root(x)), bits(x.sqrt()))?;
+    }
+    Ok(())
 }
 
 /// A practice belt in guarded buffers, against a writing of the rule.
