@@ -553,7 +553,7 @@ def setup_shear(gm_type, params):
 
 
 def root(x):
-    """The root of a number, correctly rounded ('Trimming'). A zero, plus infinity and a not-a-number are their own roots; a
+    """The root of a number, correctly rounded ('Root'). A zero, plus infinity and a not-a-number are their own roots; a
     number below 0 has none, which is a not-a-number."""
     return _raw.library.belt_root(x)
 

@@ -270,7 +270,7 @@ class Refusals(Refused):
         self.refused(2, call, pels=1535)
         self.refused(2, call, ref_pels=1535)
         self.refused(2, call, classes=bytes(5))
-        self.assertEqual(call(classes=bytes([belt.FILM] * 6)), 6)
+        self.assertEqual(call(classes=bytes([belt.FILM] * 6)).samples, 6)
         self.refused(4, call, classes=bytes([5] * 6))
         self.refused(3, call, rooms=(383, 384, 6))
         self.refused(3, call, rooms=(384, 383, 6))

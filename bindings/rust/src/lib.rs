@@ -832,7 +832,7 @@ pub fn setup_shear(gm_type: u8, params: &[i32]) -> Result<Shear, Refusal> {
     judged_lists(refusal, shear, || [Length::of("params", params, 6)], || [])
 }
 
-/// The root of a number, correctly rounded ('Trimming'). A zero, plus infinity and a not-a-number are their own roots;
+/// The root of a number, correctly rounded ('Root'). A zero, plus infinity and a not-a-number are their own roots;
 /// a number below 0 has none, which is a not-a-number.
 ///
 /// ```

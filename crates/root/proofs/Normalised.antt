@@ -1,9 +1,9 @@
 -- Every finite number above 0 is a significand by a power of two, so its root is one too: finite, and of 53 digits.
 -- Assumes nothing.
-use Prim.Native.Nat.{ℕ, zero, suc, _+_, _-_, _*_, _/_, _%_, _^_, _≤_, _<_}
+use Prim.Native.Nat.{ℕ, suc, _+_, _-_, _*_, _/_, _%_, _^_, _≤_, _<_}
 use mathlib.Core.Bool.{true, false}
 use mathlib.Core.Logic.{⊎-elim}
-use mathlib.Core.Path.{_≡_, refl, sym, _∙_, subst}
+use mathlib.Core.Path.{_≡_, refl, sym, subst}
 use native.Mathlib.Nat.{mul-pos}
 use native.Mathlib.Omega.{arith}
 use borrow.Author.Tests.{lt-ltb}
@@ -16,7 +16,7 @@ use lib.Ieee.Positive.{positive}
 use lib.Ieee.Scale.{finite}
 use Rattle.laws.proofs.Cases.{lt-or-le, eq-or-ne}
 use Rattle.root.specs.Root.{root}
-use Rattle.root.specs.Inner.{leading, Significand, significandRoot}
+use Rattle.root.specs.Inner.{leading, significandRoot}
 use Rattle.root.proofs.Scaling.{Normal, normal-of-small}
 use Rattle.root.proofs.Patterns.{zero-point, infinity, infinite, normal-value, subnormal-value, normal-of-fields, root-of-normal, root-value}
 

@@ -1,18 +1,17 @@
 -- The root of a finite number above 0 is correctly rounded: x is N * 4 ^ h / 4 ^ 590 with N of 105 or 106 digits, and the root k * 2 ^ h / 2 ^ 590 with the one k of 53 digits for which
 -- (2 k - 1) ^ 2 < 4 N < (2 k + 1) ^ 2.
 -- Assumes nothing.
-use Prim.Native.Nat.{ℕ, _+_, _-_, _*_, _/_, _%_, _^_, _≤_, _<_}
+use Prim.Native.Nat.{ℕ, _+_, _-_, _*_, _^_, _≤_, _<_}
 use mathlib.Core.Bool.{false}
-use mathlib.Core.Path.{_≡_, sym, ap, _∙_, subst}
+use mathlib.Core.Path.{sym, subst}
 use native.Mathlib.Nat.{lt-of-lt-of-le}
-use native.Mathlib.Omega.{arith}
 use lib.Dec.{T, lit<}
 use lib.Ieee.{Float, binary64, fits}
 use lib.Ieee.Exact.{HasValue}
 use lib.Ieee.Positive.{positive}
 use Rattle.laws.proofs.Value.{enlarged}
 use Rattle.root.specs.Root.{root, nearestRoot, halfDigits, scaled}
-use Rattle.root.specs.Inner.{leading, Significand, significandRoot}
+use Rattle.root.specs.Inner.{Significand}
 use Rattle.root.proofs.Squares.{nearest-root, low-square, high-square}
 use Rattle.root.proofs.Scaling.{scaled-of, scaled-exact, scaled-range, half-digits-of}
 use Rattle.root.proofs.Patterns.{root-is-significand, root-value}

@@ -7,7 +7,6 @@ use native.Mathlib.Nat.{zero-lt-suc}
 use lib.Dec.{T, ltb, lt→ltb}
 use lib.Ieee.{Float, nan, inf, fin, Format, binary64, prec, emax, low, up, down, odd, units, round, sum, add, mul, fits}
 use lib.Ieee.Fits.{nan-fits, inf-fits, round-fits, add-fits}
-use lib.Ieee.Positive.{positive}
 use lib.Ieee.Scale.{finite}
 use Rattle.laws.specs.Binary64.{_⊕_, _⊗_}
 use Rattle.root.specs.Root.{root, scaledBack, nearestRoot, scaled, halfDigits, magnitude}

@@ -8,7 +8,7 @@ use native.Mathlib.Nat.{le-antisymm, add-sub-of-le, mul-le-mul, pow-suc, div-lt-
 use native.Mathlib.Omega.{arith}
 use borrow.Author.Tests.{leb-true, leb-false}
 use lib.Dec.{leb}
-use Rattle.laws.proofs.Cases.{outcome, lt-or-le}
+use Rattle.laws.proofs.Cases.{lt-or-le}
 use Rattle.laws.proofs.Products.{quotient-low, quotient-high}
 use Rattle.root.specs.Root.{floorRoot, nearestRoot}
 

@@ -68,9 +68,10 @@ fn same_list<T: PartialEq + Debug>(what: &str, library: &[T], rust: &[T]) -> Res
     }
 }
 
-/// The bits of a number, all not-a-numbers being equal.
+/// The bits of a number, all not-a-numbers being equal. Chosen among bits: a compiler may take one not-a-number for
+/// another.
 fn bits(value: f64) -> u64 {
-    oracle::canonical(value).to_bits()
+    if value.is_nan() { 0x7FF8_0000_0000_0000 } else { value.to_bits() }
 }
 
 fn samples(words: &[u32]) -> Vec<[f64; 4]> {
@@ -426,7 +427,17 @@ fn key_frame(case: &mut Case) -> Result<(), String> {
     let ours = row(belt::encode_global_motion(FrameKind::Key, &types, &models, flag, &prior, start, &mut after));
     case.accepted = ours.is_ok();
     let plain = (types, models) == ([0; 7], belt::IDENTITIES);
-    same("bits", ours, if start > 7 { Err(START_OVER) } else if plain { Ok(0) } else { Err(OFF_GRID) })?;
+    same(
+        "bits",
+        ours,
+        if start > 7 {
+            Err(START_OVER)
+        } else if plain {
+            Ok(0)
+        } else {
+            Err(OFF_GRID)
+        },
+    )?;
     same_list("bytes", &after, &before)?;
     let read = row(belt::read_global_motion(FrameKind::Key, &after, at, flag, &prior));
     let read = read.map(|read| (read.types, read.models.map(|model| model.0), read.bits));
