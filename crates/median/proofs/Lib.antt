@@ -1,0 +1,5 @@
+pub mod Rising
+pub mod Patterns
+pub mod Search
+pub mod Counting
+pub mod AnyOrder
