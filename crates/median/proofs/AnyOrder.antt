@@ -1,22 +1,20 @@
--- The order of a list plays no part in its median: lists of the same plain numbers, each equally often, are one ordered list. And what makes a list fit for the search.
+-- The order of a list plays no part in its median: lists of the same plain numbers, each equally often, are one ordered list.
 -- Assumes nothing.
-use Prim.Native.Nat.{ℕ, suc, _+_, _/_}
-use mathlib.Core.Bool.{true, false, false≢true}
+use Prim.Native.Nat.{ℕ, suc}
+use mathlib.Core.Bool.{true, false}
 use mathlib.Core.List.{List, [], _∷_, map}
 use mathlib.Core.Logic.{⊎-elim}
 use mathlib.Core.Path.{_≡_, refl, sym, ap, _∙_}
 use native.Mathlib.Omega.{arith}
-use lib.Dec.{T, eqb}
-use lib.IntN.{ℤ, pos, natAbs, _+ℤ_}
+use lib.Dec.{eqb}
+use lib.IntN.{ℤ, pos, natAbs}
 use lib.ListN.{length, getD, drop}
-use lib.Ieee.{Float, binary64, fits, le, toBits}
-use lib.Ieee.Scale.{finite}
+use lib.Ieee.{Float, binary64, le, toBits}
 use Rattle.laws.specs.Refusal.{choose}
 use Rattle.laws.specs.Stands.{Each, sumOf}
-use Rattle.laws.specs.Binary64.{nought}
 use Rattle.laws.proofs.Cases.{outcome}
-use Rattle.median.specs.Median.{insert, ordered, median, allFinite}
-use Rattle.median.specs.Inner.{Plain, unsigned}
+use Rattle.median.specs.Median.{insert, ordered, median}
+use Rattle.median.specs.Inner.{Plain}
 use Rattle.median.specs.Same.{times, SameNumbers}
 use Rattle.median.proofs.Patterns.{one-pattern}
 use Rattle.median.proofs.Rising.{standing, same-sorted}
@@ -75,18 +73,3 @@ module _ {A : Type 0} (f : A → Float) where
   pub same-mapped : (ws vs : List A) → ((whole : A → ℤ) → sumOf whole ws ≡ sumOf whole vs) → SameNumbers (map f ws) (map f vs)
   same-mapped ws vs h =
       record { often = λ b. ap natAbs (sym (times-mapped b ws) ∙ h (λ w. pos (choose (eqb (toBits binary64 (f w)) b) 1 0)) ∙ times-mapped b vs) }
-
-  pub each-mapped : (P : Float → Type 0) → ((w : A) → P (f w)) → (ws : List A) → Each P (map f ws)
-  each-mapped P h [] = tt
-  each-mapped P h (w ∷ ws) = (h w, each-mapped P h ws)
-
--- ---- plain
-
--- numbers without sign that turn out to be finite
-pub each-plain : (xs : List Float) → Each (λ x. T (fits binary64 x) × (unsigned x ≡ true)) xs → allFinite xs ≡ true → Each Plain xs
-each-plain [] e t = tt
-each-plain (x ∷ xs) e t =
-    ⊎-elim
-    (λ (f : finite x ≡ true). (record { held = e .0 .0; bare = e .0 .1; ends = f }, each-plain xs (e .1) (rw f at t)))
-    (λ (f : finite x ≡ false). absurd (false≢true (rw f at t)))
-    (outcome (finite x))

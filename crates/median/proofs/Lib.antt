@@ -3,3 +3,5 @@ pub mod Patterns
 pub mod Search
 pub mod Counting
 pub mod AnyOrder
+pub mod PlainLists
+pub mod Worked

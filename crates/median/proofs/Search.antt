@@ -1,10 +1,10 @@
 -- The search for a median: a list in order has its patterns in order, so the pattern at half its length is the one below which at most that many lie, and below the next of which more lie.
 -- Assumes nothing.
 use Prim.Native.Nat.{ℕ, zero, suc, _+_, _/_, _≤_, _<_}
-use mathlib.Core.Bool.{Bool, true, false, not}
+use mathlib.Core.Bool.{true, false}
 use mathlib.Core.List.{List, [], _∷_, map}
 use mathlib.Core.Logic.{⊎-elim}
-use mathlib.Core.Path.{_≡_, refl, sym, ap, _∙_, subst}
+use mathlib.Core.Path.{_≡_, refl, sym, ap, _∙_}
 use native.Mathlib.Nat.{le-refl}
 use native.Mathlib.Omega.{arith}
 use borrow.Author.Tests.{lt-ltb}
@@ -12,7 +12,6 @@ use lib.Dec.{ltb}
 use lib.ListN.{length, getD, List·getD-map}
 use lib.Ieee.{Float, binary64, le, ofBits, toBits}
 use lib.Ieee.Bits.{ofBits-toBits}
-use Rattle.laws.specs.Refusal.{choose}
 use Rattle.laws.specs.Stands.{Each}
 use Rattle.laws.specs.Binary64.{nought}
 use Rattle.laws.proofs.Cases.{outcome}
