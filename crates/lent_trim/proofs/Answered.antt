@@ -10,7 +10,7 @@ use lib.ListN.{length, replicate, length-map}
 use Rattle.laws.specs.Binary64.{nought}
 use Rattle.laws.specs.Call.{answered}
 use Rattle.laws.specs.Refusal.{orElse}
-use Rattle.laws.proofs.Call.{answered-refused}
+use Rattle.laws.proofs.Call.{answered-accepted, answered-refused}
 use Rattle.laws.proofs.Refusal.{or-else-refused}
 use Rattle.sample.specs.declared.MotionSample.{MotionSample}
 use Rattle.fit.specs.declared.Fitted.the-variants.{Refused}
@@ -28,6 +28,12 @@ use Rattle.lent_trim.proofs.ReadBack.{read-back}
 abbrev pub handed-on : List MotionSample → List MotionSample
 handed-on ys = samplesIn (kept-of stored ys (taken (length ys)) (replicate mostNumbers nought)) (length ys)
 
+-- all of a list that row 1 lets pass
+all-handed-on : (ys : List MotionSample) → listRefusal (length ys) ≡ 0 → handed-on ys ≡ ys
+all-handed-on ys e =
+    ap (λ (m : ℕ). samplesIn (kept-of stored ys m (replicate mostNumbers nought)) (length ys)) (answered-accepted (λ (n : ℕ). 0) (listRefusal (length ys)) (length ys) e)
+    ∙ read-back ys (list-few (length ys) e)
+
 count-of : (numbers : List Float) (n : ℕ) → length (samplesIn numbers n) ≡ n
 count-of numbers n = length-map (upTo n) (sampleAt numbers) ∙ length-upTo n
 
@@ -43,7 +49,7 @@ module _ {B : Type 0} (gmType : ℕ) (refused : ℕ → B) (rest : List MotionSa
       ap (λ (n : ℕ). answered refused n (answer xs)) (sym all) ∙ answered-refused refused (listRefusal (length xs)) (answer xs) h
 
   either-way : (ys : List MotionSample) (k : ℕ) → listRefusal (length ys) ≡ k → call (handed-on ys) ≡ call ys
-  either-way ys zero e = rw e (ap call (read-back ys (list-few (length ys) e)))
+  either-way ys zero e = ap call (all-handed-on ys e)
   either-way ys (suc k) e =
       let h : listRefusal (length ys) ≡ 0 → ⊥ = λ z. let x : _≡_ {A = ℕ} (suc k) 0 = sym e ∙ z in absurd (omega arith) in
       let same : length (handed-on ys) ≡ length ys = count-of (kept-of stored ys (taken (length ys)) (replicate mostNumbers nought)) (length ys) in
