@@ -1,4 +1,4 @@
-/* The proved library's calls (crates/belt and lent_fit), for C and C++ on x86-64 Linux. docs/RULES.md has the rules: what a
+/* The proved library's calls (crates/belt, lent_fit and lent_trim), for C and C++ on x86-64 Linux. docs/RULES.md has the rules: what a
    plane, a sample word, a block, a model and a header are, bit by bit; names in quotes are its sections.
    belt_motion.h beside this file reads words and models in pels.
 
@@ -161,6 +161,8 @@ static inline struct belt_model belt_x_first(uint8_t type, struct belt_stored_mo
 struct belt_motion_sample { double x; double y; double u; double v; };
 /* A fitted model to be put on the grid: its type, 1 to 3, the flag, and the numbers of its fit. */
 struct belt_to_quantize { uint8_t type; uint8_t flag; double numbers[6]; };
+/* A fit after trimming to be put on the grid: its type, 1 to 3, and the flag. */
+struct belt_to_trim { uint8_t type; uint8_t flag; };
 /* How many samples were found, and how many rows of absolute differences were added to find them. */
 struct belt_searched { uint32_t refusal; size_t samples; uint32_t rows; };
 /* Two numbers of a translation, four of a rotation-zoom, six of an affine model, x first, zeros after them. */
@@ -257,6 +259,14 @@ struct belt_quantized_model belt_quantize_model_samples(
     const struct belt_motion_sample *samples, size_t sample_count, struct belt_to_quantize model);
 struct belt_score belt_mean_sq_residual_samples(
     const struct belt_motion_sample *samples, size_t sample_count, struct belt_model model);
+
+/* Fits after trimming over samples instead of words, and those fits on the grid ('Trimming').
+   Refuse: 1, 4, 15, 6, 16 where a sample lies so far from the first fit that the square isn't finite, or no number says
+   how far, and 6 of the second fit. */
+struct belt_trimmed belt_fit_trimmed_samples(
+    const struct belt_motion_sample *samples, size_t sample_count, uint8_t type);
+struct belt_trimmed_model belt_quantize_trimmed_samples(
+    const struct belt_motion_sample *samples, size_t sample_count, struct belt_to_trim codes);
 
 /* One number on the grid ('Grid').
    In: type 0 to 3, flag, slot 0 to 5 and any number. Out: the codable number nearest to it.

@@ -233,6 +233,16 @@ static void trimming(struct belt_settings settings) {
     refused("belt_quantize_trimmed", model.refusal);
     printf("after trimming: %u of %u samples used\n", (unsigned)model.used, (unsigned)report.samples);
     same(fitted.used == model.used && memcmp(&model.model, &own, sizeof own) == 0, "model after trimming");
+    static struct belt_motion_sample samples[SAMPLES];
+    for (size_t i = 0; i < SAMPLES; i++)
+        samples[i] = belt_motion_sample_of(words[i]);
+    const struct belt_to_trim codes = {settings.type, settings.flag};
+    struct belt_trimmed again = belt_fit_trimmed_samples(samples, SAMPLES, settings.type);
+    refused("belt_fit_trimmed_samples", again.refusal);
+    struct belt_trimmed_model model_again = belt_quantize_trimmed_samples(samples, SAMPLES, codes);
+    refused("belt_quantize_trimmed_samples", model_again.refusal);
+    same(memcmp(&again, &fitted, sizeof fitted) == 0 && memcmp(&model_again, &model, sizeof model) == 0,
+         "fit and model after trimming, over samples");
 }
 
 /* A pan by 40 columns is beyond the range: no row refuses it, but few samples agree. */
@@ -279,6 +289,13 @@ static void refusals(struct belt_settings settings) {
     wants("a rotation-zoom of equal samples", belt_fit_rotzoom_samples(many_samples, 9).refusal, BELT_SINGULAR);
     wants("type 4 on the grid, over samples", belt_quantize_model_samples(many_samples, 9, no_type).refusal,
           BELT_NO_SUCH_CODE);
+    const struct belt_to_trim codes = {BELT_TRANSLATION, 2};
+    wants("flag 2 after trimming, over samples", belt_quantize_trimmed_samples(many_samples, 3, codes).refusal,
+          BELT_NO_SUCH_CODE);
+    wants("3 samples after trimming", belt_fit_trimmed_samples(many_samples, 3, BELT_TRANSLATION).refusal, BELT_TOO_FEW);
+    many_samples[0].u = 1e200;
+    wants("a motion of 1e200 pels after trimming", belt_fit_trimmed_samples(many_samples, 4, BELT_TRANSLATION).refusal,
+          BELT_NOT_FINITE);
     wants("type 4 on the grid", belt_quantize_model(4, numbers, 1, words, SAMPLES).refusal, BELT_NO_SUCH_CODE);
     wants("slot 6", belt_quantize_global_param(BELT_AFFINE, 1, 6, 0).refusal, BELT_NO_SUCH_SLOT);
     wants("words that fall", belt_write_frame(5, falling, 2, zeros, 2, blocks, BLOCKS).refusal, BELT_NOT_RISING);

@@ -445,6 +445,20 @@ def quantize_model_samples(fitted, flag, samples):
     return Model(_call("belt_quantize_model_samples", _samples(samples), model).params)
 
 
+def fit_trimmed_samples(gm_type, samples):
+    """As fit_trimmed, over samples: four numbers x, y, u, v each, of any value. Refuses 1, 4, 15, 6, 16, and 6 of the second
+    fit."""
+    answer = _call("belt_fit_trimmed_samples", _samples(samples), _code(gm_type, "gm_type"))
+    return Trimmed(Fitted(gm_type, tuple(answer.numbers)), answer.used)
+
+
+def quantize_trimmed_samples(gm_type, flag, samples):
+    """The same on the grid of a flag, its translation fitted again to the samples used: a TrimmedModel."""
+    codes = _raw.ToTrim(_code(gm_type, "gm_type"), _code(flag, "flag"))
+    answer = _call("belt_quantize_trimmed_samples", _samples(samples), codes)
+    return TrimmedModel(Model(answer.params), answer.used)
+
+
 def mean_sq_residual_samples(model, samples):
     """As mean_sq_residual, over samples: four numbers x, y, u, v each, of any value. Refuses 1."""
     if not isinstance(model, Model):

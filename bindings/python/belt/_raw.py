@@ -1,4 +1,4 @@
-"""The shared library's declarations, by ctypes: every call and struct of crates/belt and lent_fit, and nothing else.
+"""The shared library's declarations, by ctypes: every call and struct of crates/belt, lent_fit and lent_trim, and no more.
 
 `bindings/declarations` holds them to the library's own.
 """
@@ -27,6 +27,10 @@ class ToQuantize(ctypes.Structure):
 
 class MotionSample(ctypes.Structure):
     _fields_ = [("x", c_double), ("y", c_double), ("u", c_double), ("v", c_double)]
+
+
+class ToTrim(ctypes.Structure):
+    _fields_ = [("gm_type", c_uint8), ("flag", c_uint8)]
 
 
 class QuantizedModel(ctypes.Structure):
@@ -140,6 +144,8 @@ CALLS = {
     "belt_fit_affine_samples": (_SAMPLES, FitAnswer),
     "belt_quantize_model_samples": (_SAMPLES + [ToQuantize], QuantizedModel),
     "belt_mean_sq_residual_samples": (_SAMPLES + [Params], Score),
+    "belt_fit_trimmed_samples": (_SAMPLES + [c_uint8], Trimmed),
+    "belt_quantize_trimmed_samples": (_SAMPLES + [ToTrim], TrimmedModel),
     "belt_quantize_global_param": ([c_uint8, c_uint8, c_uint8, c_int32], QuantizedParam),
     "belt_write_frame": ([c_uint16] + _WORDS + _BYTES + _BYTES, Stored),
     "belt_read_both": (_BYTES + _WORDS + _BYTES, FrameRead),

@@ -324,6 +324,24 @@ class Refusals(Refused):
             self.refused(15, belt.quantize_trimmed, gm_type, 1, words(least - 1))
         self.refused(6, belt.fit_trimmed, 2, [words(1)[0]] * 6)
 
+    def test_fits_of_samples_after_trimming(self):
+        def moving(*motions):
+            return [(0.1 * place, -0.2, u, 0.0) for place, u in enumerate(motions)]
+
+        fitted, used = belt.fit_trimmed_samples(1, moving(0.1, 0.1, 0.1, 0.1, 80))
+        self.assertEqual((fitted.numbers, used), ((0.1,) + (0.0,) * 5, 4))
+        self.assertEqual(belt.fit_trimmed_samples(1, moving(1e150, 0, 0, 0)).used, 4)
+        self.assertEqual(belt.quantize_trimmed_samples(1, 1, moving(0, 0, 0, 0, 80)), (Model(belt.STILL), 4))
+        self.refused(1, belt.fit_trimmed_samples, 0, moving(*[0.0] * 4097))
+        self.refused(1, belt.quantize_trimmed_samples, 1, 2, moving(*[0.0] * 4097))
+        self.refused(4, belt.fit_trimmed_samples, 4, [])
+        self.refused(4, belt.quantize_trimmed_samples, 1, 2, [])
+        self.refused(15, belt.fit_trimmed_samples, 1, moving(math.nan, 0, 0))
+        self.refused(6, belt.fit_trimmed_samples, 2, [(1.0, 2.0, math.nan, 0.0)] * 6)
+        for far in (1e200, math.inf, math.nan):
+            self.refused(16, belt.fit_trimmed_samples, 1, moving(far, 0, 0, 0))
+            self.refused(16, belt.quantize_trimmed_samples, 1, 0, moving(far, 0, 0, 0))
+
     def test_fits_and_scores_of_samples(self):
         many = [(0.1 * i, 0.2, math.inf, -0.0) for i in range(4097)]
         for fit in (belt.fit_translation_samples, belt.fit_rotzoom_samples, belt.fit_affine_samples):

@@ -428,7 +428,10 @@ pub struct TrimmedModel {
 /// # Ok::<(), belt::Refusal>(())
 /// ```
 pub fn fit_trimmed(gm_type: u8, words: &[u32]) -> Result<Trimmed, Refusal> {
-    let answer = raw::fit_trimmed(gm_type, words);
+    trimmed(gm_type, raw::fit_trimmed(gm_type, words))
+}
+
+fn trimmed(gm_type: u8, answer: raw::Trimmed) -> Result<Trimmed, Refusal> {
     let fitted = Fitted { gm_type, numbers: answer.numbers };
     judged(answer.refusal, Trimmed { fitted, used: answer.used as usize })
 }
@@ -439,7 +442,10 @@ pub fn fit_trimmed(gm_type: u8, words: &[u32]) -> Result<Trimmed, Refusal> {
 ///
 /// As [`fit_trimmed`]; the flag is judged with the type.
 pub fn quantize_trimmed(gm_type: u8, flag: u8, words: &[u32]) -> Result<TrimmedModel, Refusal> {
-    let answer = raw::quantize_trimmed(gm_type, flag, words);
+    trimmed_model(raw::quantize_trimmed(gm_type, flag, words))
+}
+
+fn trimmed_model(answer: raw::TrimmedModel) -> Result<TrimmedModel, Refusal> {
     judged(answer.refusal, TrimmedModel { model: answer.params, used: answer.used as usize })
 }
 
@@ -521,6 +527,34 @@ pub fn quantize_model_samples(fitted: &Fitted, flag: u8, samples: &[MotionSample
 pub fn mean_sq_residual_samples(model: &Model, samples: &[MotionSample]) -> Result<f64, Refusal> {
     let answer = raw::mean_sq_residual_samples(samples, raw::Params { numbers: model.0 });
     judged(answer.refusal, answer.score)
+}
+
+/// As [`fit_trimmed`], over samples of any four numbers.
+///
+/// # Errors
+///
+/// [`Refusal::TooLarge`], [`Refusal::NoSuchCode`], [`Refusal::TooFew`], [`Refusal::Singular`] of either fit,
+/// [`Refusal::NotFinite`] where the square of a sample's distance from the first fit isn't finite.
+///
+/// ```
+/// let moving = |u| belt::MotionSample { x: 0.1, y: 0.2, u, v: 0.0 };
+/// let samples = [10.0, 0.0, 0.0, 0.0, 0.0].map(moving);
+/// assert_eq!(belt::fit_trimmed_samples(1, &samples)?.used, 4);
+/// let far = [1e200, 0.0, 0.0, 0.0].map(moving);
+/// assert_eq!(belt::fit_trimmed_samples(1, &far), Err(belt::Refusal::NotFinite));
+/// # Ok::<(), belt::Refusal>(())
+/// ```
+pub fn fit_trimmed_samples(gm_type: u8, samples: &[MotionSample]) -> Result<Trimmed, Refusal> {
+    trimmed(gm_type, raw::fit_trimmed_samples(samples, gm_type))
+}
+
+/// The same on the grid of a flag.
+///
+/// # Errors
+///
+/// As [`fit_trimmed_samples`]; the flag is judged with the type.
+pub fn quantize_trimmed_samples(gm_type: u8, flag: u8, samples: &[MotionSample]) -> Result<TrimmedModel, Refusal> {
+    trimmed_model(raw::quantize_trimmed_samples(samples, raw::ToTrim { gm_type, flag }))
 }
 
 /// The codable number nearest to a value ('Grid'), for type 0 to 3 and slot 0 to 5.

@@ -41,6 +41,12 @@ pub struct ToQuantize {
 }
 
 #[repr(C)]
+pub struct ToTrim {
+    pub gm_type: u8,
+    pub flag: u8,
+}
+
+#[repr(C)]
 pub struct QuantizedModel {
     pub refusal: u32,
     pub params: Model,
@@ -191,6 +197,8 @@ unsafe extern "C" {
     fn belt_fit_affine_samples(samples: *const MotionSample, count: usize) -> FitAnswer;
     fn belt_quantize_model_samples(samples: *const MotionSample, count: usize, model: ToQuantize) -> QuantizedModel;
     fn belt_mean_sq_residual_samples(samples: *const MotionSample, count: usize, model: Params) -> Score;
+    fn belt_fit_trimmed_samples(samples: *const MotionSample, count: usize, gm_type: u8) -> Trimmed;
+    fn belt_quantize_trimmed_samples(samples: *const MotionSample, count: usize, codes: ToTrim) -> TrimmedModel;
     fn belt_quantize_global_param(gm_type: u8, flag: u8, slot: u8, value: i32) -> QuantizedParam;
     fn belt_write_frame(
         frame: u16,
@@ -402,6 +410,16 @@ pub fn fit_affine_samples(samples: &[MotionSample]) -> FitAnswer {
 pub fn quantize_model_samples(samples: &[MotionSample], model: ToQuantize) -> QuantizedModel {
     // SAFETY: numbers, and one slice is read.
     unsafe { belt_quantize_model_samples(samples.as_ptr(), samples.len(), model) }
+}
+
+pub fn fit_trimmed_samples(samples: &[MotionSample], gm_type: u8) -> Trimmed {
+    // SAFETY: one slice is read.
+    unsafe { belt_fit_trimmed_samples(samples.as_ptr(), samples.len(), gm_type) }
+}
+
+pub fn quantize_trimmed_samples(samples: &[MotionSample], codes: ToTrim) -> TrimmedModel {
+    // SAFETY: one slice is read.
+    unsafe { belt_quantize_trimmed_samples(samples.as_ptr(), samples.len(), codes) }
 }
 
 pub fn mean_sq_residual_samples(samples: &[MotionSample], model: Params) -> Score {

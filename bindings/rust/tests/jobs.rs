@@ -61,6 +61,9 @@ fn run(handed: &Handed) -> (Report, Buffers) {
     assert_eq!(fits[usize::from(settings.gm_type) - 1](&made).unwrap(), fitted);
     assert_eq!(belt::quantize_model_samples(&fitted, settings.flag, &made).unwrap(), model);
     assert_eq!(belt::mean_sq_residual_samples(&model, &made).unwrap(), report.score);
+    let (kind, flag) = (settings.gm_type, settings.flag);
+    assert_eq!(belt::fit_trimmed_samples(kind, &made), belt::fit_trimmed(kind, words));
+    assert_eq!(belt::quantize_trimmed_samples(kind, flag, &made), belt::quantize_trimmed(kind, flag, words));
 
     // the six others keep their order
     let mut types = handed.types.clone();

@@ -230,6 +230,33 @@ fn fits_after_trimming() {
     let lined: Vec<u32> = many[..10].iter().copied().chain(far).collect();
     assert!(belt::fit_affine(&lined).is_ok() && belt::fit_trimmed(2, &lined).is_ok());
     assert_eq!(belt::fit_trimmed(3, &lined), Err(Singular));
+    let samples: Vec<_> = lined.iter().map(|&word| belt::MotionSample::of_word(word)).collect();
+    assert_eq!(belt::fit_trimmed_samples(2, &samples), belt::fit_trimmed(2, &lined));
+    assert_eq!(belt::quantize_trimmed_samples(2, 1, &samples), belt::quantize_trimmed(2, 1, &lined));
+    assert_eq!(belt::fit_trimmed_samples(3, &samples), Err(Singular));
+}
+
+#[test]
+fn fits_of_samples_after_trimming() {
+    let moving = |count: usize, u| {
+        let mut samples = vec![belt::MotionSample { x: 0.5, y: -0.5, u: 0.0, v: 0.0 }; count];
+        samples[0].u = u;
+        samples
+    };
+    assert_eq!(belt::fit_trimmed_samples(0, &moving(4097, 0.0)), Err(TooLarge));
+    assert_eq!(belt::quantize_trimmed_samples(1, 2, &moving(4097, 0.0)), Err(TooLarge));
+    assert_eq!(belt::fit_trimmed_samples(4, &[]), Err(NoSuchCode));
+    assert_eq!(belt::quantize_trimmed_samples(1, 2, &[]), Err(NoSuchCode));
+    for (gm_type, least) in [(1, 4), (2, 6), (3, 8)] {
+        assert_eq!(belt::fit_trimmed_samples(gm_type, &moving(least - 1, f64::NAN)), Err(TooFew));
+        assert_eq!(belt::quantize_trimmed_samples(gm_type, 1, &moving(least - 1, 0.0)), Err(TooFew));
+        assert_eq!(belt::fit_trimmed_samples(gm_type, &moving(least, 0.0)).is_ok(), gm_type == 1);
+    }
+    assert_eq!(belt::fit_trimmed_samples(1, &moving(4, 1e150)).map(|trimmed| trimmed.used), Ok(4));
+    for far in [1e200, f64::INFINITY, f64::NAN] {
+        assert_eq!(belt::fit_trimmed_samples(1, &moving(4, far)), Err(NotFinite));
+        assert_eq!(belt::quantize_trimmed_samples(1, 0, &moving(4096, far)), Err(NotFinite));
+    }
 }
 
 #[test]

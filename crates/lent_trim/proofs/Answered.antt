@@ -4,9 +4,8 @@ use Prim.Native.Nat.{ℕ, zero, suc}
 use mathlib.Core.List.{List}
 use mathlib.Core.Path.{_≡_, refl, sym, ap, _∙_}
 use native.Mathlib.Omega.{arith}
-use lib.Ieee.{Float}
 use lib.IntN.{pos}
-use lib.ListN.{length, replicate, length-map}
+use lib.ListN.{length, replicate}
 use Rattle.laws.specs.Binary64.{nought}
 use Rattle.laws.specs.Call.{answered}
 use Rattle.laws.specs.Refusal.{orElse}
@@ -19,8 +18,8 @@ use Rattle.fit.specs.Inner.{taken}
 use Rattle.fit.proofs.Accepted.{list-few}
 use Rattle.quantize.specs.Quantize.{paramsFrom}
 use Rattle.trim.specs.Trim.{lastFrom, usedFrom, fewRefusal, flagRefusal, trimRefusal, trimmedAs, trimmedFrom, trimmedModelAs, trimmedModelFrom}
-use Rattle.trim.specs.Inner.{itself, mostNumbers, sampleAt, upTo, samplesIn, stored}
-use Rattle.trim.proofs.Indices.{length-upTo}
+use Rattle.trim.specs.Inner.{itself, mostNumbers, samplesIn, stored}
+use Rattle.trim.proofs.Mapped.{length-samplesIn}
 use Rattle.lent_trim.proofs.Walk.{kept-of}
 use Rattle.lent_trim.proofs.ReadBack.{read-back}
 
@@ -33,9 +32,6 @@ all-handed-on : (ys : List MotionSample) → listRefusal (length ys) ≡ 0 → h
 all-handed-on ys e =
     ap (λ (m : ℕ). samplesIn (kept-of stored ys m (replicate mostNumbers nought)) (length ys)) (answered-accepted (λ (n : ℕ). 0) (listRefusal (length ys)) (length ys) e)
     ∙ read-back ys (list-few (length ys) e)
-
-count-of : (numbers : List Float) (n : ℕ) → length (samplesIn numbers n) ≡ n
-count-of numbers n = length-map (upTo n) (sampleAt numbers) ∙ length-upTo n
 
 -- a call whose rows begin with those of a fit
 module _ {B : Type 0} (gmType : ℕ) (refused : ℕ → B) (rest : List MotionSample → ℕ) (answer : List MotionSample → B) where
@@ -52,7 +48,7 @@ module _ {B : Type 0} (gmType : ℕ) (refused : ℕ → B) (rest : List MotionSa
   either-way ys zero e = ap call (all-handed-on ys e)
   either-way ys (suc k) e =
       let h : listRefusal (length ys) ≡ 0 → ⊥ = λ z. let x : _≡_ {A = ℕ} (suc k) 0 = sym e ∙ z in absurd (omega arith) in
-      let same : length (handed-on ys) ≡ length ys = count-of (kept-of stored ys (taken (length ys)) (replicate mostNumbers nought)) (length ys) in
+      let same : length (handed-on ys) ≡ length ys = length-samplesIn (kept-of stored ys (taken (length ys)) (replicate mostNumbers nought)) (length ys) in
       too-many (handed-on ys) (λ z. h (ap listRefusal (sym same) ∙ z)) ∙ ap (λ (n : ℕ). refused (listRefusal n)) same ∙ sym (too-many ys h)
 
   call-answered : (ys : List MotionSample) → call (handed-on ys) ≡ call ys
