@@ -390,6 +390,10 @@ struct belt_report belt_job(
    Refuses: 2, 4, 7 (types 0 and 1 too). */
 struct belt_shear belt_setup_shear(uint8_t type, const int32_t *params, size_t param_count);
 
+/* The root of a number, correctly rounded ('Root'): a zero, plus infinity and a not-a-number are their own
+   roots, and a number below 0 has none, which is a not-a-number. Refuses nothing. */
+double belt_root(double x);
+
 /* A belt to practise on ('Practice belt').
    In: a seed, the sides of both planes, and a motion of dy rows and dx columns, each at most BELT_MOST_SHIFT pels
    either way. Out: a reference plane of noise, width x height pels row by row, and the input plane, whose pel at a

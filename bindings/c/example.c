@@ -311,6 +311,12 @@ static void refusals(struct belt_settings settings) {
           belt_make_practice_planes(1, WIDTH, HEIGHT, 0, -25, input, PELS, reference, PELS).refusal, BELT_TOO_FAR);
 }
 
+/* Correctly rounded: 2, and the least number above 0; a number below 0 has no root. */
+static void roots(void) {
+    double none = belt_root(-1.0);
+    same(belt_root(2.0) == 1.4142135623730951 && belt_root(5e-324) == 2.2227587494850775e-162 && none != none, "roots");
+}
+
 /* The same belt on every machine. */
 static void practise(void) {
     struct belt_made made = belt_make_practice_planes(1, 2, 2, 1, -1, input, PELS, reference, PELS);
@@ -347,6 +353,7 @@ int main(void) {
     trimming(settings);
     too_far(settings);
     refusals(settings);
+    roots();
     practise();
     return 0;
 }

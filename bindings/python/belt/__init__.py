@@ -619,6 +619,12 @@ def setup_shear(gm_type, params):
     return Shear(read.valid == 1, read.alpha, read.beta, read.gamma, read.delta)
 
 
+def root(x):
+    """The root of a number, correctly rounded ('Root'). A zero, plus infinity and a not-a-number are their own roots; a
+    number below 0 has none, which is a not-a-number."""
+    return _raw.library.belt_root(x)
+
+
 def make_practice_planes(seed, width, height, dy, dx, input_y, reference):
     """Makes a belt to practise on ('Practice belt'): a reference plane of noise, and an input plane whose pel at a place
     is the reference pel dy rows further down and dx columns further right, clamped. Answers how many pels each has.

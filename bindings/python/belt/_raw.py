@@ -155,6 +155,7 @@ CALLS = {
     "belt_coefficient_prices": ([c_uint8, c_uint8, c_uint8, c_int32], PriceList),
     "belt_frame_price": ([c_bool] + _BYTES + _NUMBERS + [c_uint8] + _NUMBERS, Price),
     "belt_setup_shear": ([c_uint8] + _NUMBERS, Shear),
+    "belt_root": ([c_double], c_double),
     "belt_make_practice_planes": ([c_uint32, c_size_t, c_size_t, c_int32, c_int32] + _PELS + _PELS, Made),
     "belt_job": (
         _PELS

@@ -498,6 +498,14 @@ class Shears(Refused):
         self.refused(7, belt.setup_shear, 1, belt.STILL)
 
 
+class Roots(unittest.TestCase):
+    def test_root(self):
+        self.assertEqual(belt.root(2.0).hex(), "0x1.6a09e667f3bcdp+0")
+        self.assertEqual(str(belt.root(-0.0)), "-0.0")
+        self.assertEqual(belt.root(float("inf")), float("inf"))
+        self.assertNotEqual(belt.root(-1.0), belt.root(-1.0))
+
+
 class Prices(Refused):
     def test_coefficient(self):
         self.assertEqual(belt.coefficient_prices(1, 1, 0, 0), (8, 8, 0, 16, 0, 32, 0, 64, 0, 128, 0, 256, 511, 2))

@@ -942,6 +942,18 @@ pub fn setup_shear(gm_type: u8, params: &[i32]) -> Result<Shear, Refusal> {
     judged_lists(refusal, shear, || [Length::of("params", params, 6)], || [])
 }
 
+/// The root of a number, correctly rounded ('Root'). A zero, plus infinity and a not-a-number are their own roots;
+/// a number below 0 has none, which is a not-a-number.
+///
+/// ```
+/// assert_eq!(belt::root(2.0).to_bits(), 0x3FF6_A09E_667F_3BCD);
+/// assert!(belt::root(-1.0).is_nan());
+/// ```
+#[must_use]
+pub fn root(x: f64) -> f64 {
+    raw::root(x)
+}
+
 /// Makes a belt to practise on ('Practice belt'): a reference plane of noise, and the input plane whose pel at a place
 /// is the reference pel `dy` rows further down and `dx` columns further right, coordinates clamped. Answers how many
 /// pels each has. A search of the two looks for v = 8 `dy` and u = 8 `dx`.

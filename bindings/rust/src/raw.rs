@@ -268,6 +268,7 @@ unsafe extern "C" {
         prior_count: usize,
     ) -> Models;
     fn belt_setup_shear(gm_type: u8, params: *const i32, count: usize) -> Shear;
+    fn belt_root(x: f64) -> f64;
     fn belt_make_practice_planes(
         seed: u32,
         width: usize,
@@ -603,6 +604,11 @@ pub fn job(
 pub fn setup_shear(gm_type: u8, params: &[i32]) -> Shear {
     // SAFETY: one slice is read.
     unsafe { belt_setup_shear(gm_type, params.as_ptr(), params.len()) }
+}
+
+pub fn root(x: f64) -> f64 {
+    // SAFETY: a number goes in and a number comes out.
+    unsafe { belt_root(x) }
 }
 
 pub fn make_practice_planes(

@@ -1,6 +1,6 @@
 -- What the search for a median asks of its list, and what it counts.
 -- Assumes nothing.
-use Prim.Native.Nat.{ℕ, _+_, _≤_, _<_}
+use Prim.Native.Nat.{ℕ, _+_, _<_}
 use mathlib.Core.Bool.{Bool, true, not}
 use mathlib.Core.List.{List, [], _∷_}
 use mathlib.Core.Path.{_≡_}
@@ -23,13 +23,9 @@ pub record Plain (x : Float) : Type 0 where
   pub bare : unsigned x ≡ true
   pub ends : finite x ≡ true
 
--- as many as a call takes samples
-abbrev pub mostNumbers : ℕ
-mostNumbers = 4096
-
+-- a list that has a median, of such numbers
 pub record Findable (xs : List Float) : Type 0 where
   pub some : 0 < length xs
-  pub few : length xs ≤ mostNumbers
   pub plain : Each Plain xs
 
 -- how many numbers lie below a number

@@ -13,8 +13,13 @@ pub record Significand (m : ℕ) : Type 0 where
   pub low : leading ≤ m
   pub high : m < 2 * leading
 
--- the whole part of k (k + 1) / 2 ^ 52: with T * 2 ^ 52 in hand, k is too low exactly where it is below T
-abbrev pub middle : ℕ → ℕ
+-- a significand, or twice one
+pub record Tall (t : ℕ) : Type 0 where
+  pub low : leading ≤ t
+  pub high : t + 2 ≤ 4 * leading
+
+-- the whole part of k (k + 1) / 2 ^ 52: it is below t exactly where k is too low for the root of t * 2 ^ 52
+unfoldable pub middle : ℕ → ℕ
 middle k = k * (k + 1) / leading
 
 -- the root of m * 2 ^ p / 2 ^ 52, counted in the least binary64 above 0

@@ -88,15 +88,15 @@ pub record Untrimmed (gmType n : ℕ) (roots : List Float) : Type 0 where
   pub enough : leastOf gmType ≤ n
   pub clear : roots ≡ replicate mostSamples nought
 
--- after it: the fit, and each sample's root
+-- after it: the fit, and each sample's root in front of what was there
 pub record Rooted (numbers : List Float) (gmType n : ℕ) (roots : List Float) (first : Fitted) : Type 0 where
   pub few : n ≤ mostSamples
   pub enough : leastOf gmType ≤ n
   pub is : first ≡ firstFrom (sampleAt numbers) gmType (upTo n)
-  pub fitted : refusalOf first ≡ 0
+  pub fitted : refusalOf (firstFrom (sampleAt numbers) gmType (upTo n)) ≡ 0
   pub old : List Float
   pub long : length old ≡ mostSamples
-  pub rooted : roots ≡ onto (residualsFrom (sampleAt numbers) first (upTo n)) old
+  pub rooted : roots ≡ onto (residualsFrom (sampleAt numbers) (firstFrom (sampleAt numbers) gmType (upTo n)) (upTo n)) old
 
 -- the answer after rows 1, 4 and 15, and the limit that the last fit's samples are under
 pub record Cuts (numbers : List Float) (gmType n : ℕ) (roots : List Float) (c : Cut) : Type 0 where

@@ -284,6 +284,26 @@ pub fn float(random: &mut Random) -> f64 {
     }
 }
 
+/// A binary64 to take the root of: any bits, a subnormal, a power of two, a square, a sum of two squares, or one of their
+/// neighbours, of either sign; or special.
+pub fn radicand(random: &mut Random) -> f64 {
+    let special = [0.0, -0.0, f64::INFINITY, f64::NEG_INFINITY, f64::NAN, f64::MAX, f64::MIN_POSITIVE];
+    let digits = random.below(54) as u32;
+    let root = (random.bits() >> 11 >> (53 - digits)) as f64;
+    let x = match random.below(8) {
+        0 => return random.pick(&special),
+        1 => return f64::from_bits(random.bits()),
+        2 => f64::from_bits(random.bits() >> 12 >> random.below(52)),
+        3 => f64::from_bits((random.below(2047) as u64) << 52),
+        4 => root * root,
+        5 => (root + 0.5) * (root + 0.5),
+        6 => root * root + float(random) * float(random),
+        _ => f64::from_bits(random.bits() >> 1),
+    };
+    let near = f64::from_bits(x.to_bits().wrapping_add_signed(random.between(-2, 2)));
+    if random.one_in(16) { -near } else { near }
+}
+
 /// Any i32, with a share of small ones, ends, and halves of the grid's steps.
 pub fn number(random: &mut Random) -> i32 {
     let centre = random.pick(&[0, 0, 65_536]);

@@ -29,7 +29,7 @@ pub struct Kind {
     pub compare: fn(&mut Case) -> Result<(), String>,
 }
 
-pub const KINDS: [Kind; 26] = [
+pub const KINDS: [Kind; 27] = [
     Kind { name: "search", share: 4, compare: search },
     Kind { name: "fit translation", share: 4, compare: |case| fit(case, 1) },
     Kind { name: "fit rotation-zoom", share: 4, compare: |case| fit(case, 2) },
@@ -56,6 +56,7 @@ pub const KINDS: [Kind; 26] = [
     Kind { name: "blocks of form 1, by docs/RULES.md", share: 4, compare: old_frame },
     Kind { name: "shear, by clause 7.11.3.6", share: 6, compare: shear },
     Kind { name: "practice belt, by docs/RULES.md", share: 4, compare: practice },
+    Kind { name: "roots, by the processor's", share: 4, compare: roots },
 ];
 
 /// The sides of practice belts that are likely to differ.
@@ -77,9 +78,10 @@ fn same_list<T: PartialEq + Debug>(what: &str, library: &[T], rust: &[T]) -> Res
     }
 }
 
-/// The bits of a number, all not-a-numbers being equal.
+/// The bits of a number, all not-a-numbers being equal. Chosen among bits: a compiler may take one not-a-number for
+/// another.
 fn bits(value: f64) -> u64 {
-    oracle::canonical(value).to_bits()
+    if value.is_nan() { 0x7FF8_0000_0000_0000 } else { value.to_bits() }
 }
 
 fn samples(words: &[u32]) -> Vec<[f64; 4]> {
@@ -764,6 +766,15 @@ fn shear(case: &mut Case) -> Result<(), String> {
     let ours =
         belt::setup_shear(kind, &model).map(|shear| (shear.valid, [shear.alpha, shear.beta, shear.gamma, shear.delta]));
     same("shear", ours.ok(), oracle::shear(&model))
+}
+
+/// Roots of numbers of every kind, against the processor's.
+fn roots(case: &mut Case) -> Result<(), String> {
+    for _ in 0..200 {
+        let x = inputs::radicand(&mut case.random);
+        same(&format!("root of {x:?}, bits {:016X}", x.to_bits()), bits(belt::root(x)), bits(x.sqrt()))?;
+    }
+    Ok(())
 }
 
 /// A practice belt in guarded buffers, against a writing of the rule.

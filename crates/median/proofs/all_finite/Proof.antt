@@ -1,50 +1,40 @@
+-- `median::all_finite`: what is left is all finite exactly if the list is.
+-- Assumes nothing.
+use borrow.Author.Needs.{needs}
+use Prim.Native.Nat.{_-_, _≤_}
+use mathlib.Core.Path.{_≡_, refl, sym, _∙_}
+use native.Mathlib.Omega.{arith}
+use borrow.Author.Tests.{not-true, not-false}
+use lib.ListN.{length, drop}
+use Rattle.median.specs.Median.{allFinite}
+use Rattle.median.proofs.Counting.{stops, goes-on, passed}
 use Rattle.median.proofs.all_finite.Statement.{statement}
 use Rattle.median.proofs.all_finite.Tie as tie
-use Rattle.median.proofs.all_finite.Reads as reads
-use Rattle.median.proofs.all_finite.Lts as lts
-use Rattle.median.proofs.is_finite.Reads as is-finite-reads
 
 abbrev Inv-loop : tie.InvT-loop
-Inv-loop values i₀ i = ?
+Inv-loop values i₀ i = (i ≤ length values) × (allFinite (drop i values) ≡ allFinite values)
 
 abbrev μ-loop : tie.MeasureT-loop
-μ-loop values i₀ i = ?
+μ-loop values i₀ i = length values - i
 
--- src/lib.rt:60:5
 loop-holds : tie.Need-loop-holds Inv-loop μ-loop
-loop-holds c = ?
+loop-holds c = (omega arith, refl)
 
--- src/lib.rt:61:23
-mul-is-finite : tie.Need-mul-is-finite Inv-loop μ-loop
-mul-is-finite c = ?
-
--- src/lib.rt:61:23
-shared-slice-read-is-finite : tie.Need-shared-slice-read-is-finite Inv-loop μ-loop
-shared-slice-read-is-finite c = ?
-
--- src/lib.rt:61:13
-is-finite-requires : tie.Need-is-finite-requires Inv-loop μ-loop
-is-finite-requires c κs = ?
-
--- src/lib.rt:62:13
 returns : tie.Need-returns Inv-loop μ-loop
-returns c = ?
+returns c =
+    let a = c .before .before .before .before .before .before .args in
+    let loop = c .before .before .before .before .loop in
+    stops (a .values .now) (loop .i) (loop .inv .1) (c .before .before .before .loop-test .taken) (sym (c .before .is-finite .ensures) ∙ not-true _ (c .if1 .taken))
 
--- src/lib.rt:64:9
-add-i : tie.Need-add-i Inv-loop μ-loop
-add-i c = ?
-
--- src/lib.rt:60:5
-loop-less : tie.Need-loop-less Inv-loop μ-loop
-loop-less c = ?
-
--- src/lib.rt:60:5
 loop-again : tie.Need-loop-again Inv-loop μ-loop
-loop-again c = ?
+loop-again c =
+    let a = c .before .before .before .before .before .before .args in
+    let loop = c .before .before .before .before .loop in
+    (search needs, goes-on (a .values .now) (loop .i) (loop .inv .1) (c .before .before .before .loop-test .taken) (sym (c .before .is-finite .ensures) ∙ not-false _ (c .if1 .left)))
 
--- src/lib.rt:56:1
 returns-2 : tie.Need-returns-2 Inv-loop μ-loop
-returns-2 c = ?
+returns-2 c =
+    passed (c .before .before .before .args .values .now) (c .before .loop .i) (c .before .loop .inv .1) (c .loop-test .left)
 
 pub all-finite-spec : {M : Type 1} → statement M
 all-finite-spec =
@@ -53,11 +43,11 @@ all-finite-spec =
     Inv-loop
     μ-loop
     loop-holds
-    mul-is-finite
-    shared-slice-read-is-finite
-    is-finite-requires
+    (search needs)
+    (search needs)
+    (search needs)
     returns
-    add-i
-    loop-less
+    (search needs)
+    (search needs)
     loop-again
     returns-2)

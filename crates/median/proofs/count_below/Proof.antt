@@ -1,45 +1,40 @@
+-- `median::count_below`: what is counted, with what is left to count, is the whole count.
+-- Assumes nothing.
+use borrow.Author.Needs.{needs}
+use Prim.Native.Nat.{_+_, _-_, _≤_}
+use mathlib.Core.Logic.{⊎-elim}
+use mathlib.Core.Path.{_≡_}
+use native.Mathlib.Nat.{zero-add}
+use native.Mathlib.Omega.{arith}
+use lib.ListN.{length, drop}
+use Rattle.median.specs.Inner.{below}
+use Rattle.median.proofs.Counting.{counts-one, counts-none, counted}
 use Rattle.median.proofs.count_below.Statement.{statement}
 use Rattle.median.proofs.count_below.Tie as tie
-use Rattle.median.proofs.count_below.Reads as reads
-use Rattle.median.proofs.count_below.Lts as lts
 
 abbrev Inv-loop : tie.InvT-loop
-Inv-loop values key count₀ i₀ count i = ?
+Inv-loop values key count₀ i₀ count i = (i ≤ length values) × (count ≤ i) × (count + below key (drop i values) ≡ below key values)
 
 abbrev μ-loop : tie.MeasureT-loop
-μ-loop values key count₀ i₀ count i = ?
+μ-loop values key count₀ i₀ count i = length values - i
 
--- src/lib.rt:18:5
 loop-holds : tie.Need-loop-holds Inv-loop μ-loop
-loop-holds c = ?
+loop-holds c = (omega arith, omega arith, zero-add _)
 
--- src/lib.rt:19:12
-mul-if1 : tie.Need-mul-if1 Inv-loop μ-loop
-mul-if1 c = ?
-
--- src/lib.rt:19:12
-shared-slice-read-if1 : tie.Need-shared-slice-read-if1 Inv-loop μ-loop
-shared-slice-read-if1 c = ?
-
--- src/lib.rt:20:13
-add-count : tie.Need-add-count Inv-loop μ-loop
-add-count c = ?
-
--- src/lib.rt:22:9
-add-i : tie.Need-add-i Inv-loop μ-loop
-add-i c = ?
-
--- src/lib.rt:18:5
-loop-less : tie.Need-loop-less Inv-loop μ-loop
-loop-less c = ?
-
--- src/lib.rt:18:5
 loop-again : tie.Need-loop-again Inv-loop μ-loop
-loop-again c = ?
+loop-again c =
+    let a = c .before .before .before .before .args in
+    let loop = c .before .before .before .loop in
+    let inside = c .before .before .loop-test .taken in
+    ⊎-elim
+    (λ w. (omega arith, rw (w .1) (omega arith), rw (w .1) (counts-one (a .key) (a .values .now) (loop .i) (loop .count) (loop .inv .2) inside (w .0 .taken))))
+    (λ w. (omega arith, rw (w .1) (omega arith), rw (w .1) (counts-none (a .key) (a .values .now) (loop .i) (loop .count) (loop .inv .2) inside (w .0 .left))))
+    (c .if1 .came)
 
--- src/lib.rt:13:1
 returns : tie.Need-returns Inv-loop μ-loop
-returns c = ?
+returns c =
+    let a = c .before .before .args in
+    counted (a .key) (a .values .now) (c .before .loop .i) (c .before .loop .count) (c .before .loop .inv .2) (c .loop-test .left)
 
 pub count-below-spec : {M : Type 1} → statement M
 count-below-spec =
@@ -48,10 +43,10 @@ count-below-spec =
     Inv-loop
     μ-loop
     loop-holds
-    mul-if1
-    shared-slice-read-if1
-    add-count
-    add-i
-    loop-less
+    (search needs)
+    (search needs)
+    (search needs)
+    (search needs)
+    (search needs)
     loop-again
     returns)
