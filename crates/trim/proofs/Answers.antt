@@ -23,6 +23,7 @@ use Rattle.fit.specs.Fitted.{refusalOf, typeOf, fitRefusal}
 use Rattle.fit.proofs.Accepted.{fit-few}
 use Rattle.quantize.specs.declared.Quantized.{Quantized}
 use Rattle.quantize.specs.Quantize.{paramsFrom, quantizeRefusal, quantizedAs, quantizedFrom}
+use Rattle.quantize.specs.Quantize as quantizing
 use Rattle.trim.specs.declared.Cut.{Cut}
 use Rattle.trim.specs.declared.Trimmed.{Trimmed}
 use Rattle.trim.specs.declared.TrimmedModel.{TrimmedModel}
@@ -113,9 +114,10 @@ module _ (numbers : List Float) (gmType n : ℕ) where
 
   -- ---- the trim
 
-  pub refused-cuts : (roots : List Float) (k : ℕ) → (k ≡ 0 → ⊥) → refusal ≡ k → Cuts numbers gmType n roots (refusedCut k)
-  refused-cuts roots k h e =
+  pub refused-cuts : (roots : List Float) (k : ℕ) → n ≤ length roots → (k ≡ 0 → ⊥) → refusal ≡ k → Cuts numbers gmType n roots (refusedCut k)
+  refused-cuts roots k room h e =
       record {
+        long = room;
         answers = sym (ap (λ (r : ℕ). answered refusedAs r whole) e ∙ answered-refused refusedAs k whole h);
         within = λ z. absurd (h (sym e ∙ z));
       }
@@ -138,10 +140,11 @@ module _ (numbers : List Float) (gmType n : ℕ) where
         ap (λ (k : ℕ). orElse k (orElse (residualRefusal residuals) (refusalOf last))) fitted
         ∙ ap (λ (b : Bool). orElse (choose (not b) 16 0) (refusalOf last)) e
 
-    module _ (roots : List Float) (f : Fitted) (samples : ℕ) (limit : Float) (finite : allFinite residuals ≡ true) (is : f ≡ last) (counted : samples ≡ length used) (within : under roots limit n ≡ used) where
+    module _ (roots : List Float) (room : n ≤ length roots) (f : Fitted) (samples : ℕ) (limit : Float) (finite : allFinite residuals ≡ true) (is : f ≡ last) (counted : samples ≡ length used) (within : under roots limit n ≡ used) where
       made : (k : ℕ) → refusalOf f ≡ k → Cuts numbers gmType n roots (answered refusedCut k (cutAs f samples limit))
       made zero e =
           record {
+            long = room;
             answers =
                 ap (λ (g : Fitted). trimmedAs g samples) is
                 ∙ ap (λ (m : ℕ). trimmedAs last m) counted
@@ -151,7 +154,7 @@ module _ (numbers : List Float) (gmType n : ℕ) where
       made (suc k) e =
           let no : (suc k ≡ 0 → ⊥) = λ z. absurd (omega arith) in
           subst (λ (c : Cut). Cuts numbers gmType n roots c) (sym (answered-refused refusedCut (suc k) (cutAs f samples limit) no))
-          (refused-cuts roots (suc k) no (last-decides finite ∙ sym (ap refusalOf is) ∙ e))
+          (refused-cuts roots (suc k) room no (last-decides finite ∙ sym (ap refusalOf is) ∙ e))
 
       -- the last fit, or its refusal
       pub made-cuts : Cuts numbers gmType n roots (cutOf f samples limit)
@@ -247,7 +250,7 @@ module _ (numbers : List Float) (gmType n : ℕ) where
 
         on-grid : quantizedFrom read last flag used ≡ quantizedAs 0 (paramsFrom read last flag used)
         on-grid =
-            answered-accepted _ (quantizeRefusal last flag (length used)) _
+            answered-accepted quantizing.refusedModel (quantizeRefusal last flag (length used)) (quantizedAs 0 (paramsFrom read last flag used))
             (quantize-accepts last flag (length used) few-used (fit-is-model read used gmType (last-quiet quiet-trim)) (model-flag gmType flag n listed))
 
         pub model-accepted : modelAs (c .used) (quantizedFrom read (c .fitted) flag (under roots (c .limit) n)) ≡ trimmedModelFrom itself gmType flag (samplesIn numbers n)

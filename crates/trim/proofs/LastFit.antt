@@ -64,14 +64,14 @@ module _ (numbers : List Float) (gmType n : ℕ) (roots : List Float) (first : F
 
   pub infinite-cuts : allFinite (take n roots) ≡ false → Cuts numbers gmType n roots (refusedCut 16)
   infinite-cuts e =
-      refused-cuts numbers gmType n roots 16 (λ z. absurd (omega arith)) (not-finite numbers gmType n (r .fitted) (finite-is false e))
+      refused-cuts numbers gmType n roots 16 roots-long (λ z. absurd (omega arith)) (not-finite numbers gmType n (r .fitted) (finite-is false e))
 
   module _ (finite : allFinite (take n roots) ≡ true) where
     each-finite : T (allFinite residuals)
     each-finite = held (allFinite residuals) (finite-is true finite)
 
     pub roots-findable : Findable (take n roots)
-    roots-findable = subst (λ (l : List Float). Findable l) (sym front) (findable numbers before n (r .old) some (r .few) each-finite)
+    roots-findable = subst (λ (l : List Float). Findable l) (sym front) (findable numbers before n (r .old) some each-finite)
 
     module _ (limit : Float) (e : limit ≡ cutoff (take n roots)) (count : ℕ) (counted : count ≡ length (under roots limit n)) where
       is-kept : under roots limit n ≡ keptFrom read before (upTo n)
@@ -93,7 +93,7 @@ module _ (numbers : List Float) (gmType n : ℕ) (roots : List Float) (first : F
       pub stood-cuts : count < leastOf gmType → (top : Float) → top ≡ inf false → Cuts numbers gmType n roots (cutOf first n top)
       stood-cuts h top q =
           let all : usedFrom read gmType (upTo n) ≡ upTo n = used-all numbers gmType n (omega (arith, h, kept-count)) in
-          made-cuts numbers gmType n (r .fitted) roots first n top (finite-is true finite)
+          made-cuts numbers gmType n (r .fitted) roots roots-long first n top (finite-is true finite)
           (r .is ∙ ap (λ (l : List ℕ). fitFrom read gmType l) (sym all))
           (sym (length-upTo n) ∙ ap (λ (l : List ℕ). length l) (sym all))
           (ap (λ (l : List Float). under l top n) (r .rooted) ∙ all-under numbers before n (r .old) top q each-finite ∙ sym all)
@@ -101,7 +101,7 @@ module _ (numbers : List Float) (gmType n : ℕ) (roots : List Float) (first : F
       pub fitted-cuts : leastOf gmType ≤ count → (f : Fitted) → f ≡ fitFrom read gmType (under roots limit n) → Cuts numbers gmType n roots (cutOf f count limit)
       fitted-cuts h f q =
           let those : under roots limit n ≡ usedFrom read gmType (upTo n) = is-kept ∙ sym (used-kept numbers gmType n (omega (arith, h, kept-count))) in
-          made-cuts numbers gmType n (r .fitted) roots f count limit (finite-is true finite)
+          made-cuts numbers gmType n (r .fitted) roots roots-long f count limit (finite-is true finite)
           (q ∙ ap (λ (l : List ℕ). fitFrom read gmType l) those)
           (counted ∙ ap (λ (l : List ℕ). length l) those)
           those

@@ -133,10 +133,5 @@ module _ (numbers : List Float) (f : Fitted) (n : ℕ) (old : List Float) where
       ∙ ap (λ (l : Float). le (getD residuals i nan) l) e
       ∙ under-infinity (getD residuals i nan) (finite-at residuals i t (rw length-residuals h)))
 
-  pub findable : 0 < n → n ≤ mostSamples → T (allFinite residuals) → Findable residuals
-  findable some few t =
-      record {
-        some = rw length-residuals some;
-        few = rw length-residuals few;
-        plain = residuals-plain read f (upTo n) t;
-      }
+  pub findable : 0 < n → T (allFinite residuals) → Findable residuals
+  findable some t = record { some = rw length-residuals some; plain = residuals-plain read f (upTo n) t }

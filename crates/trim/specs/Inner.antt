@@ -100,6 +100,7 @@ pub record Rooted (numbers : List Float) (gmType n : ℕ) (roots : List Float) (
 
 -- the answer after rows 1, 4 and 15, and the limit that the last fit's samples are under
 pub record Cuts (numbers : List Float) (gmType n : ℕ) (roots : List Float) (c : Cut) : Type 0 where
+  pub long : n ≤ length roots
   pub answers :
       trimmedAs (c .fitted) (c .used)
       ≡ answered (λ k. trimmedAs (Refused k) 0) (trimRefusal (sampleAt numbers) gmType (upTo n))

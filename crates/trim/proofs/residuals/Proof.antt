@@ -41,7 +41,7 @@ loop-again c =
     let m = c .before .before .before .before .before .continuous-fit .result in (
       search needs,
       fill-front (rootBy m (a .numbers .now)) (l .i) (a .roots .now) (search needs) (l .inv .1)
-      (c .root .ensures ∙ ap root (c .before .residual .ensures ∙ ap (residualOf m) (c .before .before .sample-at .ensures))),
+          (c .root .ensures ∙ ap root (c .before .residual .ensures ∙ ap (residualOf m) (c .before .before .sample-at .ensures))),
       search needs,
     )
 

@@ -22,7 +22,7 @@ returns c =
     let number = c .before .before .refusal-of in
     let is = first-is (a .numbers .now) (a .gm-type) (a .n) (a .roots .now) (s .pre) (first .result) (first .ensures) in
     rw (c .refused-cut .ensures)
-    (refused-cuts (a .numbers .now) (a .gm-type) (a .n) (a .roots .now) (number .result) (c .before .if1 .taken)
+    (refused-cuts (a .numbers .now) (a .gm-type) (a .n) (a .roots .now) (number .result) (room (a .numbers .now) (a .gm-type) (a .n) (a .roots .now) (s .pre)) (c .before .if1 .taken)
     (first-refused (a .numbers .now) (a .gm-type) (a .n) (first .result) is (λ z. c .before .if1 .taken (number .ensures ∙ z)) ∙ sym (number .ensures)))
 
 residuals-requires : tie.Need-residuals-requires

@@ -38,7 +38,7 @@ on-grid-requires c κs =
     let listed = sym (c .before .before .before .before .before .before .before .model-refusal .ensures) ∙ c .before .before .before .before .before .before .if1 .left in
     record {
       few = model-few (a .gm-type) (a .flag) (a .n) listed;
-      long = search needs;
+      long = cut .ensures .long;
       counted =
           cut-counted (a .numbers .now) (a .gm-type) (a .n) (a .flag) _ (cut .result) (cut .ensures) listed (sym (c .before .before .refusal-of .ensures) ∙ c .before .if2 .left);
     }

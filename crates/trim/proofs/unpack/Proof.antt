@@ -35,7 +35,7 @@ loop-again c =
     let room = c .before .before .before .before .before .before .before .before .if1 .left in (
       omega arith,
       rw (c .store .ensures)
-      (unpacked-more sampleOf (a .words .now) (l .numbers) (l .i) 0 (c .before .sample-by .result) inside (omega (arith, inside, room)) (c .before .sample-by .ensures) (l .inv .1)),
+          (unpacked-more sampleOf (a .words .now) (l .numbers) (l .i) 0 (c .before .sample-by .result) inside (omega (arith, inside, room)) (c .before .sample-by .ensures) (l .inv .1)),
     )
 
 returns-2 : tie.Need-returns-2 Inv-loop μ-loop
