@@ -496,7 +496,12 @@ fn replay_one(list: i32, input: &mut [u16], reference: &mut [u16]) -> bool {
     let p = next_picture(list);
     let input_pels = least(area(p.width, p.height), input.len());
     let ref_pels = least(area(p.width, p.height), reference.len());
-    make_planes(list, p, &mut input[0..input_pels], &mut reference[0..ref_pels]);
+    make_planes(
+        list,
+        p,
+        &mut input[0..input_pels],
+        &mut reference[0..ref_pels],
+    );
     run_case(list, p, input, reference)
 }
 
