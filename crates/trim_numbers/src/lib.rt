@@ -16,7 +16,8 @@ pub fn answer_of(t: Trimmed) -> TrimmedAnswer
     ensures { λ r. ⌜ r ≡ answerOf t ⌝ }
 {
     let used = t.used;
-    let answer = fit_numbers::numbers_of(t.fitted);
+    let fitted = t.fitted;
+    let answer = fit_numbers::numbers_of(fitted);
     let numbers = answer.numbers;
     TrimmedAnswer {
         refusal: answer.refusal,
