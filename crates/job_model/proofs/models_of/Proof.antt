@@ -6,6 +6,9 @@ use borrow.Author.Needs.{needs}
 use Rattle.job_model.proofs.models_of.Statement.{statement}
 use Rattle.job_model.proofs.models_of.Tie as tie
 
+own-of-requires : tie.Need-own-of-requires
+own-of-requires c κs = c .before .before .pre .fitting
+
 returns : tie.Need-returns
 returns c =
     let a = c .before .before .before .before .before .before .args in
@@ -25,4 +28,4 @@ returns-2 c =
     ∙ accepted-as (a .settings) (a .types .now) (a .models .now) (a .words .now) (c .before .before .before .before .own-of .ensures) (c .before .before .if1 .left)
 
 pub models-of-spec : {M : Type 1} → statement M
-models-of-spec = tie.close (tie.spec (search needs) (search needs) returns with-model-requires returns-2)
+models-of-spec = tie.close (tie.spec own-of-requires (search needs) returns with-model-requires returns-2)
