@@ -282,7 +282,7 @@ fn refit_under(
 
 // ---- the trim
 
-fn least_of(gm_type: u8) -> usize
+pub fn least_of(gm_type: u8) -> usize
     ensures { λ r. ⌜ r ≡ leastOf «gm_type» ⌝ }
 {
     if gm_type == TRANSLATION {
