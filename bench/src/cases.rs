@@ -3,7 +3,7 @@
 use std::fmt;
 use std::hint::black_box;
 
-use belt::{Buffers, Fitted, Frame, Lent, Model, Refusal, Searched};
+use belt::{Buffers, Fitted, Frame, Lent, Model, MotionSample, Refusal, Searched};
 use oracle::Samples;
 
 use crate::frames;
@@ -18,12 +18,15 @@ const STATIC: f64 = 0.05;
 const SMALL_SEARCH: f64 = 0.20;
 const JOB: f64 = 0.15;
 const SUMS: f64 = 1.1;
+const SMALL_FITS: f64 = 1.2;
 
 #[derive(Clone, Copy)]
 pub enum Case {
     Search(Scene, usize, usize),
     Fit(u8, usize),
+    FitSamples(u8, usize),
     Score(usize),
+    ScoreSamples(usize),
     QuantizeModel(u8, usize),
     WriteFrame(usize),
     ReadFrame(u8, usize),
@@ -52,7 +55,9 @@ pub fn all() -> Vec<Case> {
     let mut cases = Vec::new();
     cases.extend(Scene::ALL.iter().flat_map(|&scene| sides.map(|(width, height)| Search(scene, width, height))));
     cases.extend(kinds.iter().flat_map(|&kind| counts.map(|n| Fit(kind, n))));
+    cases.extend(kinds.iter().flat_map(|&kind| counts.map(|n| FitSamples(kind, n))));
     cases.extend(counts.map(Score));
+    cases.extend(counts.map(ScoreSamples));
     cases.extend(kinds.iter().flat_map(|&kind| counts.map(|n| QuantizeModel(kind, n))));
     cases.extend(counts.map(WriteFrame));
     cases.extend([2, 1].iter().flat_map(|&form| counts.map(|n| ReadFrame(form, n))));
@@ -71,7 +76,9 @@ impl fmt::Display for Case {
         match *self {
             Search(scene, width, height) => write!(f, "search | {} {width}×{height}", scene.name()),
             Fit(kind, n) => write!(f, "fit | {}, {n} words", type_name(kind)),
+            FitSamples(kind, n) => write!(f, "fit | {}, {n} samples", type_name(kind)),
             Score(n) => write!(f, "score | {n} words"),
+            ScoreSamples(n) => write!(f, "score | {n} samples"),
             QuantizeModel(kind, n) => write!(f, "quantize_model | {}, {n} words", type_name(kind)),
             WriteFrame(n) => write!(f, "write_frame | form 2, {n} samples"),
             ReadFrame(form, n) => write!(f, "read_both | form {form}, {n} samples"),
@@ -93,7 +100,8 @@ impl Case {
             }),
             Search(..) => Some(SMALL_SEARCH),
             WholeJob(..) => Some(JOB),
-            Fit(_, 4096) | Score(4096) => Some(SUMS),
+            Fit(_, 16) => Some(SMALL_FITS),
+            Fit(_, 4096) | FitSamples(_, 4096) | Score(4096) | ScoreSamples(4096) => Some(SUMS),
             _ => None,
         }
     }
@@ -107,7 +115,9 @@ impl Case {
         match *self {
             Search(scene, width, height) => search(scene, width, height),
             Fit(kind, n) => fit(kind, n),
+            FitSamples(kind, n) => fit_samples(kind, n),
             Score(n) => score(n),
+            ScoreSamples(n) => score_samples(n),
             QuantizeModel(kind, n) => quantize_model(kind, n),
             WriteFrame(n) => write_frame(n),
             ReadFrame(form, n) => read_frame(form, n),
@@ -215,6 +225,57 @@ fn score(n: usize) -> Sides {
         words,
         |words| {
             black_box(belt::mean_sq_residual(black_box(&Model(PARAMS)), words).ok());
+        },
+        |samples| {
+            black_box(samples.score(black_box(&PARAMS)));
+        },
+    )
+}
+
+/// The samples of words, with the library's layout.
+fn lent_samples(words: &[u32]) -> Vec<MotionSample> {
+    words.iter().map(|&word| MotionSample::of_word(word)).collect()
+}
+
+/// Ready-made samples for both sides.
+fn on_samples(
+    words: &[u32],
+    mut ours: impl FnMut(&[MotionSample]) + 'static,
+    rust: impl Fn(&Samples) + 'static,
+) -> Sides {
+    let lent = lent_samples(words);
+    let samples = Samples::of_words(words);
+    Sides {
+        ours: Box::new(move || ours(black_box(&lent))),
+        rust: Box::new(move || rust(black_box(&samples))),
+        ready: None,
+    }
+}
+
+fn fit_samples(kind: u8, n: usize) -> Sides {
+    let words = oracle::blocks::words(n as u32, n);
+    let ours = [belt::fit_translation_samples, belt::fit_rotzoom_samples, belt::fit_affine_samples];
+    let ours = ours[usize::from(kind) - 1];
+    assert_eq!(ours(&lent_samples(&words)), Ok(fits(kind, &words).0));
+    on_samples(
+        &words,
+        move |samples| {
+            black_box(ours(samples).ok());
+        },
+        move |samples| {
+            black_box(samples.fit(kind));
+        },
+    )
+}
+
+fn score_samples(n: usize) -> Sides {
+    let words = oracle::blocks::words(n as u32, n);
+    let ours = belt::mean_sq_residual_samples(&Model(PARAMS), &lent_samples(&words)).expect("not too many samples");
+    assert!(same(ours, Samples::of_words(&words).score(&PARAMS)));
+    on_samples(
+        &words,
+        |samples| {
+            black_box(belt::mean_sq_residual_samples(black_box(&Model(PARAMS)), samples).ok());
         },
         |samples| {
             black_box(samples.score(black_box(&PARAMS)));

@@ -110,7 +110,7 @@ fn head() -> String {
     format!(
         "# Speed\n\n\
          The time of each call divided by the time of the Rust, by `bench/run`. Below 1 the proved library is faster.\n\n\
-         Processor: {}. Rust: {}, release build, opt-level {}, {flags}. Library: `rt staticlib belt`, {}. \
+         Processor: {}. Rust: {}, release build, opt-level {}, {flags}. Library: `bindings/library`, {}. \
          Both sides are compiled for plain x86-64 (SSE2).\n\n\
          One driver calls both sides on the same input, ours through `bindings/rust`, compares their answers, and then times them in turns. \
          Each number is the best processor time of ours divided by the best of the Rust, over {} rounds or more. \
@@ -118,6 +118,7 @@ fn head() -> String {
          Searches, fits, scores, quantizations and headers are measured against the Rust that is ported. \
          Fits, scores and quantizations take sample words. The Rust has no such form: in the first ratio it makes its list of samples of the \
          same words; in the last column, 'samples ready made', it has that list ready made and ours still reads words. \
+         A row of samples has the list ready made on both sides: ours walks it, and makes none. \
          Blocks are measured against a plain Rust writing of docs/RULES.md over lent buffers (`bench/src/frames.rs`).\n\n\
          A header has seven models of one type at high precision. A near prior is up to three steps of the grid from the models and gives short codes, \
          a far one is at the other end of the range and gives long codes; seven identities have no codes, and ours only judges their prior. \

@@ -1,4 +1,4 @@
-/* The proved library's calls (crates/belt), for C and C++ on x86-64 Linux. docs/RULES.md has the rules: what a
+/* The proved library's calls (crates/belt and lent_fit), for C and C++ on x86-64 Linux. docs/RULES.md has the rules: what a
    plane, a sample word, a block, a model and a header are, bit by bit; names in quotes are its sections.
    belt_motion.h beside this file reads words and models in pels.
 
@@ -151,6 +151,10 @@ static inline struct belt_model belt_x_first(uint8_t type, struct belt_stored_mo
     return model;
 }
 
+/* A sample: its place x, y and its motion u, v, in pels, any four numbers ('Sample'). */
+struct belt_motion_sample { double x; double y; double u; double v; };
+/* A fitted model to be put on the grid: its type, 1 to 3, the flag, and the numbers of its fit. */
+struct belt_to_quantize { uint8_t type; uint8_t flag; double numbers[6]; };
 /* How many samples were found, and how many rows of absolute differences were added to find them. */
 struct belt_searched { uint32_t refusal; size_t samples; uint32_t rows; };
 /* Two numbers of a translation, four of a rotation-zoom, six of an affine model, x first, zeros after them. */
@@ -225,6 +229,17 @@ struct belt_quantized_model belt_quantize_model(
    In: a model, x first, and up to 4,096 sample words. Out: the score, 0.0 for no words.
    Refuses: 1. */
 struct belt_score belt_mean_sq_residual(const struct belt_model *model, const uint32_t *words, size_t word_count);
+
+/* The five calls above over samples instead of words: up to 4,096 of any four numbers, not-a-numbers and infinities
+   too. Samples that are made from words (belt_motion_sample_of of belt_motion.h) have the answers of those words.
+   Refuse: 1; rotation-zoom and affine also 6; the quantized model 1, 4. */
+struct belt_fit_answer belt_fit_translation_samples(const struct belt_motion_sample *samples, size_t sample_count);
+struct belt_fit_answer belt_fit_rotzoom_samples(const struct belt_motion_sample *samples, size_t sample_count);
+struct belt_fit_answer belt_fit_affine_samples(const struct belt_motion_sample *samples, size_t sample_count);
+struct belt_quantized_model belt_quantize_model_samples(
+    const struct belt_motion_sample *samples, size_t sample_count, struct belt_to_quantize model);
+struct belt_score belt_mean_sq_residual_samples(
+    const struct belt_motion_sample *samples, size_t sample_count, struct belt_model model);
 
 /* One number on the grid ('Grid').
    In: type 0 to 3, flag, slot 0 to 5 and any number. Out: the codable number nearest to it.

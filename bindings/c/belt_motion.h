@@ -28,6 +28,17 @@ static inline struct belt_sample belt_sample_of(uint32_t word) {
     return sample;
 }
 
+/* The four numbers of a word that the fits and the score take; its class plays no part. */
+static inline struct belt_motion_sample belt_motion_sample_of(uint32_t word) {
+    struct belt_sample read = belt_sample_of(word);
+    struct belt_motion_sample sample;
+    sample.x = read.x;
+    sample.y = read.y;
+    sample.u = read.u;
+    sample.v = read.v;
+    return sample;
+}
+
 /* The motion that a model has at a place; its shift is the one at the origin, or at any place for a translation. */
 static inline struct belt_motion belt_motion_at(struct belt_model model, double x, double y) {
     double m[6];

@@ -160,6 +160,25 @@ static void by_single_calls(const struct belt_report *report, struct belt_settin
              !(score.score < report->score) && !(score.score > report->score),
          "model and score");
 
+    /* The same over the samples that the words stand for. */
+    static struct belt_motion_sample samples[SAMPLES];
+    for (size_t i = 0; i < SAMPLES; i++)
+        samples[i] = belt_motion_sample_of(words_read[i]);
+    struct belt_fit_answer again = settings.type == BELT_TRANSLATION ? belt_fit_translation_samples(samples, SAMPLES)
+                                   : settings.type == BELT_ROTZOOM   ? belt_fit_rotzoom_samples(samples, SAMPLES)
+                                                                     : belt_fit_affine_samples(samples, SAMPLES);
+    refused("the fit over samples", again.refusal);
+    struct belt_to_quantize to_quantize = {settings.type, settings.flag, {0}};
+    memcpy(to_quantize.numbers, again.numbers, sizeof again.numbers);
+    struct belt_quantized_model model_again = belt_quantize_model_samples(samples, SAMPLES, to_quantize);
+    refused("belt_quantize_model_samples", model_again.refusal);
+    struct belt_score score_again = belt_mean_sq_residual_samples(samples, SAMPLES, answer.model);
+    refused("belt_mean_sq_residual_samples", score_again.refusal);
+    same(memcmp(again.numbers, fitted.numbers, sizeof again.numbers) == 0 &&
+             memcmp(&model_again.model, &answer.model, sizeof answer.model) == 0 &&
+             memcmp(&score_again.score, &score.score, sizeof score.score) == 0,
+         "fit, model and score over samples");
+
     struct belt_stored put =
         belt_write_frame(settings.frame, words_read, SAMPLES, classes, SAMPLES, blocks_again, BLOCKS);
     refused("belt_write_frame", put.refusal);
@@ -228,6 +247,13 @@ static void refusals(struct belt_settings settings) {
     wants("a translation of 4,097 words", belt_fit_translation(many, BELT_MOST_SAMPLES + 1).refusal, BELT_TOO_LARGE);
     wants("a score over 4,097 words", belt_mean_sq_residual(&still, many, BELT_MOST_SAMPLES + 1).refusal,
           BELT_TOO_LARGE);
+    static struct belt_motion_sample many_samples[BELT_MOST_SAMPLES + 1];
+    struct belt_to_quantize no_type = {4, 1, {0}};
+    wants("a translation of 4,097 samples", belt_fit_translation_samples(many_samples, BELT_MOST_SAMPLES + 1).refusal,
+          BELT_TOO_LARGE);
+    wants("a rotation-zoom of equal samples", belt_fit_rotzoom_samples(many_samples, 9).refusal, BELT_SINGULAR);
+    wants("type 4 on the grid, over samples", belt_quantize_model_samples(many_samples, 9, no_type).refusal,
+          BELT_NO_SUCH_CODE);
     wants("type 4 on the grid", belt_quantize_model(4, numbers, 1, words, SAMPLES).refusal, BELT_NO_SUCH_CODE);
     wants("slot 6", belt_quantize_global_param(BELT_AFFINE, 1, 6, 0).refusal, BELT_NO_SUCH_SLOT);
     wants("words that fall", belt_write_frame(5, falling, 2, zeros, 2, blocks, BLOCKS).refusal, BELT_NOT_RISING);

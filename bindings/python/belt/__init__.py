@@ -387,6 +387,41 @@ def mean_sq_residual(model, words):
     return _call("belt_mean_sq_residual", params, _list(words, c_uint32, "words")).score
 
 
+def _samples(samples):
+    """A pointer and a count of samples, each four numbers x, y, u, v in pels."""
+    return [(_raw.MotionSample * len(samples))(*(_raw.MotionSample(*sample) for sample in samples)), len(samples)]
+
+
+def fit_translation_samples(samples):
+    """As fit_translation, over samples: four numbers x, y, u, v each, of any value. Refuses 1."""
+    return Fitted(TRANSLATION, tuple(_call("belt_fit_translation_samples", _samples(samples)).numbers))
+
+
+def fit_rotzoom_samples(samples):
+    """As fit_rotzoom, over samples: four numbers x, y, u, v each, of any value. Refuses 1, 6."""
+    return Fitted(ROTZOOM, tuple(_call("belt_fit_rotzoom_samples", _samples(samples)).numbers))
+
+
+def fit_affine_samples(samples):
+    """As fit_affine, over samples: four numbers x, y, u, v each, of any value. Refuses 1, 6."""
+    return Fitted(AFFINE, tuple(_call("belt_fit_affine_samples", _samples(samples)).numbers))
+
+
+def quantize_model_samples(fitted, flag, samples):
+    """As quantize_model, over samples: four numbers x, y, u, v each, of any value. Refuses 1, 4."""
+    numbers = (c_double * 6)(*fitted.numbers)
+    model = _raw.ToQuantize(_code(fitted.gm_type, "gm_type"), _code(flag, "flag"), numbers)
+    return Model(_call("belt_quantize_model_samples", _samples(samples), model).params)
+
+
+def mean_sq_residual_samples(model, samples):
+    """As mean_sq_residual, over samples: four numbers x, y, u, v each, of any value. Refuses 1."""
+    if not isinstance(model, Model):
+        raise TypeError(f"model: Model is wanted, not {type(model).__name__}")
+    params = _raw.Params((c_int32 * 6)(*map(_signed, model)))
+    return _call("belt_mean_sq_residual_samples", _samples(samples), params).score
+
+
 def quantize_global_param(gm_type, flag, slot, value):
     """The codable number nearest to a value ('Grid'). Refuses 4, 5."""
     codes = _code(gm_type, "gm_type"), _code(flag, "flag"), _code(slot, "slot")

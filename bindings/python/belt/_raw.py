@@ -1,4 +1,4 @@
-"""The shared library's declarations, by ctypes: every call and struct of crates/belt, and nothing else.
+"""The shared library's declarations, by ctypes: every call and struct of crates/belt and lent_fit, and nothing else.
 
 `bindings/declarations` holds them to the library's own.
 """
@@ -15,6 +15,18 @@ class Searched(ctypes.Structure):
 
 class FitAnswer(ctypes.Structure):
     _fields_ = [("refusal", c_uint32), ("numbers", c_double * 6)]
+
+
+class Params(ctypes.Structure):
+    _fields_ = [("numbers", c_int32 * 6)]
+
+
+class ToQuantize(ctypes.Structure):
+    _fields_ = [("gm_type", c_uint8), ("flag", c_uint8), ("numbers", c_double * 6)]
+
+
+class MotionSample(ctypes.Structure):
+    _fields_ = [("x", c_double), ("y", c_double), ("u", c_double), ("v", c_double)]
 
 
 class QuantizedModel(ctypes.Structure):
@@ -93,6 +105,7 @@ def _list(element):
 
 
 _PELS, _BYTES, _WORDS, _NUMBERS = _list(c_uint16), _list(c_uint8), _list(c_uint32), _list(c_int32)
+_SAMPLES = _list(MotionSample)
 
 # Each call: its parameters, and what it returns.
 CALLS = {
@@ -105,6 +118,11 @@ CALLS = {
     "belt_fit_affine": (_WORDS, FitAnswer),
     "belt_quantize_model": ([c_uint8, POINTER(c_double * 6), c_uint8] + _WORDS, QuantizedModel),
     "belt_mean_sq_residual": ([POINTER(c_int32 * 6)] + _WORDS, Score),
+    "belt_fit_translation_samples": (_SAMPLES, FitAnswer),
+    "belt_fit_rotzoom_samples": (_SAMPLES, FitAnswer),
+    "belt_fit_affine_samples": (_SAMPLES, FitAnswer),
+    "belt_quantize_model_samples": (_SAMPLES + [ToQuantize], QuantizedModel),
+    "belt_mean_sq_residual_samples": (_SAMPLES + [Params], Score),
     "belt_quantize_global_param": ([c_uint8, c_uint8, c_uint8, c_int32], QuantizedParam),
     "belt_write_frame": ([c_uint16] + _WORDS + _BYTES + _BYTES, Stored),
     "belt_read_both": (_BYTES + _WORDS + _BYTES, FrameRead),
@@ -144,7 +162,7 @@ def _path():
     folder = os.environ.get("BELT_LIB")
     if folder:
         return str(Path(folder) / "libbelt.so")
-    own = Path(__file__).resolve().parents[3] / "target" / "staticlib" / "libbelt.so"
+    own = Path(__file__).resolve().parents[3] / "target" / "library" / "libbelt.so"
     return str(own) if own.exists() else "libbelt.so.0"
 
 

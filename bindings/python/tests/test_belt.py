@@ -1,6 +1,7 @@
 """The Python package: the same jobs and refusals as the Rust crate's tests, with guard values around every buffer."""
 
 import ctypes
+import math
 import sys
 import unittest
 from array import array
@@ -115,6 +116,11 @@ class Jobs(unittest.TestCase):
         model = belt.quantize_model(fitted, settings.flag, buffers.words)
         self.assertEqual(report.models[settings.reference - 1], model.row_first(settings.gm_type))
         self.assertEqual(report.score, belt.mean_sq_residual(model, buffers.words))
+        made = [belt.sample_of(word)[2:6] for word in buffers.words]
+        fits = (belt.fit_translation_samples, belt.fit_rotzoom_samples, belt.fit_affine_samples)
+        self.assertEqual(fits[settings.gm_type - 1](made), fitted)
+        self.assertEqual(belt.quantize_model_samples(fitted, settings.flag, made), model)
+        self.assertEqual(belt.mean_sq_residual_samples(model, made), report.score)
         for slot, number in enumerate(model):
             self.assertEqual(belt.quantize_global_param(settings.gm_type, settings.flag, slot, number), number)
 
@@ -270,7 +276,7 @@ class Refusals(Refused):
         self.refused(2, call, pels=1535)
         self.refused(2, call, ref_pels=1535)
         self.refused(2, call, classes=bytes(5))
-        self.assertEqual(call(classes=bytes([belt.FILM] * 6)), 6)
+        self.assertEqual(call(classes=bytes([belt.FILM] * 6)).samples, 6)
         self.refused(4, call, classes=bytes([5] * 6))
         self.refused(3, call, rooms=(383, 384, 6))
         self.refused(3, call, rooms=(384, 383, 6))
@@ -298,6 +304,26 @@ class Refusals(Refused):
         self.refused(5, belt.quantize_global_param, 3, 1, 6, 0)
         self.assertEqual(belt.quantize_global_param(3, 0, 2, 65537), 65538)
         self.assertEqual(belt.quantize_global_param(1, 1, 1, -4096), -8192)
+
+    def test_fits_and_scores_of_samples(self):
+        many = [(0.1 * i, 0.2, math.inf, -0.0) for i in range(4097)]
+        for fit in (belt.fit_translation_samples, belt.fit_rotzoom_samples, belt.fit_affine_samples):
+            self.refused(1, fit, many)
+        self.assertEqual(belt.fit_translation_samples(many[:4096]).numbers[0], math.inf)
+        for fit in (belt.fit_rotzoom_samples, belt.fit_affine_samples):
+            self.refused(6, fit, [])
+            self.refused(6, fit, many[:1])
+        self.assertTrue(all(number != number for number in belt.fit_translation_samples([]).numbers[:2]))
+        still = Model(belt.STILL)
+        self.refused(1, belt.mean_sq_residual_samples, still, many)
+        self.assertEqual(belt.mean_sq_residual_samples(still, []), 0.0)
+        self.assertEqual(belt.mean_sq_residual_samples(still, [(0.0, 0.0, 3.0, 4.0)]), 25.0)
+        numbers = (0.0, 0.0, 1.0, 0.0, 0.0, 1.0)
+        self.refused(1, belt.quantize_model_samples, belt.Fitted(3, numbers), 1, many)
+        self.refused(4, belt.quantize_model_samples, belt.Fitted(0, numbers), 1, many[:9])
+        self.refused(4, belt.quantize_model_samples, belt.Fitted(3, numbers), 2, many[:9])
+        unmoved = [(0.1 * i, 0.2, 0.0, -0.0) for i in range(9)]
+        self.assertEqual(belt.quantize_model_samples(belt.Fitted(3, numbers), 1, unmoved), still)
 
     def test_frames(self):
         good, metal, film = words(126), bytes([belt.METAL] * 126), bytes([belt.FILM] * 126)

@@ -56,7 +56,7 @@ mod model;
 mod raw;
 mod refusal;
 
-pub use model::{IDENTITIES, Model, Motion, Sample, StoredModel};
+pub use model::{IDENTITIES, Model, Motion, MotionSample, Sample, StoredModel};
 pub use raw::TEXT_BYTES;
 pub use refusal::{Length, Refusal};
 
@@ -411,6 +411,61 @@ pub fn quantize_model(fitted: &Fitted, flag: u8, words: &[u32]) -> Result<Model,
 /// [`Refusal::TooLarge`].
 pub fn mean_sq_residual(model: &Model, words: &[u32]) -> Result<f64, Refusal> {
     let answer = raw::mean_sq_residual(&model.0, words);
+    judged(answer.refusal, answer.score)
+}
+
+/// As [`fit_translation`], over samples of any four numbers.
+///
+/// # Errors
+///
+/// [`Refusal::TooLarge`].
+///
+/// ```
+/// let sample = belt::MotionSample { x: 0.1, y: 0.2, u: f64::INFINITY, v: -3.0 };
+/// let fitted = belt::fit_translation_samples(&[sample])?;
+/// assert_eq!(fitted.numbers[..2], [f64::INFINITY, -3.0]);
+/// # Ok::<(), belt::Refusal>(())
+/// ```
+pub fn fit_translation_samples(samples: &[MotionSample]) -> Result<Fitted, Refusal> {
+    fitted(1, raw::fit_translation_samples(samples))
+}
+
+/// As [`fit_rotzoom`], over samples of any four numbers.
+///
+/// # Errors
+///
+/// [`Refusal::TooLarge`], [`Refusal::Singular`].
+pub fn fit_rotzoom_samples(samples: &[MotionSample]) -> Result<Fitted, Refusal> {
+    fitted(2, raw::fit_rotzoom_samples(samples))
+}
+
+/// As [`fit_affine`], over samples of any four numbers.
+///
+/// # Errors
+///
+/// [`Refusal::TooLarge`], [`Refusal::Singular`].
+pub fn fit_affine_samples(samples: &[MotionSample]) -> Result<Fitted, Refusal> {
+    fitted(3, raw::fit_affine_samples(samples))
+}
+
+/// As [`quantize_model`], over samples of any four numbers.
+///
+/// # Errors
+///
+/// [`Refusal::TooLarge`], [`Refusal::NoSuchCode`].
+pub fn quantize_model_samples(fitted: &Fitted, flag: u8, samples: &[MotionSample]) -> Result<Model, Refusal> {
+    let model = raw::ToQuantize { gm_type: fitted.gm_type, flag, numbers: fitted.numbers };
+    let answer = raw::quantize_model_samples(samples, model);
+    judged(answer.refusal, answer.params)
+}
+
+/// As [`mean_sq_residual`], over samples of any four numbers.
+///
+/// # Errors
+///
+/// [`Refusal::TooLarge`].
+pub fn mean_sq_residual_samples(model: &Model, samples: &[MotionSample]) -> Result<f64, Refusal> {
+    let answer = raw::mean_sq_residual_samples(samples, raw::Params { numbers: model.0 });
     judged(answer.refusal, answer.score)
 }
 

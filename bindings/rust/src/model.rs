@@ -153,3 +153,45 @@ impl Sample {
         Self { row, column, x: centre(column), y: centre(row), motion, class_bits: (word & 3) as u8 }
     }
 }
+
+/// A sample: its place and its motion in pels, any four numbers. What the fits and the score take of a word.
+#[repr(C)]
+#[derive(Clone, Copy, Debug, PartialEq)]
+pub struct MotionSample {
+    /// The place, to the right.
+    pub x: f64,
+    /// The place, down.
+    pub y: f64,
+    /// The motion, to the right.
+    pub u: f64,
+    /// The motion, down.
+    pub v: f64,
+}
+
+impl MotionSample {
+    /// The sample that a word stands for; its class plays no part.
+    pub fn of_word(word: u32) -> Self {
+        let Sample { x, y, motion: Motion { u, v }, .. } = Sample::of_word(word);
+        Self { x, y, u, v }
+    }
+
+    /// The word of a class that stands for the sample, where there is one: a block's centre, and a motion of whole
+    /// eighths that nine bits hold. The word's sample then has the same bits.
+    ///
+    /// ```
+    /// let sample = belt::MotionSample::of_word(0x0856_BBCF);
+    /// assert_eq!(sample.word(3), Some(0x0856_BBCF));
+    /// assert_eq!(sample.word(4), None);
+    /// for u in [-0.0, 1e-300, 36.125, f64::NAN, f64::INFINITY] {
+    ///     assert_eq!(belt::MotionSample { u, ..sample }.word(3), None);
+    /// }
+    /// assert_eq!(belt::MotionSample { x: 0.1, ..sample }.word(3), None);
+    /// ```
+    pub fn word(self, class: u8) -> Option<u32> {
+        let place = |centre: f64| (centre as u32 / 16).min(63);
+        let stored = |pels: f64| ((pels * 8.0) as i32).saturating_add(i32::from(crate::MOST_EIGHTHS)).clamp(0, 511) as u32;
+        let word = place(self.y) << 26 | place(self.x) << 20 | stored(self.v) << 11 | stored(self.u) << 2 | u32::from(class);
+        let bits = |sample: Self| [sample.x, sample.y, sample.u, sample.v].map(f64::to_bits);
+        (class < 4 && bits(Self::of_word(word)) == bits(self)).then_some(word)
+    }
+}

@@ -10,7 +10,7 @@
 //!
 //! The comment at each call says what is particular to it.
 
-use crate::model::{Model, StoredModel};
+use crate::model::{Model, MotionSample, StoredModel};
 
 /// The count of bytes that `list_block` may write.
 pub const TEXT_BYTES: usize = 4096;
@@ -25,6 +25,18 @@ pub struct Searched {
 #[repr(C)]
 pub struct FitAnswer {
     pub refusal: u32,
+    pub numbers: [f64; 6],
+}
+
+#[repr(C)]
+pub struct Params {
+    pub numbers: [i32; 6],
+}
+
+#[repr(C)]
+pub struct ToQuantize {
+    pub gm_type: u8,
+    pub flag: u8,
     pub numbers: [f64; 6],
 }
 
@@ -157,6 +169,11 @@ unsafe extern "C" {
         count: usize,
     ) -> QuantizedModel;
     fn belt_mean_sq_residual(params: *const [i32; 6], words: *const u32, count: usize) -> Score;
+    fn belt_fit_translation_samples(samples: *const MotionSample, count: usize) -> FitAnswer;
+    fn belt_fit_rotzoom_samples(samples: *const MotionSample, count: usize) -> FitAnswer;
+    fn belt_fit_affine_samples(samples: *const MotionSample, count: usize) -> FitAnswer;
+    fn belt_quantize_model_samples(samples: *const MotionSample, count: usize, model: ToQuantize) -> QuantizedModel;
+    fn belt_mean_sq_residual_samples(samples: *const MotionSample, count: usize, model: Params) -> Score;
     fn belt_quantize_global_param(gm_type: u8, flag: u8, slot: u8, value: i32) -> QuantizedParam;
     fn belt_write_frame(
         frame: u16,
@@ -337,6 +354,31 @@ pub fn quantize_model(gm_type: u8, numbers: &[f64; 6], flag: u8, words: &[u32]) 
 pub fn mean_sq_residual(params: &[i32; 6], words: &[u32]) -> Score {
     // SAFETY: the six numbers and one slice are read; the array's type holds its length.
     unsafe { belt_mean_sq_residual(params, words.as_ptr(), words.len()) }
+}
+
+pub fn fit_translation_samples(samples: &[MotionSample]) -> FitAnswer {
+    // SAFETY: one slice is read.
+    unsafe { belt_fit_translation_samples(samples.as_ptr(), samples.len()) }
+}
+
+pub fn fit_rotzoom_samples(samples: &[MotionSample]) -> FitAnswer {
+    // SAFETY: one slice is read.
+    unsafe { belt_fit_rotzoom_samples(samples.as_ptr(), samples.len()) }
+}
+
+pub fn fit_affine_samples(samples: &[MotionSample]) -> FitAnswer {
+    // SAFETY: one slice is read.
+    unsafe { belt_fit_affine_samples(samples.as_ptr(), samples.len()) }
+}
+
+pub fn quantize_model_samples(samples: &[MotionSample], model: ToQuantize) -> QuantizedModel {
+    // SAFETY: numbers, and one slice is read.
+    unsafe { belt_quantize_model_samples(samples.as_ptr(), samples.len(), model) }
+}
+
+pub fn mean_sq_residual_samples(samples: &[MotionSample], model: Params) -> Score {
+    // SAFETY: numbers, and one slice is read.
+    unsafe { belt_mean_sq_residual_samples(samples.as_ptr(), samples.len(), model) }
 }
 
 pub fn quantize_global_param(gm_type: u8, flag: u8, slot: u8, value: i32) -> QuantizedParam {

@@ -2,7 +2,10 @@
 
 mod frames;
 
-use belt::{BLOCK_BYTES, Buffers, Fitted, Form, Frame, Model, Refusal, Report, StoredModel, TEXT_BYTES, sample_count};
+use belt::{
+    BLOCK_BYTES, Buffers, Fitted, Form, Frame, Model, MotionSample, Refusal, Report, StoredModel, TEXT_BYTES,
+    sample_count,
+};
 use frames::{Handed, guarded, moved, noisy_plane, smooth_plane};
 
 const STILL: [f64; 6] = [0.0, 0.0, 1.0, 0.0, 0.0, 1.0];
@@ -50,6 +53,14 @@ fn run(handed: &Handed) -> (Report, Buffers) {
     assert_eq!(report.models[place], model.row_first(settings.gm_type));
     assert_eq!(report.models[place].x_first(settings.gm_type), model);
     assert_eq!(report.score, belt::mean_sq_residual(&model, words).unwrap());
+
+    // and those of the samples that the words stand for
+    let made: Vec<_> = words.iter().map(|&word| MotionSample::of_word(word)).collect();
+    assert!(words.iter().zip(&made).all(|(&word, sample)| sample.word((word & 3) as u8) == Some(word)));
+    let fits = [belt::fit_translation_samples, belt::fit_rotzoom_samples, belt::fit_affine_samples];
+    assert_eq!(fits[usize::from(settings.gm_type) - 1](&made).unwrap(), fitted);
+    assert_eq!(belt::quantize_model_samples(&fitted, settings.flag, &made).unwrap(), model);
+    assert_eq!(belt::mean_sq_residual_samples(&model, &made).unwrap(), report.score);
 
     // the six others keep their order
     let mut types = handed.types.clone();

@@ -184,6 +184,13 @@ fn fits_and_scores() {
         assert_eq!(belt::fit_rotzoom(few), Err(Singular));
         assert_eq!(belt::fit_affine(few), Err(Singular));
     }
+    let samples: Vec<_> = many.iter().map(|&word| belt::MotionSample::of_word(word)).collect();
+    for fit in [belt::fit_translation_samples, belt::fit_rotzoom_samples, belt::fit_affine_samples] {
+        assert_eq!(fit(&samples), Err(TooLarge));
+    }
+    assert_eq!(belt::mean_sq_residual_samples(&Model::IDENTITY, &samples), Err(TooLarge));
+    assert_eq!(belt::mean_sq_residual_samples(&Model::IDENTITY, &[]), Ok(0.0));
+    assert_eq!(belt::fit_affine_samples(&samples[..1]), Err(Singular));
     assert_eq!(belt::mean_sq_residual(&Model::IDENTITY, &many), Err(TooLarge));
     assert_eq!(belt::mean_sq_residual(&Model::IDENTITY, &[]), Ok(0.0));
     assert_eq!(belt::mean_sq_residual(&Model([65536, 0, 65536, 0, 0, 65536]), &many[..3]), Ok(1.0));

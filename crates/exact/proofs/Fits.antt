@@ -9,7 +9,7 @@ use Rattle.sample.specs.Word.{mostSamples}
 use Rattle.fit.specs.declared.Fitted.{Fitted}
 use Rattle.fit.specs.declared.Fitted.the-variants.{Refused}
 use Rattle.fit.specs.Sums.{translationTotals, rotZoomTotals, affineTotals, translationSums, rotZoomSums, affineSums}
-use Rattle.fit.specs.Fitted.{translationFit, rotZoomFit, affineFit, fitOf, fitted, fitAnswer}
+use Rattle.fit.specs.Fitted.{translationFrom, rotZoomFrom, affineFrom, translationFit, rotZoomFit, affineFit, fitOf, fitted, fitAnswer}
 use Rattle.exact.specs.Words.{Words, SameWords}
 use Rattle.exact.proofs.Counts.{same-length, same-or-refused}
 use Rattle.exact.proofs.Terms.{row-u, row-v, row-x, row-y, row-xx, row-xy, row-yy, row-xu, row-yu, row-xv, row-yv, row-q, row-p1, row-p2}
@@ -54,15 +54,15 @@ module _ {ws vs : List ℕ} (same : SameWords ws vs) (words : Words ws) where
         }
 
     pub same-translation : translationFit ws ≡ translationFit vs
-    unfolding translationFit
+    unfolding translationFrom
     same-translation = rw (same-length same, same-translation-sums)
 
     pub same-rotzoom : rotZoomFit ws ≡ rotZoomFit vs
-    unfolding rotZoomFit
+    unfolding rotZoomFrom
     same-rotzoom = rw (same-length same, same-rotzoom-sums)
 
     pub same-affine : affineFit ws ≡ affineFit vs
-    unfolding affineFit
+    unfolding affineFrom
     same-affine = rw (same-length same, same-affine-sums)
 
     pub same-fit-of : (gmType : ℕ) → fitOf gmType ws ≡ fitOf gmType vs

@@ -21,7 +21,7 @@ use Rattle.fit.specs.Fitted.{fitted}
 use Rattle.grid_number.specs.GridNumber.{gridNumber, scale}
 use Rattle.score.specs.Score.{continuousOf}
 use Rattle.quantize.specs.declared.Linear.{Linear}
-use Rattle.quantize.specs.Quantize.{linearOf, refitTotals, refitted, params, refusedModel, quantizedModel}
+use Rattle.quantize.specs.Quantize.{linearOf, refitTotals, refittedFrom, refitted, paramsFrom, refusedModel, quantizedModel}
 use Rattle.laws.specs.Stands.{wholeLimit, Stands}
 use Rattle.exact.specs.Words.{Words, SameWords}
 use Rattle.exact.specs.Refit.{whole1, mostTurn, sumLeftU, sumLeftV}
@@ -123,12 +123,12 @@ linear-near (Affine m0 m1 m2 m3 m4 m5) flag =
 
 module _ {ws vs : List ℕ} (same : SameWords ws vs) (words : Words ws) where
   pub same-refit : length ws ≤ mostSamples → (l : Linear) → Near l → refitted l ws ≡ refitted l vs
-  unfolding refitted refitTotals
+  unfolding refittedFrom refitTotals
   same-refit few l near =
       rw (same-length same, same-sum same words few (sumLeftU l) (row-left-u l near), same-sum same words few (sumLeftV l) (row-left-v l near))
 
   pub same-model : (f : Fitted) (flag : ℕ) → quantizedModel f flag ws ≡ quantizedModel f flag vs
-  unfolding params
+  unfolding paramsFrom
   same-model f flag =
       same-or-refused same (quantizedModel f flag) (refusedModel 1) (λ us h. rw (lt-ltb mostSamples (length us) h))
       (λ h. rw (same-length same, same-refit h (linearOf f flag) (linear-near f flag)))

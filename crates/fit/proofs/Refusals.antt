@@ -12,7 +12,7 @@ use Rattle.solve.specs.Solution.{solved, numberOf}
 use Rattle.fit.specs.declared.Fitted.{Fitted}
 use Rattle.fit.specs.declared.Fitted.the-variants.{Refused, RotZoom, Affine}
 use Rattle.fit.specs.Sums.{countOf, rotZoomSums, affineSums}
-use Rattle.fit.specs.Fitted.{refusalOf, rotZoomSystem, affineU, affineV, translationFit, rotZoomFit, affineFit}
+use Rattle.fit.specs.Fitted.{refusalOf, rotZoomSystem, affineU, affineV, translationFit, translationFrom, rotZoomFit, rotZoomFrom, affineFit, affineFrom}
 
 abbrev guarded : Outcome → Fitted → Fitted
 guarded o f = unlessSingular o (Refused (numberOf o)) f
@@ -32,7 +32,7 @@ module _ (ws : List ℕ) where
   eliminated = solved 4 (rotZoomSystem (rotZoomSums ws) (countOf ws)) .outcome
 
   pub rotzoom-refuses : (refusalOf (rotZoomFit ws) ≡ 6) ↔ (eliminated ≡ Singular)
-  unfolding rotZoomFit
+  unfolding rotZoomFrom
   rotzoom-refuses = (
     (λ e. six-is-singular eliminated (sym (number-of-guarded eliminated (RotZoom _ _ _ _) refl) ∙ e)),
     (λ e. number-of-guarded eliminated (RotZoom _ _ _ _) refl ∙ ap numberOf e),
@@ -58,12 +58,12 @@ module _ (ws : List ℕ) where
   second = solved 3 (affineV (affineSums ws) (countOf ws)) .outcome
 
   pub affine-refuses : (refusalOf (affineFit ws) ≡ 6) ↔ ((first ≡ Singular) ⊎ (second ≡ Singular))
-  unfolding affineFit
+  unfolding affineFrom
   affine-refuses = (
     (λ e. either-refuses first second (Affine _ _ _ _ _ _) refl e),
     (λ e. refuses-either first second (Affine _ _ _ _ _ _) refl e),
   )
 
   pub translation-never-refuses : refusalOf (translationFit ws) ≡ 0
-  unfolding translationFit
+  unfolding translationFrom
   translation-never-refuses = refl

@@ -16,7 +16,7 @@ use Rattle.sample.specs.Sample.{sampleOf, centreOf, pelsOf}
 use Rattle.fit.specs.declared.Fitted.{Fitted}
 use Rattle.fit.specs.declared.Fitted.the-variants.{Refused}
 use Rattle.fit.specs.Sums.{Summing, sumsOf, plus}
-use Rattle.fit.specs.Fitted.{translationBy, rotZoomBy, affineBy, translationFit, rotZoomFit, affineFit, fitRefusal, fitted}
+use Rattle.fit.specs.Fitted.{translationBy, rotZoomBy, affineBy, translationFrom, rotZoomFrom, affineFrom, fitRefusal, fitted}
 
 -- the answer of a type's fit by the sums over so many samples
 abbrev fitBy : ℕ → Summing → ℕ → Fitted
@@ -47,7 +47,7 @@ module _ {ws vs : List ℕ} (same : SameSamples ws vs) where
   same-sums = λ i term. same-fold (plus term) nought i
 
   pub same-fit : (gmType : ℕ) → fitted gmType ws ≡ fitted gmType vs
-  unfolding translationFit rotZoomFit affineFit
+  unfolding translationFrom rotZoomFrom affineFrom
   same-fit gmType =
       ap (λ (samples : ℕ). fitBy gmType (sumsOf sampleOf ws) samples) same-length
       ∙ ap (λ (sum : Summing). fitBy gmType sum (length vs)) same-sums

@@ -1,13 +1,10 @@
 -- A loop that carries every sum of a fit gives each sum as a fold of its own term: a sample moves each of them by itself.
 -- Assumes nothing.
-use Prim.Native.Nat.{ℕ}
 use mathlib.Core.List.{List, [], _∷_}
 use mathlib.Core.Path.{_≡_, refl, ap, _∙_}
 use Rattle.laws.specs.Loops.{fold}
-use Rattle.laws.specs.Binary64.{nought}
 use Rattle.sample.specs.declared.MotionSample.{MotionSample}
-use Rattle.sample.specs.Sample.{sampleOf}
-use Rattle.fit.specs.Sums.{reading, plus, Summing, translationTotals, rotZoomTotals, affineTotals, translationSums, rotZoomSums, affineSums}
+use Rattle.fit.specs.Sums.{reading, plus, Summing, sumsOf, noSums, translationTotals, rotZoomTotals, affineTotals}
 use Rattle.fit.specs.Inner.{translationStep, rotZoomStep, affineStep}
 
 -- any sums, a step that adds a sample's term to each of them, and any way to read a sample
@@ -19,15 +16,15 @@ module _ {A S : Type 0} (totals : Summing → S) (step : S → MotionSample → 
   sums-apart (x ∷ xs) start =
       ap (fold (reading step read) xs) (moves start (read x)) ∙ sums-apart xs (λ term. plus term (start term) (read x))
 
-module _ (ws : List ℕ) where
-  pub translation-sums : fold (reading translationStep sampleOf) ws (translationTotals (λ term. nought)) ≡ translationSums ws
+module _ {A : Type 0} (read : A → MotionSample) (xs : List A) where
+  pub translation-sums : fold (reading translationStep read) xs (translationTotals noSums) ≡ translationTotals (sumsOf read xs)
   unfolding translationTotals
-  translation-sums = sums-apart translationTotals translationStep sampleOf (λ start s. refl) ws (λ term. nought)
+  translation-sums = sums-apart translationTotals translationStep read (λ start s. refl) xs noSums
 
-  pub rotZoom-sums : fold (reading rotZoomStep sampleOf) ws (rotZoomTotals (λ term. nought)) ≡ rotZoomSums ws
+  pub rotZoom-sums : fold (reading rotZoomStep read) xs (rotZoomTotals noSums) ≡ rotZoomTotals (sumsOf read xs)
   unfolding rotZoomTotals
-  rotZoom-sums = sums-apart rotZoomTotals rotZoomStep sampleOf (λ start s. refl) ws (λ term. nought)
+  rotZoom-sums = sums-apart rotZoomTotals rotZoomStep read (λ start s. refl) xs noSums
 
-  pub affine-sums : fold (reading affineStep sampleOf) ws (affineTotals (λ term. nought)) ≡ affineSums ws
+  pub affine-sums : fold (reading affineStep read) xs (affineTotals noSums) ≡ affineTotals (sumsOf read xs)
   unfolding affineTotals
-  affine-sums = sums-apart affineTotals affineStep sampleOf (λ start s. refl) ws (λ term. nought)
+  affine-sums = sums-apart affineTotals affineStep read (λ start s. refl) xs noSums

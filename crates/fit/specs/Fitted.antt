@@ -1,4 +1,4 @@
--- The three fits of a list of sample words, their refusals, and the number and values of each case of the answer.
+-- The three fits of a list whose elements are read as samples, their refusals, and the number and values of each case of the answer.
 -- Assumes nothing.
 use Prim.Native.Nat.{ℕ}
 use mathlib.Core.Bool.{Bool}
@@ -9,6 +9,7 @@ use lib.Ieee.{Float, nan, neg}
 use Rattle.laws.specs.Refusal.{row, judge, orElse, choose, either}
 use Rattle.laws.specs.Call.{answered}
 use Rattle.laws.specs.Binary64.{_⊕_, _⊘_, nought, one}
+use Rattle.sample.specs.declared.MotionSample.{MotionSample}
 use Rattle.sample.specs.Word.{mostSamples}
 use Rattle.sample.specs.Sample.{sampleOf}
 use Rattle.solve.specs.declared.System.{System}
@@ -69,8 +70,8 @@ rotZoomSystem t n =
 abbrev pub at : Solution → ℕ → Float
 at s i = getD (s .x) i nan
 
-abbrev pub rotZoomOf : Solution → Fitted
-rotZoomOf s = unlessSingular (s .outcome) (Refused (numberOf (s .outcome))) (RotZoom (at s 2) (at s 3) (one ⊕ at s 0) (at s 1))
+abbrev pub rotZoomModel : Solution → Fitted
+rotZoomModel s = unlessSingular (s .outcome) (Refused (numberOf (s .outcome))) (RotZoom (at s 2) (at s 3) (one ⊕ at s 0) (at s 1))
 
 -- the three equations of an affine model's row, with the right side of that row
 abbrev pub affineSystem : AffineSums → Float → Float → Float → Float → System
@@ -91,32 +92,48 @@ abbrev pub affineV : AffineSums → Float → System
 affineV t n = affineSystem t n (t .sxv) (t .syv) (t .sv)
 
 -- the first or the second elimination refuses, or neither
-abbrev pub affineOf : Solution → Solution → Fitted
-affineOf xu xv =
+abbrev pub affineModel : Solution → Solution → Fitted
+affineModel xu xv =
     unlessSingular (xu .outcome) (Refused (numberOf (xu .outcome)))
     (unlessSingular (xv .outcome) (Refused (numberOf (xv .outcome)))
     (Affine (at xu 2) (at xv 2) (one ⊕ at xu 0) (at xu 1) (at xv 0) (one ⊕ at xv 1)))
+
+-- the fits of sums and their count
+abbrev pub rotZoomOf : RotZoomSums → Float → Fitted
+rotZoomOf t n = rotZoomModel (solved 4 (rotZoomSystem t n))
+
+abbrev pub affineOf : AffineSums → Float → Fitted
+affineOf t n = affineModel (solved 3 (affineU t n)) (solved 3 (affineV t n))
 
 -- each fit of the sums over so many samples
 abbrev pub translationBy : Summing → ℕ → Fitted
 translationBy sum samples = translationOf (translationTotals sum) (countAs samples)
 
 abbrev pub rotZoomBy : Summing → ℕ → Fitted
-rotZoomBy sum samples = rotZoomOf (solved 4 (rotZoomSystem (rotZoomTotals sum) (countAs samples)))
+rotZoomBy sum samples = rotZoomOf (rotZoomTotals sum) (countAs samples)
 
 abbrev pub affineBy : Summing → ℕ → Fitted
-affineBy sum samples =
-    affineOf (solved 3 (affineU (affineTotals sum) (countAs samples))) (solved 3 (affineV (affineTotals sum) (countAs samples)))
+affineBy sum samples = affineOf (affineTotals sum) (countAs samples)
 
--- each fit of a list of words of any length
-unfoldable pub translationFit : List ℕ → Fitted
-translationFit ws = translationBy (sumsOf sampleOf ws) (length ws)
+-- each fit of a list of any length whose elements are read as samples
+unfoldable pub translationFrom : {A : Type 0} → (A → MotionSample) → List A → Fitted
+translationFrom read xs = translationBy (sumsOf read xs) (length xs)
 
-unfoldable pub rotZoomFit : List ℕ → Fitted
-rotZoomFit ws = rotZoomBy (sumsOf sampleOf ws) (length ws)
+unfoldable pub rotZoomFrom : {A : Type 0} → (A → MotionSample) → List A → Fitted
+rotZoomFrom read xs = rotZoomBy (sumsOf read xs) (length xs)
 
-unfoldable pub affineFit : List ℕ → Fitted
-affineFit ws = affineBy (sumsOf sampleOf ws) (length ws)
+unfoldable pub affineFrom : {A : Type 0} → (A → MotionSample) → List A → Fitted
+affineFrom read xs = affineBy (sumsOf read xs) (length xs)
+
+-- of a list of words
+abbrev pub translationFit : List ℕ → Fitted
+translationFit ws = translationFrom sampleOf ws
+
+abbrev pub rotZoomFit : List ℕ → Fitted
+rotZoomFit ws = rotZoomFrom sampleOf ws
+
+abbrev pub affineFit : List ℕ → Fitted
+affineFit ws = affineFrom sampleOf ws
 
 -- row 1: a list of so many samples is too long
 abbrev pub tooMany : ℕ → Bool

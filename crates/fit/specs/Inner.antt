@@ -1,9 +1,12 @@
 -- What the functions below the public calls ask and answer; no public contract cites it.
 -- Assumes nothing.
+use Prim.Native.Nat.{ℕ}
+use Rattle.laws.specs.Call.{answered}
 use Rattle.sample.specs.declared.MotionSample.{MotionSample}
 use Rattle.fit.specs.declared.TranslationSums.{TranslationSums}
 use Rattle.fit.specs.declared.RotZoomSums.{RotZoomSums}
 use Rattle.fit.specs.declared.AffineSums.{AffineSums}
+use Rattle.fit.specs.Fitted.{listRefusal}
 use Rattle.fit.specs.Sums.{plus, su, sv, sx, sy, sxx, sxy, syy, sxu, syu, sxv, syv, q, p1, p2}
 
 -- a sample added to every sum of a fit
@@ -37,3 +40,7 @@ affineStep t s =
       syv = plus syv (t .syv) s;
       sv = plus sv (t .sv) s;
     }
+
+-- how many samples of so many a walk takes: a list that is too long isn't walked
+abbrev pub taken : ℕ → ℕ
+taken samples = answered (λ refusal. 0) (listRefusal samples) samples

@@ -33,6 +33,10 @@ Summing = (MotionSample → Float) → Float
 abbrev pub sumsOf : {A : Type 0} → (A → MotionSample) → List A → Summing
 sumsOf read xs term = total (λ x. term (read x)) xs
 
+-- of no samples
+abbrev pub noSums : Summing
+noSums term = nought
+
 -- the terms, by the names of their sums
 abbrev pub su : MotionSample → Float
 su s = s .u

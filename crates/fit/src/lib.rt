@@ -1,12 +1,14 @@
 // The three fits of motion models: a slice of sample words goes in, a fitted model or a refusal comes
 // out. Sums, elimination and back-substitution in binary64, one rounding an operation, samples first
 // to last: `fit_translation`, `fit_rotzoom`, `fit_affine` (encoder/global_motion.rs); docs/RULES.md,
-// 'Records' (Model), 'Fits and score', rows 1, 4 and 6.
+// 'Records' (Model), 'Fits and score', rows 1, 4 and 6. A walk over samples themselves begins with the
+// `begin` of its fit, takes its `step` for each sample and ends with its `ends`.
 
 use sample::MOST_SAMPLES;
 use sample::MotionSample;
 use solve::Outcome;
 use solve::Solution;
+use solve::Solutions;
 use solve::System;
 ghost use mathlib.Core.Path.{_≡_};
 ghost use Prim.Native.Nat.{_≤_};
@@ -14,9 +16,10 @@ ghost use lib.IntN.{pos};
 ghost use lib.ListN.{length};
 ghost use lib.Ieee.{binary64, ofInt};
 ghost use Rattle.sample.specs.Word.{mostSamples};
-ghost use Rattle.fit.specs.Sums.{translationSums, rotZoomSums, affineSums};
-ghost use Rattle.fit.specs.Inner.{translationStep, rotZoomStep, affineStep};
-ghost use Rattle.fit.specs.Fitted.{refusalOf, typeOf, rotZoomSystem, affineSystem, rotZoomOf, affineOf};
+ghost use Rattle.solve.specs.Solution.{solution};
+ghost use Rattle.fit.specs.Sums.{noSums, countAs, translationTotals, rotZoomTotals, affineTotals, translationSums, rotZoomSums, affineSums};
+ghost use Rattle.fit.specs.Inner.{translationStep, rotZoomStep, affineStep, taken};
+ghost use Rattle.fit.specs.Fitted.{refusalOf, typeOf, rotZoomSystem, affineU, rotZoomModel, affineModel, translationOf, rotZoomOf, affineOf};
 ghost use Rattle.fit.specs.Fitted.{translationFit, rotZoomFit, affineFit, fitOf, listRefusal, typeRefusal, fitRefusal, fitAnswer, fitted};
 
 // The type codes of the three fits.
@@ -142,7 +145,46 @@ pub fn count_of(samples: usize) -> f64
     samples as u32 as f64
 }
 
-fn translation_step(t: TranslationSums, s: MotionSample) -> TranslationSums
+// No sample is added yet.
+pub fn translation_begin() -> TranslationSums
+    ensures { λ r. ⌜ r ≡ translationTotals noSums ⌝ }
+{
+    TranslationSums { su: 0.0, sv: 0.0 }
+}
+
+pub fn rotzoom_begin() -> RotZoomSums
+    ensures { λ r. ⌜ r ≡ rotZoomTotals noSums ⌝ }
+{
+    RotZoomSums {
+        sx: 0.0,
+        sy: 0.0,
+        q: 0.0,
+        p1: 0.0,
+        p2: 0.0,
+        su: 0.0,
+        sv: 0.0,
+    }
+}
+
+pub fn affine_begin() -> AffineSums
+    ensures { λ r. ⌜ r ≡ affineTotals noSums ⌝ }
+{
+    AffineSums {
+        sx: 0.0,
+        sy: 0.0,
+        sxx: 0.0,
+        sxy: 0.0,
+        syy: 0.0,
+        sxu: 0.0,
+        syu: 0.0,
+        su: 0.0,
+        sxv: 0.0,
+        syv: 0.0,
+        sv: 0.0,
+    }
+}
+
+pub fn translation_step(t: TranslationSums, s: MotionSample) -> TranslationSums
     ensures { λ r. ⌜ r ≡ translationStep t s ⌝ }
 {
     TranslationSums {
@@ -151,7 +193,7 @@ fn translation_step(t: TranslationSums, s: MotionSample) -> TranslationSums
     }
 }
 
-fn rotzoom_step(t: RotZoomSums, s: MotionSample) -> RotZoomSums
+pub fn rotzoom_step(t: RotZoomSums, s: MotionSample) -> RotZoomSums
     ensures { λ r. ⌜ r ≡ rotZoomStep t s ⌝ }
 {
     RotZoomSums {
@@ -165,7 +207,7 @@ fn rotzoom_step(t: RotZoomSums, s: MotionSample) -> RotZoomSums
     }
 }
 
-fn affine_step(t: AffineSums, s: MotionSample) -> AffineSums
+pub fn affine_step(t: AffineSums, s: MotionSample) -> AffineSums
     ensures { λ r. ⌜ r ≡ affineStep t s ⌝ }
 {
     AffineSums {
@@ -186,7 +228,7 @@ fn affine_step(t: AffineSums, s: MotionSample) -> AffineSums
 fn translation_sums(words: &[u32]) -> TranslationSums
     ensures { λ r. ⌜ r ≡ translationSums (now (words .entry)) ⌝ }
 {
-    let mut t = TranslationSums { su: 0.0, sv: 0.0 };
+    let mut t = translation_begin();
     let mut i = 0usize;
     while i < words.len() {
         t = translation_step(t, sample::sample_of(words[i]));
@@ -198,15 +240,7 @@ fn translation_sums(words: &[u32]) -> TranslationSums
 fn rotzoom_sums(words: &[u32]) -> RotZoomSums
     ensures { λ r. ⌜ r ≡ rotZoomSums (now (words .entry)) ⌝ }
 {
-    let mut t = RotZoomSums {
-        sx: 0.0,
-        sy: 0.0,
-        q: 0.0,
-        p1: 0.0,
-        p2: 0.0,
-        su: 0.0,
-        sv: 0.0,
-    };
+    let mut t = rotzoom_begin();
     let centres = sample::centres();
     let mut i = 0usize;
     while i < words.len() {
@@ -219,19 +253,7 @@ fn rotzoom_sums(words: &[u32]) -> RotZoomSums
 fn affine_sums(words: &[u32]) -> AffineSums
     ensures { λ r. ⌜ r ≡ affineSums (now (words .entry)) ⌝ }
 {
-    let mut t = AffineSums {
-        sx: 0.0,
-        sy: 0.0,
-        sxx: 0.0,
-        sxy: 0.0,
-        syy: 0.0,
-        sxu: 0.0,
-        syu: 0.0,
-        su: 0.0,
-        sxv: 0.0,
-        syv: 0.0,
-        sv: 0.0,
-    };
+    let mut t = affine_begin();
     let centres = sample::centres();
     let mut i = 0usize;
     while i < words.len() {
@@ -266,8 +288,9 @@ fn rotzoom_system(t: RotZoomSums, n: f64) -> System
     System { a, b }
 }
 
-fn affine_system(t: AffineSums, n: f64, b0: f64, b1: f64, b2: f64) -> System
-    ensures { λ r. ⌜ r ≡ affineSystem t n b0 b1 b2 ⌝ }
+// The matrix that the rows of u and of v share, and the right side of u.
+fn affine_system(t: AffineSums, n: f64) -> System
+    ensures { λ r. ⌜ r ≡ affineU t n ⌝ }
 {
     let a = [
         t.sxx,
@@ -287,17 +310,16 @@ fn affine_system(t: AffineSums, n: f64, b0: f64, b1: f64, b2: f64) -> System
         0.0,
         0.0,
     ];
-    let b = [b0, b1, b2, 0.0];
+    let b = [t.sxu, t.syu, t.su, 0.0];
     System { a, b }
 }
 
 // The mean motion; of no samples not-a-number twice.
-fn translation_fit(words: &[u32]) -> Fitted
-    requires { ⌜ length (now words) ≤ mostSamples ⌝ }
-    ensures { λ r. ⌜ r ≡ translationFit (now (words .entry)) ⌝ }
+fn translation_of(t: TranslationSums, samples: usize) -> Fitted
+    requires { ⌜ samples ≤ mostSamples ⌝ }
+    ensures { λ r. ⌜ r ≡ translationOf t (countAs samples) ⌝ }
 {
-    let n = count_of(words.len());
-    let t = translation_sums(words);
+    let n = count_of(samples);
     Fitted::Translation {
         m0: t.su / n,
         m1: t.sv / n,
@@ -305,8 +327,8 @@ fn translation_fit(words: &[u32]) -> Fitted
 }
 
 // Unknowns in the order alpha, b, tx, ty.
-fn rotzoom_of(solution: Solution) -> Fitted
-    ensures { λ r. ⌜ r ≡ rotZoomOf solution ⌝ }
+fn rotzoom_model(solution: Solution) -> Fitted
+    ensures { λ r. ⌜ r ≡ rotZoomModel solution ⌝ }
 {
     let x = solution.x;
     let outcome = solution.outcome;
@@ -321,47 +343,61 @@ fn rotzoom_of(solution: Solution) -> Fitted
     }
 }
 
-fn rotzoom_fit(words: &[u32]) -> Fitted
-    requires { ⌜ length (now words) ≤ mostSamples ⌝ }
-    ensures { λ r. ⌜ r ≡ rotZoomFit (now (words .entry)) ⌝ }
+fn rotzoom_of(t: RotZoomSums, samples: usize) -> Fitted
+    requires { ⌜ samples ≤ mostSamples ⌝ }
+    ensures { λ r. ⌜ r ≡ rotZoomOf t (countAs samples) ⌝ }
 {
-    let n = count_of(words.len());
-    rotzoom_of(solve::solve_linear(4, rotzoom_system(rotzoom_sums(words), n)))
+    rotzoom_model(solve::solve_linear(4, rotzoom_system(t, count_of(samples))))
 }
 
-fn affine_of(across: Solution, down: Solution) -> Fitted
-    ensures { λ r. ⌜ r ≡ affineOf across down ⌝ }
+fn affine_model(solutions: Solutions) -> Fitted
+    ensures { λ r. ⌜ r ≡ affineModel (solution (solutions .outcome) (solutions .x)) (solution (solutions .outcome) (solutions .y)) ⌝ }
 {
-    let xu = across.x;
-    let xv = down.x;
-    let outcome_u = across.outcome;
-    let outcome_v = down.outcome;
-    match outcome_u {
+    let x = solutions.x;
+    let y = solutions.y;
+    let outcome = solutions.outcome;
+    match outcome {
         Outcome::Singular => Fitted::Refused(SINGULAR),
-        Outcome::Solved => match outcome_v {
-            Outcome::Singular => Fitted::Refused(SINGULAR),
-            Outcome::Solved => Fitted::Affine {
-                m0: xu[2],
-                m1: xv[2],
-                m2: 1.0 + xu[0],
-                m3: xu[1],
-                m4: xv[0],
-                m5: 1.0 + xv[1],
-            },
+        Outcome::Solved => Fitted::Affine {
+            m0: x[2],
+            m1: y[2],
+            m2: 1.0 + x[0],
+            m3: x[1],
+            m4: y[0],
+            m5: 1.0 + y[1],
         },
     }
 }
 
-// The rows of u and of v share their matrix.
+// The rows of u and of v share their matrix, and so one elimination.
+fn affine_of(t: AffineSums, samples: usize) -> Fitted
+    requires { ⌜ samples ≤ mostSamples ⌝ }
+    ensures { λ r. ⌜ r ≡ affineOf t (countAs samples) ⌝ }
+{
+    let system = affine_system(t, count_of(samples));
+    let down = [t.sxv, t.syv, t.sv, 0.0];
+    affine_model(solve::solve_pair(3, system, down))
+}
+
+fn translation_fit(words: &[u32]) -> Fitted
+    requires { ⌜ length (now words) ≤ mostSamples ⌝ }
+    ensures { λ r. ⌜ r ≡ translationFit (now (words .entry)) ⌝ }
+{
+    translation_of(translation_sums(words), words.len())
+}
+
+fn rotzoom_fit(words: &[u32]) -> Fitted
+    requires { ⌜ length (now words) ≤ mostSamples ⌝ }
+    ensures { λ r. ⌜ r ≡ rotZoomFit (now (words .entry)) ⌝ }
+{
+    rotzoom_of(rotzoom_sums(words), words.len())
+}
+
 fn affine_fit(words: &[u32]) -> Fitted
     requires { ⌜ length (now words) ≤ mostSamples ⌝ }
     ensures { λ r. ⌜ r ≡ affineFit (now (words .entry)) ⌝ }
 {
-    let n = count_of(words.len());
-    let t = affine_sums(words);
-    let across = solve::solve_linear(3, affine_system(t, n, t.sxu, t.syu, t.su));
-    let down = solve::solve_linear(3, affine_system(t, n, t.sxv, t.syv, t.sv));
-    affine_of(across, down)
+    affine_of(affine_sums(words), words.len())
 }
 
 // Row 1: a list of so many samples is too long.
@@ -372,6 +408,47 @@ pub fn list_refusal(samples: usize) -> u32
         return TOO_MANY;
     }
     0
+}
+
+// How many samples of so many a walk takes: none of a list that is refused.
+pub fn list_taken(samples: usize) -> usize
+    ensures { λ r. ⌜ r ≡ taken samples ⌝ }
+{
+    if list_refusal(samples) != 0 {
+        return 0;
+    }
+    samples
+}
+
+// The fit of the sums over so many samples, or the list's refusal.
+pub fn translation_ends(t: TranslationSums, samples: usize) -> Fitted
+    ensures { λ r. ⌜ r ≡ fitAnswer samples (translationOf t (countAs samples)) ⌝ }
+{
+    let refusal = list_refusal(samples);
+    if refusal != 0 {
+        return Fitted::Refused(refusal);
+    }
+    translation_of(t, samples)
+}
+
+pub fn rotzoom_ends(t: RotZoomSums, samples: usize) -> Fitted
+    ensures { λ r. ⌜ r ≡ fitAnswer samples (rotZoomOf t (countAs samples)) ⌝ }
+{
+    let refusal = list_refusal(samples);
+    if refusal != 0 {
+        return Fitted::Refused(refusal);
+    }
+    rotzoom_of(t, samples)
+}
+
+pub fn affine_ends(t: AffineSums, samples: usize) -> Fitted
+    ensures { λ r. ⌜ r ≡ fitAnswer samples (affineOf t (countAs samples)) ⌝ }
+{
+    let refusal = list_refusal(samples);
+    if refusal != 0 {
+        return Fitted::Refused(refusal);
+    }
+    affine_of(t, samples)
 }
 
 pub fn fit_translation(words: &[u32]) -> Fitted

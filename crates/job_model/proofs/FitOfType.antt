@@ -15,7 +15,7 @@ use Rattle.solve.specs.Elimination.{unlessSingular}
 use Rattle.solve.specs.Solution.{solved, numberOf}
 use Rattle.fit.specs.declared.Fitted.{Fitted}
 use Rattle.fit.specs.declared.Fitted.the-variants.{Refused, RotZoom, Affine}
-use Rattle.fit.specs.Fitted.{fitOf, fitted, refusalOf, typeOf, translationFit, rotZoomFit, affineFit, rotZoomOf, affineOf, rotZoomSystem, affineU, affineV, at}
+use Rattle.fit.specs.Fitted.{fitOf, fitted, refusalOf, typeOf, translationFrom, rotZoomFrom, affineFrom, rotZoomModel, affineModel, rotZoomSystem, affineU, affineV, at}
 use Rattle.fit.specs.Sums.{countOf, rotZoomSums, affineSums}
 use Rattle.quantize.specs.Quantize.{params, quantizedModel}
 use Rattle.quantize.proofs.Accepted.{refusal-is, accepted-params}
@@ -32,18 +32,18 @@ guarded kind Singular f h = record { number = inr refl; same = λ e. absurd (ome
 model-of-type : (kind : ℕ) (f : Fitted) → refusalOf f ≡ 0 → typeOf f ≡ kind → OfType kind f
 model-of-type kind f e t = record { number = inl e; same = λ _. t }
 
-rotzoom-of-type : (s : Solution) → OfType 2 (rotZoomOf s)
+rotzoom-of-type : (s : Solution) → OfType 2 (rotZoomModel s)
 rotzoom-of-type s =
     let m = RotZoom (at s 2) (at s 3) (one ⊕ at s 0) (at s 1) in
     guarded 2 (s .outcome) m (model-of-type 2 m refl refl)
 
-affine-of-type : (xu xv : Solution) → OfType 3 (affineOf xu xv)
+affine-of-type : (xu xv : Solution) → OfType 3 (affineModel xu xv)
 affine-of-type xu xv =
     let m = Affine (at xu 2) (at xv 2) (one ⊕ at xu 0) (at xu 1) (at xv 0) (one ⊕ at xv 1) in
     guarded 3 (xu .outcome) (unlessSingular (xv .outcome) (Refused (numberOf (xv .outcome))) m) (guarded 3 (xv .outcome) m (model-of-type 3 m refl refl))
 
 fit-of-type : (kind : ℕ) (ws : List ℕ) → 1 ≤ kind → kind ≤ 3 → OfType kind (fitOf kind ws)
-unfolding translationFit rotZoomFit affineFit
+unfolding translationFrom rotZoomFrom affineFrom
 fit-of-type zero ws l m = absurd (omega arith)
 fit-of-type (suc zero) ws l m = record { number = inl refl; same = λ e. refl }
 fit-of-type (suc (suc zero)) ws l m = rotzoom-of-type (solved 4 (rotZoomSystem (rotZoomSums ws) (countOf ws)))

@@ -14,7 +14,7 @@ use Rattle.fit.specs.declared.Fitted.the-variants.{Refused, Translation, RotZoo
 use Rattle.fit.specs.Fitted.{typeOf}
 use Rattle.grid_number.specs.GridNumber.{gridNumber}
 use Rattle.score.specs.Score.{slot}
-use Rattle.quantize.specs.Quantize.{linearOf, refitted, params, slotOf}
+use Rattle.quantize.specs.Quantize.{linearOf, refitted, params, paramsFrom, slotOf}
 use Rattle.quantize.specs.OnGrid.{gridNumberAt, NearestAt}
 use Rattle.quantize.proofs.OppositeSlots.{slot-four-opposite}
 use Rattle.quantize.proofs.OnGrid.{each-of-six}
@@ -39,7 +39,7 @@ opposite-nearest flag m3 =
 
 pub quantized-nearest : (f : Fitted) (flag : ℕ) (ws : List ℕ) (i : ℕ) → (typeOf f ≡ 0 → ⊥) → HasGridNumber f i
     → NearestAt (typeOf f) flag i (gridNumberAt f flag ws i) (slot (params f flag ws) i)
-unfolding params linearOf
+unfolding paramsFrom linearOf
 quantized-nearest (Refused n) flag ws i m h = absurd (m refl)
 quantized-nearest (Translation m0 m1) flag ws zero m h = slot-nearest 1 flag 0 (gridNumber (refitted (linearOf (Translation m0 m1) flag) ws .u))
 quantized-nearest (Translation m0 m1) flag ws (suc zero) m h = slot-nearest 1 flag 1 (gridNumber (refitted (linearOf (Translation m0 m1) flag) ws .v))

@@ -16,7 +16,7 @@ use Rattle.fit.specs.Fitted.{typeOf}
 use Rattle.grid_number.specs.GridNumber.{gridNumber}
 use Rattle.score.specs.Score.{slot}
 use Rattle.quantize.specs.declared.Motion.{Motion}
-use Rattle.quantize.specs.Quantize.{linearOf, refitted, paramsOf, params, slotOf}
+use Rattle.quantize.specs.Quantize.{linearOf, refitted, paramsOf, params, paramsFrom, slotOf}
 
 -- ---- what it is to be on the grid
 
@@ -103,7 +103,7 @@ on-grid-affine flag t m2 m3 m4 m5 =
     }
 
 pub quantized-on-grid : (f : Fitted) (flag : ℕ) (ws : List ℕ) → (typeOf f ≡ 0 → ⊥) → OnGrid (typeOf f) flag (params f flag ws)
-unfolding params linearOf
+unfolding paramsFrom linearOf
 quantized-on-grid (Refused n) flag ws h = absurd (h refl)
 quantized-on-grid (Translation m0 m1) flag ws h = on-grid-translation flag (refitted (linearOf (Translation m0 m1) flag) ws)
 quantized-on-grid (RotZoom m0 m1 m2 m3) flag ws h = on-grid-rotzoom flag (refitted (linearOf (RotZoom m0 m1 m2 m3) flag) ws) m2 m3

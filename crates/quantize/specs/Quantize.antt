@@ -75,15 +75,22 @@ meanMotion t samples =
 abbrev pub refitBy : Linear → Summing → ℕ → Motion
 refitBy l sum samples = meanMotion (refitTotals (continuousLinear l) sum) samples
 
-unfoldable pub refitted : Linear → List ℕ → Motion
-refitted l ws = refitBy l (sumsOf sampleOf ws) (length ws)
+-- over a list whose elements are read as samples
+unfoldable pub refittedFrom : {A : Type 0} → (A → MotionSample) → Linear → List A → Motion
+refittedFrom read l xs = refitBy l (sumsOf read xs) (length xs)
+
+abbrev pub refitted : Linear → List ℕ → Motion
+refitted l ws = refittedFrom sampleOf l ws
 
 -- the six numbers, x first
 abbrev pub paramsOf : ℕ → ℕ → Linear → Motion → List ℤ
 paramsOf gmType flag l t = slotOf gmType flag 0 (t .u) ∷ slotOf gmType flag 1 (t .v) ∷ l .p2 ∷ l .p3 ∷ l .p4 ∷ l .p5 ∷ []
 
-unfoldable pub params : Fitted → ℕ → List ℕ → List ℤ
-params f flag ws = paramsOf (typeOf f) flag (linearOf f flag) (refitted (linearOf f flag) ws)
+unfoldable pub paramsFrom : {A : Type 0} → (A → MotionSample) → Fitted → ℕ → List A → List ℤ
+paramsFrom read f flag xs = paramsOf (typeOf f) flag (linearOf f flag) (refittedFrom read (linearOf f flag) xs)
+
+abbrev pub params : Fitted → ℕ → List ℕ → List ℤ
+params f flag ws = paramsFrom sampleOf f flag ws
 
 -- a refused fit is no model: it has no type
 abbrev pub noModel : Fitted → Bool
@@ -101,8 +108,12 @@ quantizedAs n p = record { refusal = n; params = p }
 abbrev pub refusedModel : ℕ → Quantized
 refusedModel n = quantizedAs n (replicate 6 (pos 0))
 
+abbrev pub quantizedFrom : {A : Type 0} → (A → MotionSample) → Fitted → ℕ → List A → Quantized
+quantizedFrom read f flag xs = answered refusedModel (quantizeRefusal f flag (length xs)) (quantizedAs 0 (paramsFrom read f flag xs))
+
+-- of a list of words
 abbrev pub quantizedModel : Fitted → ℕ → List ℕ → Quantized
-quantizedModel f flag ws = answered refusedModel (quantizeRefusal f flag (length ws)) (quantizedAs 0 (params f flag ws))
+quantizedModel f flag ws = quantizedFrom sampleOf f flag ws
 
 -- slots 0 and 1 exchanged
 abbrev pub exchange : List ℤ → List ℤ

@@ -15,9 +15,9 @@ ghost use lib.IntN.{natAbs};
 ghost use lib.ListN.{length};
 ghost use Rattle.sample.specs.Word.{mostSamples};
 ghost use Rattle.fit.specs.Fitted.{typeOf};
-ghost use Rattle.quantize.specs.Quantize.{slotOf, rotZoomLinear, identityLinear, linearOf, continuousLinear, refitted, paramsOf, params};
+ghost use Rattle.quantize.specs.Quantize.{slotOf, rotZoomLinear, identityLinear, linearOf, continuousLinear, meanMotion, refitted, paramsOf, params};
 ghost use Rattle.quantize.specs.Quantize.{modelRefusal, quantizeRefusal, refusedModel, quantizedModel, rowFirst};
-ghost use Rattle.quantize.specs.Inner.{refitStep, refitSums, Accepted};
+ghost use Rattle.quantize.specs.Inner.{refitStep, refitSums, linearUnlessRefused, refittingBegun, refittingStep, refittingEnds, Accepted};
 
 // Slots 2 to 5 of a model.
 pub struct Linear {
@@ -31,6 +31,16 @@ pub struct Linear {
 pub struct Motion {
     pub u: f64,
     pub v: f64,
+}
+
+// A walk over samples: the fitted model and the flag, the quantized linear part, the same as binary64
+// numbers, and the two sums of the refit so far.
+pub struct Refitting {
+    pub fitted: Fitted,
+    pub flag: u8,
+    pub linear: Linear,
+    pub m: ContinuousModel,
+    pub sums: TranslationSums,
 }
 
 // A row of the table of refusals (0: none), and the quantized model, x first.
@@ -129,7 +139,7 @@ fn refit_step(m: ContinuousModel, t: TranslationSums, s: MotionSample) -> Transl
 fn refit_sums(m: ContinuousModel, words: &[u32]) -> TranslationSums
     ensures { λ r. ⌜ r ≡ refitSums m (now (words .entry)) ⌝ }
 {
-    let mut t = TranslationSums { su: 0.0, sv: 0.0 };
+    let mut t = fit::translation_begin();
     let centres = sample::centres();
     let mut i = 0usize;
     while i < words.len() {
@@ -139,20 +149,27 @@ fn refit_sums(m: ContinuousModel, words: &[u32]) -> TranslationSums
     t
 }
 
-// The mean motion that the quantized linear part leaves, 0 with no samples.
-fn refit(l: Linear, words: &[u32]) -> Motion
-    requires { ⌜ length (now words) ≤ mostSamples ⌝ }
-    ensures { λ r. ⌜ r ≡ refitted l (now (words .entry)) ⌝ }
+// The mean motion of two sums over so many samples, 0 with none.
+fn mean_motion(t: TranslationSums, samples: usize) -> Motion
+    requires { ⌜ samples ≤ mostSamples ⌝ }
+    ensures { λ r. ⌜ r ≡ meanMotion t samples ⌝ }
 {
-    let t = refit_sums(continuous_linear(l), words);
-    if words.len() == 0 {
+    if samples == 0 {
         return Motion { u: 0.0, v: 0.0 };
     }
-    let n = fit::count_of(words.len());
+    let n = fit::count_of(samples);
     Motion {
         u: t.su / n,
         v: t.sv / n,
     }
+}
+
+// The mean motion that the quantized linear part leaves.
+fn refit(l: Linear, words: &[u32]) -> Motion
+    requires { ⌜ length (now words) ≤ mostSamples ⌝ }
+    ensures { λ r. ⌜ r ≡ refitted l (now (words .entry)) ⌝ }
+{
+    mean_motion(refit_sums(continuous_linear(l), words), words.len())
 }
 
 fn params_of(gm_type: u8, flag: u8, l: Linear, t: Motion) -> [i32; 6]
@@ -213,6 +230,67 @@ pub fn quantize_model(fitted: Fitted, flag: u8, words: &[u32]) -> Quantized
         return refused_model(refusal);
     }
     let params = model_params(fitted, flag, words);
+    Quantized { refusal: 0, params }
+}
+
+fn linear_unless_refused(fitted: Fitted, flag: u8) -> Linear
+    ensures { λ r. ⌜ r ≡ linearUnlessRefused fitted flag ⌝ }
+{
+    if flag > 1 {
+        return identity_linear();
+    }
+    linear_of(fitted, flag)
+}
+
+// A walk over samples begins with the linear part and no sample, takes each sample's step, and ends
+// with the quantized model or a refusal.
+pub fn refit_begin(fitted: Fitted, flag: u8) -> Refitting
+    ensures { λ r. ⌜ r ≡ refittingBegun fitted flag ⌝ }
+{
+    let linear = linear_unless_refused(fitted, flag);
+    let m = continuous_linear(linear);
+    let sums = fit::translation_begin();
+    Refitting {
+        fitted,
+        flag,
+        linear,
+        m,
+        sums,
+    }
+}
+
+pub fn refitting_step(t: Refitting, s: MotionSample) -> Refitting
+    ensures { λ r. ⌜ r ≡ refittingStep t s ⌝ }
+{
+    let fitted = t.fitted;
+    let linear = t.linear;
+    let m = t.m;
+    let sums = refit_step(m, t.sums, s);
+    Refitting {
+        fitted,
+        flag: t.flag,
+        linear,
+        m,
+        sums,
+    }
+}
+
+pub fn refit_ends(t: Refitting, samples: usize) -> Quantized
+    ensures { λ r. ⌜ r ≡ refittingEnds t samples ⌝ }
+{
+    let fitted = t.fitted;
+    let linear = t.linear;
+    let sums = t.sums;
+    let refusal = quantize_refusal(fitted, t.flag, samples);
+    if refusal != 0 {
+        return refused_model(refusal);
+    }
+    let params = params_of(
+        fit::type_of(fitted),
+        t.flag,
+        linear,
+        mean_motion(sums, samples),
+    );
     Quantized { refusal: 0, params }
 }
 

@@ -33,6 +33,8 @@ pub const MOTION_BIAS: u32 = 223;
 
 const BLOCK_SIDE: u32 = 16;
 
+// In C the same four numbers, in this order.
+#[repr(C)]
 pub struct MotionSample {
     pub x: f64,
     pub y: f64,

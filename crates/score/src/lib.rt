@@ -5,7 +5,7 @@ use grid_number::SCALE;
 use sample::MotionSample;
 ghost use mathlib.Core.Path.{_≡_};
 ghost use Rattle.score.specs.Score.{continuousOf, continuousModel, residualOf, scoreStep, scoreOf, meanSqResidual};
-ghost use Rattle.score.specs.Inner.{residualSum};
+ghost use Rattle.score.specs.Inner.{residualSum, scoringBegun, scoringStep};
 
 // A model of six numbers at 16 fraction bits, as binary64 numbers.
 pub struct ContinuousModel {
@@ -15,6 +15,12 @@ pub struct ContinuousModel {
     pub m3: f64,
     pub m4: f64,
     pub m5: f64,
+}
+
+// A model, and the squared residuals added so far.
+pub struct Scoring {
+    pub m: ContinuousModel,
+    pub acc: f64,
 }
 
 // A row of the table of refusals (0: none), and the mean squared residual.
@@ -80,6 +86,31 @@ pub fn score_of(acc: f64, samples: usize) -> Score
         refusal: 0,
         score: acc / fit::count_of(samples),
     }
+}
+
+// A walk over samples begins with the model and no residual, adds one for each sample, and ends with
+// the score of their count.
+pub fn score_begin(params: [i32; 6]) -> Scoring
+    ensures { λ r. ⌜ r ≡ scoringBegun params ⌝ }
+{
+    let m = continuous_of_params(params);
+    Scoring { m, acc: 0.0 }
+}
+
+pub fn scoring_step(t: Scoring, s: MotionSample) -> Scoring
+    ensures { λ r. ⌜ r ≡ scoringStep t s ⌝ }
+{
+    let m = t.m;
+    Scoring {
+        m,
+        acc: score_step(m, t.acc, s),
+    }
+}
+
+pub fn score_ends(t: Scoring, samples: usize) -> Score
+    ensures { λ r. ⌜ r ≡ scoreOf (t .acc) samples ⌝ }
+{
+    score_of(t.acc, samples)
 }
 
 fn residual_sum(m: ContinuousModel, words: &[u32]) -> f64

@@ -9,35 +9,35 @@ use Rattle.laws.specs.Binary64.{_⊖_, _⊗_, _⊘_, nought}
 use Rattle.solve.specs.declared.System.{System}
 use Rattle.solve.specs.declared.Outcome.{Outcome}
 use Rattle.solve.specs.declared.Outcome.the-variants.{Solved, Singular}
-use Rattle.solve.specs.declared.Elimination.{Elimination}
 use Rattle.solve.specs.declared.Solution.{Solution}
-use Rattle.solve.specs.declared.Unknowns.{Unknowns}
-use Rattle.solve.specs.Elimination.{entry, right, eliminated, unlessSingular}
+use Rattle.solve.specs.Elimination.{entry, right, Elimination, eliminated, unlessSingular}
 
-abbrev pub residueStep : System → Unknowns → ℕ → ℕ → Float → Float
-residueStep s u row k acc = acc ⊖ entry s row k ⊗ getD (u .x) k nan
+abbrev pub residueStep : List Float → List Float → ℕ → ℕ → Float → Float
+residueStep a x row k acc = acc ⊖ entry a row k ⊗ getD x k nan
 
 -- the right side of a row less the unknowns already found
-unfoldable pub residueOf : ℕ → System → Unknowns → ℕ → Float
-residueOf size s u row = run (residueStep s u row) (row + 1) size (right s row)
+unfoldable pub residueOf : ℕ → System → List Float → ℕ → Float
+residueOf size s x row = run (residueStep (s .a) x row) (row + 1) size (right (s .b) row)
 
 -- the unknown of a row
-abbrev pub unknownAt : ℕ → System → ℕ → Unknowns → Unknowns
-unknownAt size s row u = record { x = set (u .x) row (residueOf size s u row ⊘ entry s row row) }
+abbrev pub unknownAt : ℕ → System → ℕ → List Float → List Float
+unknownAt size s row x = set x row (residueOf size s x row ⊘ entry (s .a) row row)
 
 -- of the i-th row from below
-abbrev pub unknownStep : ℕ → System → ℕ → Unknowns → Unknowns
-unknownStep size s i u = unknownAt size s (size - 1 - i) u
+abbrev pub unknownStep : ℕ → System → ℕ → List Float → List Float
+unknownStep size s i x = unknownAt size s (size - 1 - i) x
 
 abbrev pub zeros : List Float
 zeros = replicate 4 nought
 
-unfoldable pub unknowns : ℕ → System → Unknowns
-unknowns size s = run (unknownStep size s) 0 size (record { x = zeros })
+unfoldable pub unknowns : ℕ → System → List Float
+unknowns size s = run (unknownStep size s) 0 size zeros
+
+abbrev pub solution : Outcome → List Float → Solution
+solution o x = record { outcome = o; x = x }
 
 abbrev pub answerOf : ℕ → Elimination → Solution
-answerOf size e =
-    unlessSingular (e .outcome) (record { outcome = Singular; x = zeros }) (record { outcome = Solved; x = unknowns size (e .system) .x })
+answerOf size e = unlessSingular (e .outcome) (solution Singular zeros) (solution Solved (unknowns size (e .system)))
 
 abbrev pub solved : ℕ → System → Solution
 solved size s = answerOf size (eliminated size s)

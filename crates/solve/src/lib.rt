@@ -1,11 +1,12 @@
 // Gaussian elimination with partial pivoting, in binary64: a system of three or four equations goes
 // in, its solution or a refusal comes out. Each operation rounds once, in the written order of
 // `solve_linear` (encoder/global_motion.rs); docs/RULES.md, 'Fits and score' and 'Rust forms to recast'.
+// Matrix and right side are lent and change in place.
 
 ghost use mathlib.Core.Path.{_≡_};
 ghost use Prim.Native.Nat.{_<_, _≤_};
-ghost use Rattle.solve.specs.Elimination.{absOf, entry, pivotStep, pivotOf, exchanged, reduceRow, reduced, column, columnStep, eliminated};
-ghost use Rattle.solve.specs.Solution.{residueStep, residueOf, unknownStep, unknowns, solved};
+ghost use Rattle.solve.specs.Elimination.{absOf, tooSmall, system, pivotStep, pivotOf, exchangedRows, exchangeRight, exchanged, factorOf, reducedRow, reduceRight, reduced, eliminating, column, eliminated};
+ghost use Rattle.solve.specs.Solution.{residueOf, unknownStep, unknowns, solution, solved};
 
 // docs/RULES.md, 'Fits and score': the binary64 nearest 1e-9, below which a pivot is refused.
 const LEAST_PIVOT: f64 = 1e-9;
@@ -28,15 +29,11 @@ pub struct Solution {
     pub x: [f64; 4],
 }
 
-// The unknowns found so far, from the last one up.
-pub struct Unknowns {
-    pub x: [f64; 4],
-}
-
-// Where the elimination stands: the system so far, and whether a pivot was too small.
-pub struct Elimination {
-    pub system: System,
+// The unknowns of two right sides of one matrix.
+pub struct Solutions {
     pub outcome: Outcome,
+    pub x: [f64; 4],
+    pub y: [f64; 4],
 }
 
 fn abs(x: f64) -> f64
@@ -51,49 +48,42 @@ fn abs(x: f64) -> f64
     x
 }
 
-fn entry_of(s: System, row: usize, col: usize) -> f64
-    requires { ⌜ (row < 4) × (col < 4) ⌝ }
-    ensures { λ r. ⌜ r ≡ entry s row col ⌝ }
+// A not-a-number pivot is below nothing, so it passes.
+fn too_small(pivot: f64) -> bool
+    ensures { λ r. ⌜ r ≡ tooSmall pivot ⌝ }
 {
-    let a = s.a;
-    a[row * 4 + col]
+    abs(pivot) < LEAST_PIVOT
 }
 
-fn pivot_step(s: System, col: usize, row: usize, pivot: usize) -> usize
+fn pivot_step(a: &[f64; 16], col: usize, row: usize, pivot: usize) -> usize
     requires { ⌜ (col < 4) × (row < 4) × (pivot < 4) ⌝ }
-    ensures { λ r. ⌜ (r ≡ pivotStep s col row pivot) × (r < 4) ⌝ }
+    ensures { λ r. ⌜ (r ≡ pivotStep (now (a .entry)) col row pivot) × (r < 4) ⌝ }
 {
-    if abs(entry_of(s, row, col)) > abs(entry_of(s, pivot, col)) {
+    if abs(a[row * 4 + col]) > abs(a[pivot * 4 + col]) {
         return row;
     }
     pivot
 }
 
 // The row of a column's largest magnitude, from the diagonal down; the first of equals.
-fn pivot_of(size: usize, s: System, col: usize) -> usize
+fn pivot_of(size: usize, a: &[f64; 16], col: usize) -> usize
     requires { ⌜ (size ≤ 4) × (col < size) ⌝ }
-    ensures { λ r. ⌜ (r ≡ pivotOf size s col) × (r < 4) ⌝ }
+    ensures { λ r. ⌜ (r ≡ pivotOf size (now (a .entry)) col) × (r < 4) ⌝ }
 {
     let mut pivot = col;
     let mut row = col + 1;
     while row < size {
-        pivot = pivot_step(s, col, row, pivot);
+        pivot = pivot_step(a, col, row, pivot);
         row += 1;
     }
     pivot
 }
 
-// Two rows change places, the right side with them.
-fn exchange_rows(size: usize, s: System, first: usize, second: usize) -> System
+// Two rows change places.
+fn exchange_rows(size: usize, first: usize, second: usize, a: &mut [f64; 16])
     requires { ⌜ (size ≤ 4) × (first < 4) × (second < 4) ⌝ }
-    ensures { λ r. ⌜ r ≡ exchanged size first second s ⌝ }
+    ensures { λ _. ⌜ now (a .exit) ≡ exchangedRows size first second (now (a .entry)) ⌝ }
 {
-    let mut b = s.b;
-    let bx = b[first];
-    let by = b[second];
-    b[first] = by;
-    b[second] = bx;
-    let mut a = s.a;
     let mut k = 0usize;
     while k < size {
         let x = a[first * 4 + k];
@@ -102,20 +92,58 @@ fn exchange_rows(size: usize, s: System, first: usize, second: usize) -> System
         a[second * 4 + k] = x;
         k += 1;
     }
-    System { a, b }
 }
 
-// A row less its multiple of the pivot row, from the pivot's column on.
-fn reduce_row(size: usize, col: usize, row: usize, s: System) -> System
-    requires { ⌜ (size ≤ 4) × (col < 4) × (row < 4) ⌝ }
-    ensures { λ r. ⌜ r ≡ reduceRow size col row s ⌝ }
+// The right side goes with the rows.
+fn exchange_right(first: usize, second: usize, b: &mut [f64; 4])
+    requires { ⌜ (first < 4) × (second < 4) ⌝ }
+    ensures { λ _. ⌜ now (b .exit) ≡ exchangeRight first second (now (b .entry)) ⌝ }
 {
-    let factor = entry_of(s, row, col) / entry_of(s, col, col);
-    let mut b = s.b;
-    let bx = b[row];
-    let by = b[col];
-    b[row] = bx - factor * by;
-    let mut a = s.a;
+    let x = b[first];
+    let y = b[second];
+    b[first] = y;
+    b[second] = x;
+}
+
+// A pivot that stands on the diagonal already stays there.
+fn exchange(size: usize, col: usize, pivot: usize, a: &mut [f64; 16], b: &mut [f64; 4])
+    requires { ⌜ (size ≤ 4) × (col < 4) × (pivot < 4) ⌝ }
+    ensures { λ _. ⌜ system (now (a .exit)) (now (b .exit)) ≡ exchanged size col pivot (system (now (a .entry)) (now (b .entry))) ⌝ }
+{
+    if pivot == col {
+        return;
+    }
+    exchange_rows(size, col, pivot, a);
+    exchange_right(col, pivot, b);
+}
+
+fn exchange_pair(
+    size: usize,
+    col: usize,
+    pivot: usize,
+    a: &mut [f64; 16],
+    b: &mut [f64; 4],
+    c: &mut [f64; 4],
+)
+    requires { ⌜ (size ≤ 4) × (col < 4) × (pivot < 4) ⌝ }
+    ensures { λ _. ⌜ system (now (a .exit)) (now (b .exit)) ≡ exchanged size col pivot (system (now (a .entry)) (now (b .entry))) ⌝ }
+    ensures { λ _. ⌜ system (now (a .exit)) (now (c .exit)) ≡ exchanged size col pivot (system (now (a .entry)) (now (c .entry))) ⌝ }
+{
+    if pivot == col {
+        return;
+    }
+    exchange_rows(size, col, pivot, a);
+    exchange_right(col, pivot, b);
+    exchange_right(col, pivot, c);
+}
+
+// A row less its multiple of the pivot row, from the pivot's column on; the answer is the factor.
+fn reduce_row(size: usize, col: usize, row: usize, a: &mut [f64; 16]) -> f64
+    requires { ⌜ (size ≤ 4) × (col < 4) × (row < 4) ⌝ }
+    ensures { λ r. ⌜ r ≡ factorOf col row (now (a .entry)) ⌝ }
+    ensures { λ _. ⌜ now (a .exit) ≡ reducedRow size col row (now (a .entry)) ⌝ }
+{
+    let factor = a[row * 4 + col] / a[col * 4 + col];
     let mut k = col;
     while k < size {
         let x = a[row * 4 + k];
@@ -123,125 +151,161 @@ fn reduce_row(size: usize, col: usize, row: usize, s: System) -> System
         a[row * 4 + k] = x - factor * y;
         k += 1;
     }
-    System { a, b }
+    factor
+}
+
+fn reduce_right(col: usize, row: usize, factor: f64, b: &mut [f64; 4])
+    requires { ⌜ (col < 4) × (row < 4) ⌝ }
+    ensures { λ _. ⌜ now (b .exit) ≡ reduceRight col row factor (now (b .entry)) ⌝ }
+{
+    let x = b[row];
+    let y = b[col];
+    b[row] = x - factor * y;
 }
 
 // Every row below the diagonal, reduced by the pivot row.
-fn reduce_below(size: usize, col: usize, s: System) -> System
+fn reduce_below(size: usize, col: usize, a: &mut [f64; 16], b: &mut [f64; 4])
     requires { ⌜ (size ≤ 4) × (col < size) ⌝ }
-    ensures { λ r. ⌜ r ≡ reduced size col s ⌝ }
+    ensures { λ _. ⌜ system (now (a .exit)) (now (b .exit)) ≡ reduced size col (system (now (a .entry)) (now (b .entry))) ⌝ }
 {
-    let mut t = s;
     let mut row = col + 1;
     while row < size {
-        t = reduce_row(size, col, row, t);
+        let factor = reduce_row(size, col, row, a);
+        reduce_right(col, row, factor, b);
         row += 1;
     }
-    t
 }
 
-// A not-a-number pivot is below nothing, so it passes.
-fn eliminate_column(size: usize, col: usize, s: System) -> Elimination
+// With a second right side: each is reduced as if it were alone.
+fn reduce_below_pair(size: usize, col: usize, a: &mut [f64; 16], b: &mut [f64; 4], c: &mut [f64; 4])
     requires { ⌜ (size ≤ 4) × (col < size) ⌝ }
-    ensures { λ r. ⌜ r ≡ column size col s ⌝ }
+    ensures { λ _. ⌜ system (now (a .exit)) (now (b .exit)) ≡ reduced size col (system (now (a .entry)) (now (b .entry))) ⌝ }
+    ensures { λ _. ⌜ system (now (a .exit)) (now (c .exit)) ≡ reduced size col (system (now (a .entry)) (now (c .entry))) ⌝ }
 {
-    let pivot = pivot_of(size, s, col);
-    if abs(entry_of(s, pivot, col)) < LEAST_PIVOT {
-        return Elimination {
-            system: s,
-            outcome: Outcome::Singular,
-        };
-    }
-    let system = reduce_below(size, col, exchange_rows(size, s, col, pivot));
-    Elimination {
-        system,
-        outcome: Outcome::Solved,
+    let mut row = col + 1;
+    while row < size {
+        let factor = reduce_row(size, col, row, a);
+        reduce_right(col, row, factor, b);
+        reduce_right(col, row, factor, c);
+        row += 1;
     }
 }
 
-// A refused column ends the elimination: the later ones leave it as it is.
-fn column_step(size: usize, col: usize, e: Elimination) -> Elimination
+// Brings the pivot to the diagonal and reduces the rows below it.
+fn eliminate_column(size: usize, col: usize, a: &mut [f64; 16], b: &mut [f64; 4]) -> Outcome
     requires { ⌜ (size ≤ 4) × (col < size) ⌝ }
-    ensures { λ r. ⌜ r ≡ columnStep size col e ⌝ }
+    ensures { λ r. ⌜ eliminating (system (now (a .exit)) (now (b .exit))) r ≡ column size col (system (now (a .entry)) (now (b .entry))) ⌝ }
 {
-    let outcome = e.outcome;
-    match outcome {
-        Outcome::Singular => e,
-        Outcome::Solved => eliminate_column(size, col, e.system),
+    let pivot = pivot_of(size, a, col);
+    if too_small(a[pivot * 4 + col]) {
+        return Outcome::Singular;
     }
+    exchange(size, col, pivot, a, b);
+    reduce_below(size, col, a, b);
+    Outcome::Solved
 }
 
-fn eliminate(size: usize, s: System) -> Elimination
+fn eliminate_column_pair(
+    size: usize,
+    col: usize,
+    a: &mut [f64; 16],
+    b: &mut [f64; 4],
+    c: &mut [f64; 4],
+) -> Outcome
+    requires { ⌜ (size ≤ 4) × (col < size) ⌝ }
+    ensures { λ r. ⌜ eliminating (system (now (a .exit)) (now (b .exit))) r ≡ column size col (system (now (a .entry)) (now (b .entry))) ⌝ }
+    ensures { λ r. ⌜ eliminating (system (now (a .exit)) (now (c .exit))) r ≡ column size col (system (now (a .entry)) (now (c .entry))) ⌝ }
+{
+    let pivot = pivot_of(size, a, col);
+    if too_small(a[pivot * 4 + col]) {
+        return Outcome::Singular;
+    }
+    exchange_pair(size, col, pivot, a, b, c);
+    reduce_below_pair(size, col, a, b, c);
+    Outcome::Solved
+}
+
+// A refused column ends the elimination.
+fn eliminate(size: usize, a: &mut [f64; 16], b: &mut [f64; 4]) -> Outcome
     requires { ⌜ size ≤ 4 ⌝ }
-    ensures { λ r. ⌜ r ≡ eliminated size s ⌝ }
+    ensures { λ r. ⌜ eliminating (system (now (a .exit)) (now (b .exit))) r ≡ eliminated size (system (now (a .entry)) (now (b .entry))) ⌝ }
 {
-    let mut e = Elimination {
-        system: s,
-        outcome: Outcome::Solved,
-    };
     let mut col = 0usize;
     while col < size {
-        e = column_step(size, col, e);
-        col += 1;
+        let outcome = eliminate_column(size, col, a, b);
+        match outcome {
+            Outcome::Singular => return Outcome::Singular,
+            Outcome::Solved => {
+                col += 1;
+            }
+        }
     }
-    e
+    Outcome::Solved
 }
 
-fn residue_step(s: System, u: Unknowns, row: usize, k: usize, acc: f64) -> f64
-    requires { ⌜ (row < 4) × (k < 4) ⌝ }
-    ensures { λ r. ⌜ r ≡ residueStep s u row k acc ⌝ }
+// The pivots depend on the matrix alone, so two right sides share one elimination.
+fn eliminate_pair(size: usize, a: &mut [f64; 16], b: &mut [f64; 4], c: &mut [f64; 4]) -> Outcome
+    requires { ⌜ size ≤ 4 ⌝ }
+    ensures { λ r. ⌜ eliminating (system (now (a .exit)) (now (b .exit))) r ≡ eliminated size (system (now (a .entry)) (now (b .entry))) ⌝ }
+    ensures { λ r. ⌜ eliminating (system (now (a .exit)) (now (c .exit))) r ≡ eliminated size (system (now (a .entry)) (now (c .entry))) ⌝ }
 {
-    let x = u.x;
-    acc - entry_of(s, row, k) * x[k]
+    let mut col = 0usize;
+    while col < size {
+        let outcome = eliminate_column_pair(size, col, a, b, c);
+        match outcome {
+            Outcome::Singular => return Outcome::Singular,
+            Outcome::Solved => {
+                col += 1;
+            }
+        }
+    }
+    Outcome::Solved
 }
 
 // The right side of a row less the unknowns already found.
-fn residue_of(size: usize, s: System, u: Unknowns, row: usize) -> f64
+fn residue_of(size: usize, a: &[f64; 16], b: &[f64; 4], x: &[f64; 4], row: usize) -> f64
     requires { ⌜ (size ≤ 4) × (row < size) ⌝ }
-    ensures { λ r. ⌜ r ≡ residueOf size s u row ⌝ }
+    ensures { λ r. ⌜ r ≡ residueOf size (system (now (a .entry)) (now (b .entry))) (now (x .entry)) row ⌝ }
 {
-    let b = s.b;
     let mut acc = b[row];
     let mut k = row + 1;
     while k < size {
-        acc = residue_step(s, u, row, k, acc);
+        acc = acc - a[row * 4 + k] * x[k];
         k += 1;
     }
     acc
 }
 
 // The unknown of the i-th row from below.
-fn unknown_step(size: usize, s: System, i: usize, u: Unknowns) -> Unknowns
+fn unknown_step(size: usize, a: &[f64; 16], b: &[f64; 4], i: usize, x: &mut [f64; 4])
     requires { ⌜ (size ≤ 4) × (i < size) ⌝ }
-    ensures { λ r. ⌜ r ≡ unknownStep size s i u ⌝ }
+    ensures { λ _. ⌜ now (x .exit) ≡ unknownStep size (system (now (a .entry)) (now (b .entry))) i (now (x .entry)) ⌝ }
 {
     let row = size - 1 - i;
-    let found = residue_of(size, s, u, row) / entry_of(s, row, row);
-    let mut x = u.x;
-    x[row] = found;
-    Unknowns { x }
+    x[row] = residue_of(size, a, b, x, row) / a[row * 4 + row];
 }
 
-fn back_substitute(size: usize, s: System) -> Unknowns
+fn back_substitute(size: usize, a: &[f64; 16], b: &[f64; 4]) -> [f64; 4]
     requires { ⌜ size ≤ 4 ⌝ }
-    ensures { λ r. ⌜ r ≡ unknowns size s ⌝ }
+    ensures { λ r. ⌜ r ≡ unknowns size (system (now (a .entry)) (now (b .entry))) ⌝ }
 {
-    let x = [0.0f64; 4];
-    let mut u = Unknowns { x };
+    let mut x = [0.0f64; 4];
     let mut i = 0usize;
     while i < size {
-        u = unknown_step(size, s, i, u);
+        unknown_step(size, a, b, i, &mut x);
         i += 1;
     }
-    u
+    x
 }
 
+// A system of one right side.
 pub fn solve_linear(size: usize, s: System) -> Solution
     requires { ⌜ size ≤ 4 ⌝ }
     ensures { λ r. ⌜ r ≡ solved size s ⌝ }
 {
-    let e = eliminate(size, s);
-    let outcome = e.outcome;
+    let mut a = s.a;
+    let mut b = s.b;
+    let outcome = eliminate(size, &mut a, &mut b);
     match outcome {
         Outcome::Singular => {
             let x = [0.0f64; 4];
@@ -251,11 +315,42 @@ pub fn solve_linear(size: usize, s: System) -> Solution
             }
         }
         Outcome::Solved => {
-            let u = back_substitute(size, e.system);
-            let x = u.x;
+            let x = back_substitute(size, &a, &b);
             Solution {
                 outcome: Outcome::Solved,
                 x,
+            }
+        }
+    }
+}
+
+// The system of a matrix and its right side, and that of the same matrix and another right side.
+pub fn solve_pair(size: usize, s: System, other: [f64; 4]) -> Solutions
+    requires { ⌜ size ≤ 4 ⌝ }
+    ensures { λ r. ⌜ solution (r .outcome) (r .x) ≡ solved size s ⌝ }
+    ensures { λ r. ⌜ solution (r .outcome) (r .y) ≡ solved size (system (s .a) other) ⌝ }
+{
+    let mut a = s.a;
+    let mut b = s.b;
+    let mut c = other;
+    let outcome = eliminate_pair(size, &mut a, &mut b, &mut c);
+    match outcome {
+        Outcome::Singular => {
+            let x = [0.0f64; 4];
+            let y = [0.0f64; 4];
+            Solutions {
+                outcome: Outcome::Singular,
+                x,
+                y,
+            }
+        }
+        Outcome::Solved => {
+            let x = back_substitute(size, &a, &b);
+            let y = back_substitute(size, &a, &c);
+            Solutions {
+                outcome: Outcome::Solved,
+                x,
+                y,
             }
         }
     }

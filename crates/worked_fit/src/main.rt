@@ -1,8 +1,12 @@
-// Replays the oracle's lists of fits, systems, grid numbers and words in several orders, then tries
-// the refusals.
+// Replays the oracle's lists of fits, systems, grid numbers, words in several orders and samples of any
+// numbers, then tries the refusals.
 ghost use Prim.Native.Nat.{_≤_};
 use fit::Fitted;
+use fit_numbers::FitAnswer;
+use lent_fit::Params;
+use lent_fit::ToQuantize;
 use libc::STDOUT_FILENO;
+use sample::MotionSample;
 use solve::Outcome;
 use solve::System;
 
@@ -19,6 +23,11 @@ const FITS: u8 = 0;
 const SYSTEMS: u8 = 1;
 
 const ORDERS: u8 = 2;
+
+const SAMPLES: u8 = 3;
+
+// One sample more than a list may have.
+const OVER: usize = 4097;
 
 // The bits of the values that a fitted model carries, 0 for those that its type doesn't.
 struct Values {
@@ -214,6 +223,115 @@ fn replay_orders(list: i32, flag: u8) -> bool {
     replay_order(list, flag, &mut words)
 }
 
+fn next_sample(list: i32) -> MotionSample {
+    let x = next_float(list);
+    let y = next_float(list);
+    let u = next_float(list);
+    let v = next_float(list);
+    MotionSample { x, y, u, v }
+}
+
+// So many samples are written out, and come round again.
+fn next_samples(list: i32, written: usize) -> [MotionSample; 4097] {
+    let still = MotionSample {
+        x: 0.0,
+        y: 0.0,
+        u: 0.0,
+        v: 0.0,
+    };
+    let mut samples = [still; 4097];
+    let mut i = 0usize;
+    while i < OVER {
+        if i < written {
+            samples[i] = next_sample(list);
+        } else {
+            samples[i] = samples[i - written];
+        }
+        i += 1;
+    }
+    samples
+}
+
+fn same_numbers(answer: FitAnswer, w: Values) -> bool {
+    let n = answer.numbers;
+    answer.refusal == 0
+        && same_float(n[0], w.m0)
+        && same_float(n[1], w.m1)
+        && same_float(n[2], w.m2)
+        && same_float(n[3], w.m3)
+        && same_float(n[4], w.m4)
+        && same_float(n[5], w.m5)
+}
+
+// The fit of the first samples.
+fn fit_of_first(gm_type: u8, samples: [MotionSample; 4097], count: usize) -> FitAnswer
+    requires { ⌜ count ≤ 4097 ⌝ }
+{
+    if gm_type == fit::TRANSLATION {
+        return lent_first::translation_of_first(samples, count);
+    }
+    if gm_type == fit::ROTZOOM {
+        return lent_first::rotzoom_of_first(samples, count);
+    }
+    lent_first::affine_of_first(samples, count)
+}
+
+// The quantized model of the first samples, and the score of that.
+fn same_quantized_first(
+    model: ToQuantize,
+    samples: [MotionSample; 4097],
+    count: usize,
+    params: [i32; 6],
+    score: u64,
+) -> bool
+    requires { ⌜ count ≤ 4097 ⌝ }
+{
+    let q = lent_first::quantized_of_first(samples, count, model);
+    let s = lent_first::score_of_first(samples, count, Params { numbers: params });
+    let quantized = q.params;
+    q.refusal == 0 && s.refusal == 0 && same_params(quantized, params) && same_float(s.score, score)
+}
+
+// One type of a case of samples, as `replay_type`.
+fn replay_first(
+    list: i32,
+    gm_type: u8,
+    flag: u8,
+    samples: [MotionSample; 4097],
+    count: usize,
+) -> bool
+    requires { ⌜ count ≤ 4097 ⌝ }
+{
+    let refusal = replay::next_word(list);
+    let values = next_values(list, gm_type);
+    let params = next_params(list);
+    let score = next_bits(list);
+    let answer = fit_of_first(gm_type, samples, count);
+    if refusal != 0 {
+        return answer.refusal == refusal;
+    }
+    let numbers = answer.numbers;
+    let model = ToQuantize {
+        kind: gm_type,
+        flag,
+        numbers,
+    };
+    same_numbers(answer, values) && same_quantized_first(model, samples, count, params, score)
+}
+
+fn replay_samples(list: i32, flag: u8) -> bool {
+    let count = replay::next_word(list) as usize;
+    let written = replay::next_word(list) as usize;
+    let samples = next_samples(list, written);
+    if count > OVER {
+        return false;
+    }
+    let translation = replay_first(list, fit::TRANSLATION, flag, samples, count);
+    let rotzoom = replay_first(list, fit::ROTZOOM, flag, samples, count);
+    let affine = replay_first(list, fit::AFFINE, flag, samples, count);
+    translation && rotzoom && affine
+}
+
 fn next_entries(list: i32) -> System {
     let mut a = [0.0f64; 16];
     let mut i = 0usize;
@@ -268,6 +386,9 @@ fn replay_one(list: i32, which: u8, flag: u8) -> bool {
     }
     if which == ORDERS {
         return replay_orders(list, flag);
+    }
+    if which == SAMPLES {
+        return replay_samples(list, flag);
     }
     replay_grid_number(list)
 }
@@ -347,12 +468,54 @@ fn try_refusals(words: &[u32], few: &[u32]) {
     io::write_all(STDOUT_FILENO, b"refusals: 9 tried\n");
 }
 
+fn first_refusal(kind: u8, flag: u8, samples: [MotionSample; 4097], count: usize) -> u32
+    requires { ⌜ count ≤ 4097 ⌝ }
+{
+    let numbers = [0.0, 0.0, 1.0, 0.0, 0.0, 1.0];
+    let q = lent_first::quantized_of_first(
+        samples,
+        count,
+        ToQuantize {
+            kind,
+            flag,
+            numbers,
+        },
+    );
+    q.refusal
+}
+
+// Of the calls over samples; the list has the fits' own.
+fn try_refusals_of_samples(samples: [MotionSample; 4097]) {
+    refused(
+        first_refusal(1, 2, samples, 4097) == 1,
+        b"4097 samples, flag 2",
+    );
+    refused(
+        first_refusal(1, 2, samples, 4096) == 4,
+        b"4096 samples, flag 2",
+    );
+    refused(first_refusal(0, 1, samples, 3) == 4, b"3 samples, type 0");
+    refused(first_refusal(4, 1, samples, 3) == 4, b"3 samples, type 4");
+    let numbers = [0, 0, 65536, 0, 0, 65536];
+    let scored = lent_first::score_of_first(samples, 4097, Params { numbers });
+    refused(scored.refusal == 1, b"4097 samples, score");
+    io::write_all(STDOUT_FILENO, b"refusals of samples: 5 tried\n");
+}
+
 fn main() {
     replay_list(FITS, b"fits", b"fits.bin");
     replay_list(SYSTEMS, b"systems", b"systems.bin");
     replay_list(ORDERS, b"orders", b"orders.bin");
-    replay_list(3, b"grid numbers", b"grid_numbers.bin");
+    replay_list(SAMPLES, b"samples", b"samples.bin");
+    replay_list(4, b"grid numbers", b"grid_numbers.bin");
     let words = [0u32; 4097];
     let few = [0u32; 8];
     try_refusals(&words, &few);
+    let still = MotionSample {
+        x: 0.0,
+        y: 0.0,
+        u: 0.0,
+        v: 0.0,
+    };
+    try_refusals_of_samples([still; 4097]);
 }

@@ -1,17 +1,11 @@
-// Tries the two forms that are walked by hand against the core they stand over, on inputs from the
-// generator: seven models by a reader against slice and position, and the score of lent samples against
-// that of their words.
+// Tries the reader that is walked by hand against the core it stands over, on inputs from the generator:
+// seven models by a reader against slice and position.
 ghost use Prim.Native.Nat.{_≤_, _<_};
 use header_read::Models;
-use sample::MotionSample;
 
 const MODELS: u64 = 4000;
 
-const SCORES: u64 = 2000;
-
 const BYTES: usize = 24;
-
-const WORDS: usize = 64;
 
 const NUMBERS: usize = 42;
 
@@ -34,31 +28,6 @@ fn bytes_from(seed: u32) -> [u8; 24] {
     bytes
 }
 
-fn words_from(seed: u32) -> [u32; 64] {
-    let mut words = [0u32; 64];
-    let mut state = seed;
-    let mut i = 0usize;
-    while i < WORDS {
-        state = practice::next_state(state);
-        let high = upper(state);
-        state = practice::next_state(state);
-        words[i] = high * 65536 + upper(state);
-        i += 1;
-    }
-    words
-}
-
-fn samples_of(words: [u32; 64]) -> [MotionSample; 64] {
-    let first = sample::sample_of(words[0]);
-    let mut samples = [first; 64];
-    let mut i = 0usize;
-    while i < WORDS {
-        samples[i] = sample::sample_of(words[i]);
-        i += 1;
-    }
-    samples
-}
-
 // A number of slot 2 or 5, within 8,192 of one.
 fn about_one(state: u32) -> i32 {
     (57344 + upper(state) % 16385) as i32
@@ -67,18 +36,6 @@ fn about_one(state: u32) -> i32 {
 // A number of slot 3 or 4.
 fn small(state: u32) -> i32 {
     (upper(state) % 8193) as i32
-}
-
-fn params_from(seed: u32) -> [i32; 6] {
-    let a = practice::next_state(seed);
-    let b = practice::next_state(a);
-    let c = practice::next_state(b);
-    let d = practice::next_state(c);
-    let e = practice::next_state(d);
-    let f = practice::next_state(e);
-    let x = replay::signed(a);
-    let y = replay::signed(b);
-    [x, y, about_one(c), small(d), small(e), about_one(f)]
 }
 
 // A number of slot 0 or 1 of a prior, within 4,194,304 of nought.
@@ -168,25 +125,6 @@ fn models_case(case: u64) -> bool {
     models_agree(lent, core)
 }
 
-fn same(a: f64, b: f64) -> bool {
-    a == b || (a != a && b != b)
-}
-
-// The score of the first n samples is the score of their words.
-fn scores_agree(params: [i32; 6], words: [u32; 64], n: usize) -> bool
-    requires { ⌜ n ≤ 64 ⌝ }
-{
-    let lent = lent_score::mean_sq_residual_of_first(params, samples_of(words), n);
-    let core = score::mean_sq_residual(params, &words[..n]);
-    lent.refusal == core.refusal && same(lent.score, core.score)
-}
-
-fn score_case(case: u64) -> bool {
-    let seed = practice::next_state((case % 0x1_0000_0000) as u32);
-    let n = practice::next_state(seed);
-    scores_agree(params_from(seed), words_from(n), (upper(n) % 65) as usize)
-}
-
 // 1 for a case that failed, which gets a line.
 fn failed_model(case: u64) -> u64
     ensures { λ r. ⌜ r ≤ 1 ⌝ }
@@ -195,16 +133,6 @@ fn failed_model(case: u64) -> u64
         return 0;
     }
     replay::print_failure(b"models", case);
-    1
-}
-
-fn failed_score(case: u64) -> u64
-    ensures { λ r. ⌜ r ≤ 1 ⌝ }
-{
-    if score_case(case) {
-        return 0;
-    }
-    replay::print_failure(b"scores", case);
     1
 }
 
@@ -218,17 +146,6 @@ fn failed_models(count: u64) -> u64 {
     failed
 }
 
-fn failed_scores(count: u64) -> u64 {
-    let mut failed = 0u64;
-    let mut case = 0u64;
-    while case < count {
-        failed += failed_score(case);
-        case += 1;
-    }
-    failed
-}
-
 fn main() {
     replay::print_count(b"models", MODELS, failed_models(MODELS));
-    replay::print_count(b"scores", SCORES, failed_scores(SCORES));
 }

@@ -167,6 +167,67 @@ fn words_of_a_tie(random: &mut Random) -> Vec<u32> {
     places.into_iter().map(word).collect()
 }
 
+/// Samples of any four numbers: those of words with some number put in another's place, numbers of every size, sums
+/// that cancel or round, places that are equal, on a line, or so near each other that a pivot is about 1e-9.
+pub fn samples(random: &mut Random) -> Vec<[f64; 4]> {
+    let count = match random.below(60) {
+        0 => MOST_SAMPLES,
+        1..=20 => random.below(5),
+        21..=40 => 3 + random.below(20),
+        _ => random.below(200),
+    };
+    let form = random.below(9);
+    let steep = 1.0 + random.below(9) as f64;
+    // the square of the distance, times the count, is the last pivot
+    let near = random.pick(&[1e-7, 1e-6, 1e-5, 3e-5, 1e-4]) * (1.0 + random.below(1000) as f64 / 1000.0);
+    let place = random.below(3) as f64 * 7.5;
+    let mut sample = |i: usize| {
+        let plain = |random: &mut Random| random.between(-100_000, 100_000) as f64 / 97.0;
+        let sign = if i % 2 == 0 { 1.0 } else { -1.0 };
+        let huge = random.pick(&[1e16, 1e300, -1e300, 1e8]);
+        let mut numbers = std::array::from_fn(|_| plain(random));
+        match form {
+            0 => numbers = std::array::from_fn(|_| odd(random)),
+            1 => numbers = oracle::sample_of(random.bits() as u32),
+            2 => numbers = numbers.map(|number| sign * (number + huge)),
+            3 => numbers = numbers.map(|number| if random.one_in(3) { huge } else { number }),
+            4 => (numbers[0], numbers[1]) = (place, place),
+            5 => numbers[1] = steep * numbers[0],
+            6 => (numbers[0], numbers[1]) = (place + near * random.between(-1, 1) as f64, place + near * sign),
+            7 => numbers = numbers.map(|number| number * 1e-160),
+            _ => {}
+        }
+        numbers
+    };
+    let mut made: Vec<[f64; 4]> = (0..count).map(&mut sample).collect();
+    if count > 0 && random.one_in(3) {
+        made[random.below(count)][random.below(4)] = odd(random);
+    }
+    made
+}
+
+/// A number that sums and products treat in a way of their own.
+fn odd(random: &mut Random) -> f64 {
+    let special = [
+        f64::NAN,
+        f64::INFINITY,
+        f64::NEG_INFINITY,
+        0.0,
+        -0.0,
+        5e-324,
+        -5e-324,
+        2e-308,
+        f64::MIN_POSITIVE,
+        1e-300,
+        -1e-300,
+        1e300,
+        -1e300,
+        f64::MAX,
+        1e-9,
+    ];
+    if random.one_in(3) { float(random) } else { random.pick(&special) }
+}
+
 /// Words that rise by place, in range, with class bits zero.
 pub fn rising_words(random: &mut Random) -> Vec<u32> {
     let most = random.pick(&[1, 3, 130, 130, 300, 300, MOST_SAMPLES]);

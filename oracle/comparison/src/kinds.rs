@@ -2,7 +2,9 @@
 
 use crate::inputs::{self, Scene, float, number, prior, sides, stored_model};
 use crate::random::Random;
-use belt::{Buffers, Fitted, Frame, Kind as FrameKind, Lent, Model, Refusal, Report, Settings, StoredModel, Task};
+use belt::{
+    Buffers, Fitted, Frame, Kind as FrameKind, Lent, Model, MotionSample, Refusal, Report, Settings, StoredModel, Task,
+};
 use oracle::blocks::{self, BLOCK, Form, ONE, TWO};
 use oracle::{Models, practice};
 use std::fmt::{Debug, Write};
@@ -27,13 +29,18 @@ pub struct Kind {
     pub compare: fn(&mut Case) -> Result<(), String>,
 }
 
-pub const KINDS: [Kind; 18] = [
+pub const KINDS: [Kind; 23] = [
     Kind { name: "search", share: 4, compare: search },
     Kind { name: "fit translation", share: 4, compare: |case| fit(case, 1) },
     Kind { name: "fit rotation-zoom", share: 4, compare: |case| fit(case, 2) },
     Kind { name: "fit affine", share: 4, compare: |case| fit(case, 3) },
     Kind { name: "quantized model", share: 6, compare: quantized_model },
     Kind { name: "score", share: 4, compare: score },
+    Kind { name: "samples, translation", share: 4, compare: |case| fit_samples(case, 1) },
+    Kind { name: "samples, rotation-zoom", share: 6, compare: |case| fit_samples(case, 2) },
+    Kind { name: "samples, affine", share: 6, compare: |case| fit_samples(case, 3) },
+    Kind { name: "samples, quantized model", share: 6, compare: quantized_samples },
+    Kind { name: "samples, score", share: 4, compare: score_samples },
     Kind { name: "quantize_global_param", share: 8, compare: grid },
     Kind { name: "header written", share: 8, compare: header_written },
     Kind { name: "header read", share: 6, compare: header_read },
@@ -187,35 +194,84 @@ fn fit(case: &mut Case, kind: u8) -> Result<(), String> {
     same("bits of the numbers", ours, theirs.ok_or(SINGULAR))
 }
 
-fn quantized_model(case: &mut Case) -> Result<(), String> {
+/// Samples with the layout of the library.
+fn lent(samples: &[[f64; 4]]) -> Vec<MotionSample> {
+    samples.iter().map(|&[x, y, u, v]| MotionSample { x, y, u, v }).collect()
+}
+
+fn fit_samples(case: &mut Case, kind: u8) -> Result<(), String> {
+    let samples = inputs::samples(&mut case.random);
+    case.note("samples", &samples);
+    let fits = [belt::fit_translation_samples, belt::fit_rotzoom_samples, belt::fit_affine_samples];
+    let ours = row(fits[usize::from(kind) - 1](&lent(&samples)));
+    let ours = ours.map(|fitted| (fitted.gm_type, fitted.numbers.map(bits)));
+    case.accepted = ours.is_ok();
+    let theirs = oracle::fit(kind, &samples).map(|numbers| (kind, carried(kind, numbers)));
+    same("bits of the numbers", ours, theirs.ok_or(SINGULAR))
+}
+
+/// A type, a flag, and numbers that are free or those of the samples' fit.
+fn to_quantize(case: &mut Case, samples: &[[f64; 4]]) -> (u8, u8, [f64; 6]) {
     let random = &mut case.random;
     let (kind, flag) = (1 + random.below(3) as u8, random.below(2) as u8);
-    let words = inputs::words(random);
     let mut numbers: [f64; 6] = std::array::from_fn(|_| float(random));
     let own = random.one_in(2);
-    if let (true, Some(fitted)) = (own, oracle::fit(kind, &samples(&words))) {
+    if let (true, Some(fitted)) = (own, oracle::fit(kind, samples)) {
         numbers = fitted;
     }
     case.note("type, flag", (kind, flag));
     case.note("numbers", numbers);
-    case.note("words", &words);
-    let ours = belt::quantize_model(&Fitted { gm_type: kind, numbers }, flag, &words);
+    (kind, flag, numbers)
+}
+
+/// The Rust's model; a rotation-zoom's last two numbers follow from the two before them.
+fn rust_quantized(kind: u8, flag: u8, mut numbers: [f64; 6], samples: &[[f64; 4]]) -> Model {
     if kind == 2 {
         (numbers[4], numbers[5]) = (-numbers[3], numbers[2]);
     }
-    same("model", ours, Ok(Model(oracle::quantize_model(&numbers, kind, flag == 1, &samples(&words)))))
+    Model(oracle::quantize_model(&numbers, kind, flag == 1, samples))
 }
 
-fn score(case: &mut Case) -> Result<(), String> {
+fn quantized_model(case: &mut Case) -> Result<(), String> {
+    let words = inputs::words(&mut case.random);
+    case.note("words", &words);
+    let (kind, flag, numbers) = to_quantize(case, &samples(&words));
+    let ours = belt::quantize_model(&Fitted { gm_type: kind, numbers }, flag, &words);
+    same("model", ours, Ok(rust_quantized(kind, flag, numbers, &samples(&words))))
+}
+
+fn quantized_samples(case: &mut Case) -> Result<(), String> {
+    let samples = inputs::samples(&mut case.random);
+    case.note("samples", &samples);
+    let (kind, flag, numbers) = to_quantize(case, &samples);
+    let ours = belt::quantize_model_samples(&Fitted { gm_type: kind, numbers }, flag, &lent(&samples));
+    same("model", ours, Ok(rust_quantized(kind, flag, numbers, &samples)))
+}
+
+/// A model to be scored: about the identity or free.
+fn to_score(case: &mut Case) -> [i32; 6] {
     let random = &mut case.random;
-    let words = inputs::words(random);
     let near = random.one_in(2);
     let params: [i32; 6] = std::array::from_fn(|slot| match near {
         true => oracle::IDENTITY[slot] + random.between(-9000, 9000) as i32,
         false => number(random),
     });
     case.note("model", params);
+    params
+}
+
+fn score_samples(case: &mut Case) -> Result<(), String> {
+    let samples = inputs::samples(&mut case.random);
+    case.note("samples", &samples);
+    let params = to_score(case);
+    let ours = belt::mean_sq_residual_samples(&Model(params), &lent(&samples)).map(bits);
+    same("bits of the score", ours, Ok(bits(oracle::score(&params, &samples))))
+}
+
+fn score(case: &mut Case) -> Result<(), String> {
+    let words = inputs::words(&mut case.random);
     case.note("words", &words);
+    let params = to_score(case);
     let ours = belt::mean_sq_residual(&Model(params), &words).map(bits);
     same("bits of the score", ours, Ok(bits(oracle::score(&params, &samples(&words)))))
 }

@@ -1,11 +1,13 @@
 //! The lists for `worked_fit`: fits, quantized models and scores of lists of words; systems for `solve_linear`;
-//! grid numbers; lists of words in several orders. The arguments are the four files to write.
+//! grid numbers; lists of words in several orders; lists of samples of any numbers. The arguments are the five files to write.
 //! A list of words is remade from a seed: each word of the generator, its bits outside a mask cleared, with fixed bits set.
+//! Of a list of samples some are written out, and come round again up to its count.
 
 use oracle::list::{Lcg, List, MOST_SAMPLES, tilted_words};
 use std::{env, io};
 
 const SEED: u32 = 6;
+const TOO_MANY: u32 = 1;
 const SINGULAR: u32 = 6;
 
 /// Counts that every shape of list is tried with, and how many random ones besides.
@@ -51,11 +53,13 @@ const SHAPES: [(u32, u32); 18] = [
 
 fn main() -> io::Result<()> {
     let mut paths = env::args().skip(1);
-    let mut path = || paths.next().expect("the arguments are the files of fits, systems, grid numbers and orders");
+    let mut path =
+        || paths.next().expect("the arguments are the files of fits, systems, grid numbers, orders and samples");
     fits().write(path())?;
     systems().write(path())?;
     grid_numbers().write(path())?;
-    orders().write(path())
+    orders().write(path())?;
+    samples().write(path())
 }
 
 fn fits() -> List {
@@ -87,10 +91,7 @@ fn fits() -> List {
 fn push_fit(list: &mut List, kind: u8, high: bool, samples: &[[f64; 4]]) {
     let carried = [2, 4, 6][usize::from(kind) - 1];
     let Some(model) = oracle::fit(kind, samples) else {
-        list.push(SINGULAR);
-        (0..carried).for_each(|_| list.push_float(0.0));
-        (0..6).for_each(|_| list.push(0));
-        list.push_float(0.0);
+        push_refusal(list, carried, SINGULAR);
         return;
     };
     list.push(0);
@@ -98,6 +99,14 @@ fn push_fit(list: &mut List, kind: u8, high: bool, samples: &[[f64; 4]]) {
     let params = oracle::quantize_model(&model, kind, high, samples);
     params.iter().for_each(|&param| list.push_signed(param));
     list.push_float(oracle::score(&params, samples));
+}
+
+/// A refusal, and zeros for all that follows it.
+fn push_refusal(list: &mut List, carried: usize, refusal: u32) {
+    list.push(refusal);
+    (0..carried).for_each(|_| list.push_float(0.0));
+    (0..6).for_each(|_| list.push(0));
+    list.push_float(0.0);
 }
 
 /// The same words in several orders, written out, each order with either flag. The fits of one list agree; scores needn't.
@@ -121,6 +130,111 @@ fn orders() -> List {
         }
     }
     list
+}
+
+/// Numbers that sums and products treat in a way of their own.
+const ODD: [f64; 14] = [
+    f64::NAN,
+    f64::INFINITY,
+    f64::NEG_INFINITY,
+    -0.0,
+    0.0,
+    5e-324,
+    -5e-324,
+    2e-308,
+    f64::MIN_POSITIVE,
+    1e-300,
+    -1e-300,
+    1e300,
+    -1e300,
+    f64::MAX,
+];
+
+/// Samples of any four numbers; the count of each case, and those of its samples that are written out.
+fn samples() -> List {
+    const EACH: usize = 12;
+    let lcg = &mut Lcg(SEED);
+    let mut cases: Vec<(usize, Vec<[f64; 4]>)> = Vec::new();
+    // an odd number in each place of one sample among others
+    for place in 0..4 {
+        for value in ODD {
+            let mut made = plain_samples(lcg, 5);
+            made[1][place] = value;
+            cases.push((made.len(), made));
+        }
+    }
+    // short lists and long ones of every flavour
+    for flavour in 0..FLAVOURS {
+        let random = (0..EACH).map(|_| 3 + usize::from(lcg.below(60))).collect::<Vec<_>>();
+        for count in (0..=8).chain([MOST_SAMPLES, MOST_SAMPLES + 1]).chain(random) {
+            let written = if count < 64 { count } else { 7 };
+            cases.push((count, free_samples(lcg, flavour, written)));
+        }
+    }
+    // pivots on both sides of 1e-9: so many corners of a small square, about the origin by single steps of a number, and
+    // about another place, where the sums round
+    for steps in -4..=4i32 {
+        for (place, corners, squares) in
+            [(0.0, 2, 2.0), (0.0, 4, 4.0), (0.0, 4, 2.0), (7.5, 4, 16.0 / 450.0), (7.5, 4, 4.0 / 225.0)]
+        {
+            let near = (1e-9f64 / squares).sqrt();
+            let side = match place {
+                0.0 => f64::from_bits(near.to_bits().wrapping_add_signed(i64::from(steps))),
+                _ => near * (1.0 + f64::from(steps) * 1e-4),
+            };
+            let corner = [[side, 0.0], [-side, 0.0], [0.0, side], [0.0, -side]];
+            let made = corner[..corners].iter().map(|at| [place + at[0], place + at[1], small(lcg), small(lcg)]);
+            cases.push((corners, made.collect()));
+        }
+    }
+    let mut list = List::default();
+    list.push(cases.len() as u32);
+    for (case, (count, written)) in cases.iter().enumerate() {
+        list.push(*count as u32);
+        list.push(written.len() as u32);
+        written.iter().flatten().for_each(|&number| list.push_float(number));
+        let samples = written.iter().cycle().take(*count).copied().collect::<Vec<_>>();
+        for kind in 1..=3 {
+            match samples.len() {
+                0..=MOST_SAMPLES => push_fit(&mut list, kind, case % 2 == 1, &samples),
+                _ => push_refusal(&mut list, [2, 4, 6][usize::from(kind) - 1], TOO_MANY),
+            }
+        }
+    }
+    list
+}
+
+/// A number whose sums and products round.
+fn small(lcg: &mut Lcg) -> f64 {
+    (f64::from(lcg.step()) - 32768.0) / 97.0
+}
+
+fn plain_samples(lcg: &mut Lcg, count: usize) -> Vec<[f64; 4]> {
+    (0..count).map(|_| std::array::from_fn(|_| small(lcg))).collect()
+}
+
+const FLAVOURS: usize = 8;
+
+/// Samples that are plain, of any bits, odd in every number; sums that cancel; places that are equal, on a line, or so
+/// near each other that a pivot is about 1e-9; tiny numbers.
+fn free_samples(lcg: &mut Lcg, flavour: usize, count: usize) -> Vec<[f64; 4]> {
+    let mut made = plain_samples(lcg, count);
+    let huge = [1e16, 1e300, 1e8][usize::from(lcg.below(3))];
+    let near = f64::from(1 + lcg.below(999)) * 1e-7;
+    for (i, numbers) in made.iter_mut().enumerate() {
+        let sign = if i % 2 == 0 { 1.0 } else { -1.0 };
+        match flavour {
+            0 => {}
+            1 => *numbers = numbers.map(|_| f64::from_bits(u64::from(lcg.word()) << 32 | u64::from(lcg.word()))),
+            2 => *numbers = numbers.map(|_| ODD[usize::from(lcg.below(ODD.len() as u16))]),
+            3 => *numbers = numbers.map(|number| sign * huge + number),
+            4 => (numbers[0], numbers[1]) = (7.5, -23.5),
+            5 => numbers[1] = 3.0 * numbers[0],
+            6 => (numbers[0], numbers[1]) = (near * (f64::from(lcg.below(3)) - 1.0), near * sign),
+            _ => *numbers = numbers.map(|number| number * 1e-160),
+        }
+    }
+    made
 }
 
 /// Entries that make pivots tie, vanish or lie about 1e-9, and entries that aren't finite.

@@ -1,24 +1,18 @@
--- `fit::rotzoom_of`: a refused elimination answers 6, and a solved one gives each number its unknown.
+-- `fit::rotzoom_of`: the sums make the system, and its solution the fit.
 -- Assumes nothing.
 use borrow.Author.Needs.{needs}
 use Rattle.fit.proofs.rotzoom_of.Statement.{statement}
 use Rattle.fit.proofs.rotzoom_of.Tie as tie
 
 returns : tie.Need-returns
-returns c = rw (c .enum-told .given .1)
-
-returns-2 : tie.Need-returns-2
-returns-2 c = rw (c .enum-told2 .given .1)
+returns c = rw (← c .before .before .before .count-of .ensures, ← c .before .before .rotzoom-system .ensures, ← c .before .solve-linear .ensures) (c .rotzoom-model .ensures)
 
 pub rotzoom-of-spec : {M : Type 1} → statement M
 rotzoom-of-spec =
     tie.close
     (tie.spec
-    (λ c. search needs)
-    (λ c. search needs)
-    (λ c. search needs)
-    (λ c. search needs)
-    (λ c. search needs)
-    (λ c. search needs)
-    returns
-    returns-2)
+    (search needs)
+    (search needs)
+    (search needs)
+    (search needs)
+    returns)

@@ -1,13 +1,14 @@
--- `fit::translation_fit`: each sum divided by the count.
+-- `fit::translation_fit`: the sums are the definition's, and the fit is theirs.
 -- Assumes nothing.
-use Rattle.fit.specs.Fitted.{translationFit}
+use Rattle.fit.specs.Fitted.{translationFrom}
 use borrow.Author.Needs.{needs}
 use Rattle.fit.proofs.translation_fit.Statement.{statement}
 use Rattle.fit.proofs.translation_fit.Tie as tie
 
 returns : tie.Need-returns
-unfolding translationFit
-returns c = rw (← c .before .before .translation-sums .ensures, ← c .before .before .before .count-of .ensures)
+unfolding translationFrom
+returns c = rw (← c .before .translation-sums .ensures) (c .translation-of .ensures)
 
 pub translation-fit-spec : {M : Type 1} → statement M
-translation-fit-spec = tie.close (tie.spec (search needs) (search needs) returns)
+translation-fit-spec =
+    tie.close (tie.spec (search needs) (search needs) returns)

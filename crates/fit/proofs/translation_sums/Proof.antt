@@ -25,14 +25,14 @@ loop-holds c = refl
 loop-again : tie.Need-loop-again Inv-loop μ-loop
 loop-again c =
     let l = c .before .before .before .before .loop in
-    fold-again (reading translationStep sampleOf) (c .before .before .before .before .before .before .args .words .now) (l .i) 0
+    fold-again (reading translationStep sampleOf) (c .before .before .before .before .before .before .before .args .words .now) (l .i) 0
     (c .before .before .before .loop-test .taken) (c .translation-step .ensures ∙ ap (translationStep (l .t)) (c .before .sample-of .ensures)) (l .inv)
 
 returns : tie.Need-returns Inv-loop μ-loop
 unfolding translationTotals
 returns c =
-    let words = c .before .before .before .args .words .now in
-    fold-done (reading translationStep sampleOf) words (c .before .loop .i) (c .loop-test .left) (c .before .loop .inv) ∙ translation-sums words
+    let words = c .before .before .before .before .args .words .now in
+    fold-done (reading translationStep sampleOf) words (c .before .loop .i) (c .loop-test .left) (c .before .loop .inv) ∙ ap (fold (reading translationStep sampleOf) words) (c .before .before .translation-begin .ensures) ∙ translation-sums sampleOf words
 
 pub translation-sums-spec : {M : Type 1} → statement M
 translation-sums-spec =
@@ -40,6 +40,7 @@ translation-sums-spec =
     (tie.spec
     Inv-loop
     μ-loop
+    (search needs)
     loop-holds
     (search needs)
     (search needs)

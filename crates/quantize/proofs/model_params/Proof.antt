@@ -2,7 +2,7 @@
 -- Assumes nothing.
 use Rattle.fit.proofs.Types.{typeOf-le}
 use native.Mathlib.Omega.{arith}
-use Rattle.quantize.specs.Quantize.{params}
+use Rattle.quantize.specs.Quantize.{paramsFrom}
 use borrow.Author.Needs.{needs}
 use Rattle.quantize.proofs.model_params.Statement.{statement}
 use Rattle.quantize.proofs.model_params.Tie as tie
@@ -13,7 +13,7 @@ params-of-requires c κs =
     (omega (arith, c .before .type-of .ensures, typeOf-le (entry .args .fitted)), entry .pre .flagged)
 
 returns : tie.Need-returns
-unfolding params
+unfolding paramsFrom
 returns c =
     rw (← c .before .before .type-of .ensures, ← c .before .before .before .linear-of .ensures, ← c .before .refit .ensures) (c .params-of .ensures)
 

@@ -1,6 +1,6 @@
 -- `quantize::refit_sums`: what is left to add, from here as from the first word; the two sums are then taken apart.
 -- Assumes nothing.
-use Rattle.quantize.proofs.Leftover.{refit-sums}
+use Rattle.quantize.proofs.Leftover.{refit-sums, refit-of-none}
 use Rattle.quantize.specs.Quantize.{refitTotals}
 use Rattle.quantize.specs.Inner.{refitStep}
 use Rattle.fit.specs.Sums.{reading}
@@ -29,16 +29,17 @@ sample-by-requires c κs = c .before .before .before .before .centres .ensures
 loop-again : tie.Need-loop-again Inv-loop μ-loop
 loop-again c =
     let l = c .before .before .before .before .before in
-    let a = l .before .before .before .args in
+    let a = l .before .before .before .before .args in
     fold-again (reading (refitStep (a .m)) sampleOf) (a .words .now) (l .loop .i) 0
     (c .before .before .before .before .loop-test .taken) (c .refit-step .ensures ∙ ap (refitStep (a .m) (l .loop .t)) (c .before .sample-by .ensures)) (l .loop .inv)
 
 returns : tie.Need-returns Inv-loop μ-loop
 unfolding refitTotals
 returns c =
-    let a = c .before .before .before .before .args in
+    let a = c .before .before .before .before .before .args in
     fold-done (reading (refitStep (a .m)) sampleOf) (a .words .now) (c .before .loop .i) (c .loop-test .left) (c .before .loop .inv)
-    ∙ refit-sums (a .m) (a .words .now)
+    ∙ ap (fold (reading (refitStep (a .m)) sampleOf) (a .words .now)) (c .before .before .before .translation-begin .ensures ∙ refit-of-none (a .m))
+    ∙ refit-sums sampleOf (a .m) (a .words .now)
 
 pub refit-sums-spec : {M : Type 1} → statement M
 refit-sums-spec =
@@ -46,6 +47,7 @@ refit-sums-spec =
     (tie.spec
     Inv-loop
     μ-loop
+    (search needs)
     (search needs)
     loop-holds
     (search needs)

@@ -6,7 +6,7 @@ use Rattle.fit.specs.Sums.{reading}
 use Rattle.laws.specs.Loops.{fold}
 use Rattle.laws.specs.Binary64.{nought}
 use Rattle.score.proofs.TooMany.{refused-whatever-the-sum}
-use mathlib.Core.Path.{sym, _∙_}
+use mathlib.Core.Path.{_∙_}
 use Rattle.score.specs.Score.{continuousModel, scoreStep}
 use Rattle.score.specs.Inner.{residualSum}
 use borrow.Author.Needs.{needs}

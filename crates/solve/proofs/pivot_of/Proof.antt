@@ -1,6 +1,6 @@
 -- `solve::pivot_of`: what is left to compare, from here as from the diagonal.
 -- Assumes nothing.
-use Prim.Native.Nat.{_<_, _-_}
+use Prim.Native.Nat.{_-_, _<_}
 use Rattle.laws.proofs.Loops.{again, done}
 use Rattle.laws.specs.Loops.{run}
 use mathlib.Core.Path.{_≡_, refl}
@@ -10,23 +10,23 @@ use Rattle.solve.proofs.pivot_of.Statement.{statement}
 use Rattle.solve.proofs.pivot_of.Tie as tie
 
 abbrev Inv-loop : tie.InvT-loop
-Inv-loop size s col pivot₀ row₀ pivot row = (run (pivotStep s col) row size pivot ≡ run (pivotStep s col) row₀ size pivot₀) × (pivot < 4)
+Inv-loop size a col pivot₀ row₀ pivot row = (run (pivotStep a col) row size pivot ≡ run (pivotStep a col) row₀ size pivot₀) × (pivot < 4)
 
 abbrev μ-loop : tie.MeasureT-loop
-μ-loop size s col pivot₀ row₀ pivot row = size - row
+μ-loop size a col pivot₀ row₀ pivot row = size - row
 
 loop-holds : tie.Need-loop-holds Inv-loop μ-loop
 loop-holds c = (refl, search needs)
 
 loop-again : tie.Need-loop-again Inv-loop μ-loop
 loop-again c =
-    let a = c .before .before .before .args in
-    (again (pivotStep (a .s) (a .col)) (c .before .loop-test .taken) (c .pivot-step .ensures .0) (c .before .before .loop .inv .0), c .pivot-step .ensures .1)
+    let e = c .before .before .before .args in
+    (again (pivotStep (e .a .now) (e .col)) (c .before .loop-test .taken) (c .pivot-step .ensures .0) (c .before .before .loop .inv .0), c .pivot-step .ensures .1)
 
 returns : tie.Need-returns Inv-loop μ-loop
 returns c =
-    let a = c .before .before .args in
-    (done (pivotStep (a .s) (a .col)) (c .loop-test .left) (c .before .loop .inv .0), c .before .loop .inv .1)
+    let e = c .before .before .args in
+    (done (pivotStep (e .a .now) (e .col)) (c .loop-test .left) (c .before .loop .inv .0), c .before .loop .inv .1)
 
 pub pivot-of-spec : {M : Type 1} → statement M
 pivot-of-spec =

@@ -5,16 +5,24 @@ use Rattle.solve.proofs.pivot_step.Statement.{statement}
 use Rattle.solve.proofs.pivot_step.Tie as tie
 
 returns : tie.Need-returns
-returns c =
-    let e = c .before .before .before in
-    (rw (← e .before .entry-of .ensures, ← e .abs .ensures, ← c .before .before .entry-of2 .ensures, ← c .before .abs2 .ensures, c .if1 .taken), search needs)
+returns c = (rw (← c .before .before .before .abs .ensures, ← c .before .abs2 .ensures, c .if1 .taken), search needs)
 
 returns-2 : tie.Need-returns-2
-returns-2 c =
-    let e = c .before .before .before in
-    (rw (← e .before .entry-of .ensures, ← e .abs .ensures, ← c .before .before .entry-of2 .ensures, ← c .before .abs2 .ensures, c .if1 .left), search needs)
+returns-2 c = (rw (← c .before .before .before .abs .ensures, ← c .before .abs2 .ensures, c .if1 .left), search needs)
 
 pub pivot-step-spec : {M : Type 1} → statement M
 pivot-step-spec =
     tie.close
-    (tie.spec (search needs) (search needs) (search needs) (search needs) returns returns-2)
+    (tie.spec
+    (search needs)
+    (search needs)
+    (search needs)
+    (search needs)
+    (search needs)
+    (search needs)
+    (search needs)
+    (search needs)
+    (search needs)
+    (search needs)
+    returns
+    returns-2)

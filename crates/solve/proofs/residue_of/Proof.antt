@@ -10,24 +10,25 @@ use Rattle.solve.proofs.residue_of.Statement.{statement}
 use Rattle.solve.proofs.residue_of.Tie as tie
 
 abbrev Inv-loop : tie.InvT-loop
-Inv-loop size s u row acc₀ k₀ acc k = run (residueStep s u row) k size acc ≡ run (residueStep s u row) k₀ size acc₀
+Inv-loop size a b x row acc₀ k₀ acc k = run (residueStep a x row) k size acc ≡ run (residueStep a x row) k₀ size acc₀
 
 abbrev μ-loop : tie.MeasureT-loop
-μ-loop size s u row acc₀ k₀ acc k = size - k
+μ-loop size a b x row acc₀ k₀ acc k = size - k
 
 loop-holds : tie.Need-loop-holds Inv-loop μ-loop
 loop-holds c = refl
 
 loop-again : tie.Need-loop-again Inv-loop μ-loop
 loop-again c =
-    let a = c .before .before .before .before .args in
-    again (residueStep (a .s) (a .u) (a .row)) (c .before .loop-test .taken) (c .residue-step .ensures) (c .before .before .loop .inv)
+    let l = c .before .before .before in
+    let e = l .before .before .args in
+    again (residueStep (e .a .now) (e .x .now) (e .row)) (c .before .before .loop-test .taken) refl (l .loop .inv)
 
 returns : tie.Need-returns Inv-loop μ-loop
 unfolding residueOf
 returns c =
-    let a = c .before .before .before .args in
-    done (residueStep (a .s) (a .u) (a .row)) (c .loop-test .left) (c .before .loop .inv)
+    let e = c .before .before .before .args in
+    done (residueStep (e .a .now) (e .x .now) (e .row)) (c .loop-test .left) (c .before .loop .inv)
 
 pub residue-of-spec : {M : Type 1} → statement M
 residue-of-spec =
@@ -39,6 +40,11 @@ residue-of-spec =
     (search needs)
     (search needs)
     loop-holds
+    (search needs)
+    (search needs)
+    (search needs)
+    (search needs)
+    (search needs)
     (search needs)
     (search needs)
     (search needs)

@@ -4,14 +4,25 @@ use borrow.Author.Needs.{needs}
 use Rattle.solve.proofs.solve_linear.Statement.{statement}
 use Rattle.solve.proofs.solve_linear.Tie as tie
 
+eliminate-requires : tie.Need-eliminate-requires
+eliminate-requires c κs = search needs
+
+enum-told : tie.Need-enum-told
+enum-told c = search needs
+
+enum-told-2 : tie.Need-enum-told-2
+enum-told-2 c = search needs
+
+back-substitute-requires : tie.Need-back-substitute-requires
+back-substitute-requires c κs = search needs
+
 returns : tie.Need-returns
 returns c = rw (← c .before .before .eliminate .ensures, c .enum-told .given .1)
 
 returns-2 : tie.Need-returns-2
-returns-2 c =
-    rw (← c .before .before .before .before .eliminate .ensures, c .before .before .enum-told2 .given .1, ← c .before .back-substitute .ensures)
+returns-2 c = rw (← c .before .before .before .before .before .eliminate .ensures, c .before .before .before .enum-told2 .given .1, c .back-substitute .ensures)
 
 pub solve-linear-spec : {M : Type 1} → statement M
 solve-linear-spec =
     tie.close
-    (tie.spec (λ c κs. search needs) (λ c. search needs) (λ c. search needs) (λ c κs. search needs) returns returns-2)
+    (tie.spec eliminate-requires enum-told enum-told-2 back-substitute-requires returns returns-2)

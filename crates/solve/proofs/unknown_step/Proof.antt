@@ -5,9 +5,19 @@ use Rattle.solve.proofs.unknown_step.Statement.{statement}
 use Rattle.solve.proofs.unknown_step.Tie as tie
 
 returns : tie.Need-returns
-returns c = rw (← c .before .before .residue-of .ensures, ← c .before .entry-of .ensures)
+returns c = rw (← c .before .residue-of .ensures)
 
 pub unknown-step-spec : {M : Type 1} → statement M
 unknown-step-spec =
     tie.close
-    (tie.spec (search needs) (search needs) (search needs) (search needs) (search needs) (search needs) returns)
+    (tie.spec
+    (search needs)
+    (search needs)
+    (search needs)
+    (search needs)
+    (search needs)
+    (search needs)
+    (search needs)
+    (search needs)
+    (search needs)
+    returns)

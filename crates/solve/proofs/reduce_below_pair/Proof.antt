@@ -1,0 +1,52 @@
+-- `solve::reduce_below_pair`: as with one right side, for each of the two: the factor is the matrix's.
+-- Assumes nothing.
+use Rattle.solve.proofs.Rows.{row-reduced}
+use Prim.Native.Nat.{_-_}
+use Rattle.laws.proofs.Loops.{again, done}
+use Rattle.laws.specs.Loops.{run}
+use mathlib.Core.Path.{_≡_, refl}
+use Rattle.solve.specs.Elimination.{system, reduceRow, reduced}
+use borrow.Author.Needs.{needs}
+use Rattle.solve.proofs.reduce_below_pair.Statement.{statement}
+use Rattle.solve.proofs.reduce_below_pair.Tie as tie
+
+abbrev Inv-loop : tie.InvT-loop
+Inv-loop size col a₀ b₀ c₀ row₀ a b c row = (run (reduceRow size col) row size (system a b) ≡ run (reduceRow size col) row₀ size (system a₀ b₀)) × (run (reduceRow size col) row size (system a c) ≡ run (reduceRow size col) row₀ size (system a₀ c₀))
+
+abbrev μ-loop : tie.MeasureT-loop
+μ-loop size col a₀ b₀ c₀ row₀ a b c row = size - row
+
+loop-holds : tie.Need-loop-holds Inv-loop μ-loop
+loop-holds c = (refl, refl)
+
+loop-again : tie.Need-loop-again Inv-loop μ-loop
+loop-again c =
+    let l = c .before .before .before .before .before .before .before in
+    let e = l .before .args in
+    let row = c .before .before .before .before .reduce-row .ensures in
+    let test = c .before .before .before .before .before .before .loop-test .taken in (
+      again (reduceRow (e .size) (e .col)) test (row-reduced (e .size) (e .col) (l .loop .row) (l .loop .a) (l .loop .b) (row .0) (row .1) (c .before .before .reduce-right .ensures)) (l .loop .inv .0),
+      again (reduceRow (e .size) (e .col)) test (row-reduced (e .size) (e .col) (l .loop .row) (l .loop .a) (l .loop .c) (row .0) (row .1) (c .reduce-right2 .ensures)) (l .loop .inv .1),
+    )
+
+returns : tie.Need-returns Inv-loop μ-loop
+unfolding reduced
+returns c =
+    let e = c .before .before .args in
+    (done (reduceRow (e .size) (e .col)) (c .loop-test .left) (c .before .loop .inv .0), done (reduceRow (e .size) (e .col)) (c .loop-test .left) (c .before .loop .inv .1))
+
+pub reduce-below-pair-spec : {M : Type 1} → statement M
+reduce-below-pair-spec =
+    tie.close
+    (tie.spec
+    Inv-loop
+    μ-loop
+    (search needs)
+    loop-holds
+    (search needs)
+    (search needs)
+    (search needs)
+    (search needs)
+    (search needs)
+    loop-again
+    returns)
