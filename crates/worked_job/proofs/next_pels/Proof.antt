@@ -30,6 +30,8 @@ next-pels-spec =
     (search needs)
     (search needs)
     (search needs)
+    (search needs)
+    (search needs)
     loop-again
     (search needs)
     (search needs))
