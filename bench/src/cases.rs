@@ -30,6 +30,7 @@ pub enum Case {
     ScoreSamples(usize),
     QuantizeModel(u8, usize),
     QuantizeTrimmed(u8, usize),
+    QuantizeTrimmedSamples(u8, usize),
     WriteFrame(usize),
     ReadFrame(u8, usize),
     WriteHeader(u8, Distance),
@@ -62,6 +63,7 @@ pub fn all() -> Vec<Case> {
     cases.extend(counts.map(ScoreSamples));
     cases.extend(kinds.iter().flat_map(|&kind| counts.map(|n| QuantizeModel(kind, n))));
     cases.extend(kinds.iter().flat_map(|&kind| counts.map(|n| QuantizeTrimmed(kind, n))));
+    cases.extend(kinds.iter().flat_map(|&kind| counts.map(|n| QuantizeTrimmedSamples(kind, n))));
     cases.extend(counts.map(WriteFrame));
     cases.extend([2, 1].iter().flat_map(|&form| counts.map(|n| ReadFrame(form, n))));
     cases.extend(header_kinds.iter().flat_map(|&kind| Distance::ALL.map(|prior| WriteHeader(kind, prior))));
@@ -84,6 +86,7 @@ impl fmt::Display for Case {
             ScoreSamples(n) => write!(f, "score | {n} samples"),
             QuantizeModel(kind, n) => write!(f, "quantize_model | {}, {n} words", type_name(kind)),
             QuantizeTrimmed(kind, n) => write!(f, "quantize_trimmed | {}, {n} words", type_name(kind)),
+            QuantizeTrimmedSamples(kind, n) => write!(f, "quantize_trimmed | {}, {n} samples", type_name(kind)),
             WriteFrame(n) => write!(f, "write_frame | form 2, {n} samples"),
             ReadFrame(form, n) => write!(f, "read_both | form {form}, {n} samples"),
             WriteHeader(kind, prior) => write!(f, "header write | seven {}, prior {}", type_name(kind), prior.name()),
@@ -125,6 +128,7 @@ impl Case {
             ScoreSamples(n) => score_samples(n),
             QuantizeModel(kind, n) => quantize_model(kind, n),
             QuantizeTrimmed(kind, n) => quantize_trimmed(kind, n),
+            QuantizeTrimmedSamples(kind, n) => quantize_trimmed_samples(kind, n),
             WriteFrame(n) => write_frame(n),
             ReadFrame(form, n) => read_frame(form, n),
             WriteHeader(kind, prior) => write_header(kind, prior),
@@ -322,6 +326,21 @@ fn quantize_trimmed(kind: u8, n: usize) -> Sides {
         words,
         move |words| {
             black_box(belt::quantize_trimmed(kind, HIGH_PRECISION, words).ok());
+        },
+        move |samples| {
+            black_box(samples.trimmed(kind, true));
+        },
+    )
+}
+
+fn quantize_trimmed_samples(kind: u8, n: usize) -> Sides {
+    let words = loose_words(n);
+    let ours = belt::quantize_trimmed_samples(kind, HIGH_PRECISION, &lent_samples(&words));
+    assert_eq!(ours, belt::quantize_trimmed(kind, HIGH_PRECISION, &words));
+    on_samples(
+        &words,
+        move |samples| {
+            black_box(belt::quantize_trimmed_samples(kind, HIGH_PRECISION, samples).ok());
         },
         move |samples| {
             black_box(samples.trimmed(kind, true));

@@ -3,8 +3,8 @@
 use oracle::blocks::{self, ONE, TWO};
 use oracle::list::tilted_words;
 use oracle::{
-    IDENTITY, NOT_FINITE, TOO_FEW, coefficient, fit, quantize_global_param, quantize_model, read_header, sample_of, sample_words, score,
-    search, trimmed, trimmed_or_row, write_header,
+    IDENTITY, NOT_FINITE, TOO_FEW, coefficient, fit, quantize_global_param, quantize_model, read_header, sample_of,
+    sample_words, score, search, trimmed, trimmed_or_row, write_header,
 };
 
 const TRANSLATION: u8 = 1;

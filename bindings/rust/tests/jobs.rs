@@ -155,7 +155,8 @@ fn rotation_zooms_and_affine_motions_read_back() {
 fn a_bowl_is_trimmed() {
     let square = |at: usize, middle: i32| (at as i32 - middle).pow(2);
     let bowl = |r: usize, c: usize| (square(r.min(63), 31) + 2 * square(c.min(63), 29)) as u16;
-    let plane = |zoom: usize| (0..64 * 64).map(|i| (i / 64, i % 64)).map(|(r, c)| bowl(r + r / zoom, c + c / zoom)).collect();
+    let plane =
+        |zoom: usize| (0..64 * 64).map(|i| (i / 64, i % 64)).map(|(r, c)| bowl(r + r / zoom, c + c / zoom)).collect();
     let mut handed = Handed::new(plane(16), plane(64), 64, 64, 2);
     handed.settings.reference = 7;
     for (trim, model, score, bits) in [

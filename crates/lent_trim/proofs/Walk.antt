@@ -64,7 +64,7 @@ use mir.Syntax.{
 }
 use mir.Val.{Val, WT, hasTy, vint, vfloat, vptr}
 use base.Logic.{SProp, ent, sep, emp, via, fst∗, snd∗, exE, id⊢}
-use base.Fml.{Lft, GName, Share, Fml, ftrue, fsep, fat, froom, fdies, flft, flent, fres, fobor}
+use base.Fml.{Lft, GName, Share, ftrue, fsep, fat, froom, fdies, flft, flent, fres, fobor}
 use prog.Wp.{Heap, Out, Env, afterSeq, afterBlock, afterTurn, Calls, Loops, Wp, WpFn, atReturn, Tables}
 use ghost.Atoms.{Atoms, sem}
 use contract.Monad.{fact}
@@ -152,7 +152,7 @@ use types.Share.{arr-parts}
 use types.Tokens.{lft-new, lft-end, lent-back}
 use sound.WpLaws.{FmC, fmOf, WpFn-mono}
 use denote.RattleType.{RattleType, owns}
-use denote.Laws.{Is, Tells, Makes, Typed, shows}
+use denote.Laws.{Is, Tells, Makes, shows}
 use denote.Plain.{Nothing, nothing-lawful, uint-lawful, uint-tells, uint-makes}
 use denote.Floats.{is-true, float-vals, float-tells, float-lawful, float-makes, float-copy}
 use denote.Array.{Array, arrayVal, array-vals, array-tells, array-lawful, array-repeat}

@@ -240,12 +240,12 @@ pub fn loose_samples(random: &mut Random) -> Vec<[f64; 4]> {
     if random.one_in(3) {
         return samples(random);
     }
-    let size = random.pick(&[1.0, 1.0, 1.0 / 97.0, 1e-160, 1e-320, 1e60, 1e140, 1e152]);
+    let size = random.pick(&[1.0, 1.1, 1.1, 0.3, 1.0 / 97.0, 1e-160, 1e60, 1e140]);
     let words = loose_words(random);
     let mut made: Vec<_> = words.iter().map(|&word| oracle::sample_of(word).map(|number| size * number)).collect();
     let extreme =
         [1e150, -1e150, 1e154, -1.4e154, 1e155, 1e200, f64::MAX, f64::INFINITY, f64::NAN, 5e-324, -2e-308, 1e-170];
-    if !made.is_empty() && random.one_in(2) {
+    if !made.is_empty() && random.one_in(3) {
         for _ in 0..1 + random.below(3) {
             let (place, number) = (random.below(made.len()), random.below(4));
             made[place][number] = random.pick(&extreme);
