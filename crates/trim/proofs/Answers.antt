@@ -20,7 +20,8 @@ use Rattle.median.specs.Median.{allFinite}
 use Rattle.fit.specs.declared.Fitted.{Fitted}
 use Rattle.fit.specs.declared.Fitted.the-variants.{Refused}
 use Rattle.fit.specs.Fitted.{refusalOf, typeOf, fitRefusal}
-use Rattle.fit.proofs.Accepted.{fit-few}
+use Rattle.fit.proofs.Accepted.{fit-few, fit-type}
+use Rattle.fit.proofs.OfType.{fit-of-type}
 use Rattle.quantize.specs.declared.Quantized.{Quantized}
 use Rattle.quantize.specs.Quantize.{paramsFrom, quantizeRefusal, quantizedAs, quantizedFrom}
 use Rattle.quantize.specs.Quantize as quantizing
@@ -31,7 +32,6 @@ use Rattle.trim.specs.Trim.{leastOf, tooFew, residualsFrom, keptFrom, fi
 use Rattle.trim.specs.Inner.{itself, sampleAt, upTo, samplesIn, under, cutAs, refusedCut, cutOf, listRefusal, modelRefusal, refusedModel, modelAs, Untrimmed, Cuts}
 use Rattle.trim.proofs.Indices.{length-upTo}
 use Rattle.trim.proofs.Mapped.{trimmed-mapped, model-mapped}
-use Rattle.trim.proofs.Models.{fit-is-model}
 use Rattle.trim.proofs.Under.{under-few}
 
 or-else-assoc : (a b c : ℕ) → orElse a (orElse b c) ≡ orElse (orElse a b) c
@@ -60,6 +60,9 @@ module _ (gmType flag n : ℕ) (e : modelRefusal gmType flag n ≡ 0) where
 
   pub model-few : n ≤ mostSamples
   model-few = fit-few gmType n (first-quiet .0)
+
+  model-type : (1 ≤ gmType) × (gmType ≤ 3)
+  model-type = fit-type gmType n (first-quiet .0)
 
   model-flag : flag ≤ 1
   model-flag = ltb-false 1 flag (quiet (row 4 (ltb 1 flag) ∷ []) tt (then-quiet .0) .0)
@@ -248,10 +251,16 @@ module _ (numbers : List Float) (gmType n : ℕ) where
             let e : length (under roots (c .limit) n) ≡ length used = ap (λ (l : List ℕ). length l) within in
             omega (arith, h, e, model-few gmType flag n listed)
 
+        typed : typeOf last ≡ 0 → ⊥
+        typed e =
+            let t = model-type gmType flag n listed in
+            let same : typeOf last ≡ gmType = fit-of-type read gmType used (t .0) (t .1) .same (last-quiet quiet-trim) in
+            absurd (omega (arith, e, same, t .0))
+
         on-grid : quantizedFrom read last flag used ≡ quantizedAs 0 (paramsFrom read last flag used)
         on-grid =
             answered-accepted quantizing.refusedModel (quantizeRefusal last flag (length used)) (quantizedAs 0 (paramsFrom read last flag used))
-            (quantize-accepts last flag (length used) few-used (fit-is-model read used gmType (last-quiet quiet-trim)) (model-flag gmType flag n listed))
+            (quantize-accepts last flag (length used) few-used typed (model-flag gmType flag n listed))
 
         pub model-accepted : modelAs (c .used) (quantizedFrom read (c .fitted) flag (under roots (c .limit) n)) ≡ trimmedModelFrom itself gmType flag (samplesIn numbers n)
         model-accepted =

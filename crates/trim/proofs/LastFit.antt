@@ -5,7 +5,7 @@ use mathlib.Core.Bool.{Bool, true, false}
 use mathlib.Core.List.{List}
 use mathlib.Core.Path.{_≡_, refl, sym, ap, subst, _∙_}
 use native.Mathlib.Omega.{arith}
-use lib.Dec.{T, eqb, lit<}
+use lib.Dec.{eqb, lit<}
 use lib.ListN.{length, take}
 use lib.Ieee.{Float, inf, binary64, ofBits}
 use Rattle.laws.specs.Buffer.{onto}
@@ -20,7 +20,6 @@ use Rattle.trim.specs.Trim.{leastOf, residualsFrom, cutoff, keptFrom, fi
 use Rattle.trim.specs.Inner.{sampleAt, upTo, under, refusedCut, cutOf, Under, Rooted, Cuts}
 use Rattle.trim.proofs.Answers.{used-all, used-kept, refused-cuts, not-finite, made-cuts}
 use Rattle.trim.proofs.Indices.{length-upTo}
-use Rattle.trim.proofs.NoSign.{held}
 use Rattle.trim.proofs.Under.{length-roots, roots-front, kept-under, all-under, findable, under-few}
 
 pub infinity-is : ofBits binary64 0x7ff0_0000_0000_0000 ≡ inf false
@@ -67,8 +66,8 @@ module _ (numbers : List Float) (gmType n : ℕ) (roots : List Float) (first : F
       refused-cuts numbers gmType n roots 16 roots-long (λ z. absurd (omega arith)) (not-finite numbers gmType n (r .fitted) (finite-is false e))
 
   module _ (finite : allFinite (take n roots) ≡ true) where
-    each-finite : T (allFinite residuals)
-    each-finite = held (allFinite residuals) (finite-is true finite)
+    each-finite : allFinite residuals ≡ true
+    each-finite = finite-is true finite
 
     pub roots-findable : Findable (take n roots)
     roots-findable = subst (λ (l : List Float). Findable l) (sym front) (findable numbers before n (r .old) some each-finite)
@@ -93,7 +92,7 @@ module _ (numbers : List Float) (gmType n : ℕ) (roots : List Float) (first : F
       pub stood-cuts : count < leastOf gmType → (top : Float) → top ≡ inf false → Cuts numbers gmType n roots (cutOf first n top)
       stood-cuts h top q =
           let all : usedFrom read gmType (upTo n) ≡ upTo n = used-all numbers gmType n (omega (arith, h, kept-count)) in
-          made-cuts numbers gmType n (r .fitted) roots roots-long first n top (finite-is true finite)
+          made-cuts numbers gmType n (r .fitted) roots roots-long first n top each-finite
           (r .is ∙ ap (λ (l : List ℕ). fitFrom read gmType l) (sym all))
           (sym (length-upTo n) ∙ ap (λ (l : List ℕ). length l) (sym all))
           (ap (λ (l : List Float). under l top n) (r .rooted) ∙ all-under numbers before n (r .old) top q each-finite ∙ sym all)
@@ -101,7 +100,7 @@ module _ (numbers : List Float) (gmType n : ℕ) (roots : List Float) (first : F
       pub fitted-cuts : leastOf gmType ≤ count → (f : Fitted) → f ≡ fitFrom read gmType (under roots limit n) → Cuts numbers gmType n roots (cutOf f count limit)
       fitted-cuts h f q =
           let those : under roots limit n ≡ usedFrom read gmType (upTo n) = is-kept ∙ sym (used-kept numbers gmType n (omega (arith, h, kept-count))) in
-          made-cuts numbers gmType n (r .fitted) roots roots-long f count limit (finite-is true finite)
+          made-cuts numbers gmType n (r .fitted) roots roots-long f count limit each-finite
           (q ∙ ap (λ (l : List ℕ). fitFrom read gmType l) those)
           (counted ∙ ap (λ (l : List ℕ). length l) those)
           those

@@ -4,8 +4,6 @@ pub mod Unpacked
 pub mod Mapped
 pub mod NoSign
 pub mod Under
-pub mod Refit
-pub mod Models
 pub mod Answers
 pub mod FirstFit
 pub mod LastFit

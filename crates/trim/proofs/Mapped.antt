@@ -10,7 +10,6 @@ use lib.Dec.{eqb}
 use lib.IntN.{ℤ}
 use lib.ListN.{length, length-map}
 use lib.Ieee.{Float, le}
-use Rattle.laws.specs.Binary64.{nought}
 use Rattle.laws.specs.Call.{answered}
 use Rattle.laws.specs.Refusal.{choose, orElse}
 use Rattle.laws.proofs.Cases.{lt-or-le}
@@ -18,9 +17,9 @@ use Rattle.sample.specs.declared.MotionSample.{MotionSample}
 use Rattle.sample.specs.Word.{mostSamples}
 use Rattle.fit.specs.declared.Fitted.{Fitted}
 use Rattle.fit.specs.declared.Fitted.the-variants.{Refused}
-use Rattle.fit.specs.Sums.{Summing, sumsOf, plus}
+use Rattle.fit.specs.Sums.{Summing}
 use Rattle.fit.specs.Fitted.{typeOf, refusalOf, translationBy, rotZoomBy, affineBy, translationFrom, rotZoomFrom, affineFrom, fitFrom, fitRefusal}
-use Rattle.fit.proofs.SameSamples.{fold-map}
+use Rattle.fit.proofs.SameSamples.{by-samples}
 use Rattle.quantize.specs.Quantize.{linearOf, refitBy, refittedFrom, paramsOf, paramsFrom}
 use Rattle.trim.specs.declared.Trimmed.{Trimmed}
 use Rattle.trim.specs.declared.TrimmedModel.{TrimmedModel}
@@ -30,22 +29,15 @@ use Rattle.trim.proofs.Passing.{passing-map}
 use Rattle.trim.proofs.Indices.{length-upTo}
 
 module _ {A : Type 0} (read : A → MotionSample) where
-  sums-mapped : (xs : List A) → sumsOf itself (map read xs) ≡ sumsOf read xs
-  sums-mapped xs = λ i term. fold-map (plus term) read xs nought i
-
-  -- whatever the sums over so many samples make
-  by-samples : {B : Type 0} (g : Summing → ℕ → B) (xs : List A) → g (sumsOf itself (map read xs)) (length (map read xs)) ≡ g (sumsOf read xs) (length xs)
-  by-samples g xs = ap (g (sumsOf itself (map read xs))) (length-map xs read) ∙ ap (λ (sum : Summing). g sum (length xs)) (sums-mapped xs)
-
   pub fit-mapped : (gmType : ℕ) (xs : List A) → fitFrom itself gmType (map read xs) ≡ fitFrom read gmType xs
   unfolding translationFrom rotZoomFrom affineFrom
   fit-mapped gmType xs =
-      by-samples (λ (sum : Summing) (n : ℕ). choose (eqb gmType 1) (translationBy sum n) (choose (eqb gmType 2) (rotZoomBy sum n) (affineBy sum n))) xs
+      by-samples read xs (λ (sum : Summing) (n : ℕ). choose (eqb gmType 1) (translationBy sum n) (choose (eqb gmType 2) (rotZoomBy sum n) (affineBy sum n)))
 
   pub params-mapped : (f : Fitted) (flag : ℕ) (xs : List A) → paramsFrom itself f flag (map read xs) ≡ paramsFrom read f flag xs
   unfolding paramsFrom refittedFrom
   params-mapped f flag xs =
-      by-samples (λ (sum : Summing) (n : ℕ). paramsOf (typeOf f) flag (linearOf f flag) (refitBy (linearOf f flag) sum n)) xs
+      by-samples read xs (λ (sum : Summing) (n : ℕ). paramsOf (typeOf f) flag (linearOf f flag) (refitBy (linearOf f flag) sum n))
 
   pub residuals-mapped : (f : Fitted) (xs : List A) → residualsFrom itself f (map read xs) ≡ residualsFrom read f xs
   residuals-mapped f [] = refl

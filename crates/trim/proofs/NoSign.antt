@@ -7,7 +7,7 @@ use mathlib.Core.Path.{_≡_, refl, sym, subst}
 use native.Mathlib.Omega.{arith}
 use lib.Dec.{T}
 use lib.ListN.{length, getD}
-use lib.Ieee.{Float, nan, inf, fin, lt, le}
+use lib.Ieee.{Float, nan, inf, fin, binary64, fits, lt, le}
 use lib.Ieee.Scale.{finite}
 use Rattle.laws.specs.Binary64.{_⊖_}
 use Rattle.laws.specs.Stands.{Each}
@@ -15,33 +15,28 @@ use Rattle.laws.proofs.Refusal.{both-left, both-right}
 use Rattle.sample.specs.declared.MotionSample.{MotionSample}
 use Rattle.root.proofs.Signs.{root-of-squares-fits, root-of-squares-unsigned}
 use Rattle.median.specs.Median.{allFinite}
-use Rattle.median.specs.Inner.{Plain}
+use Rattle.median.specs.Inner.{unsigned, Plain}
+use Rattle.median.proofs.PlainLists.{each-mapped, each-plain}
 use Rattle.fit.specs.declared.Fitted.{Fitted}
 use Rattle.score.specs.Score.{residualOf, motionU, motionV}
 use Rattle.trim.specs.Trim.{continuousFit, residual, residualsFrom}
-
-pub holds : (b : Bool) → T b → b ≡ true
-holds true t = refl
-holds false t = absurd t
 
 pub held : (b : Bool) → b ≡ true → T b
 held b e = subst (λ (t : Bool). T t) (sym e) tt
 
 -- ---- residuals
 
-pub residual-plain : (f : Fitted) (s : MotionSample) → finite (residual f s) ≡ true → Plain (residual f s)
+residual-bare : (f : Fitted) (s : MotionSample) → T (fits binary64 (residual f s)) × (unsigned (residual f s) ≡ true)
 unfolding residualOf
-residual-plain f s e =
+residual-bare f s =
     let du = s .u ⊖ motionU (continuousFit f) s in
     let dv = s .v ⊖ motionV (continuousFit f) s in
-    record { held = root-of-squares-fits du dv; bare = root-of-squares-unsigned du dv; ends = e }
+    (root-of-squares-fits du dv, root-of-squares-unsigned du dv)
 
-pub residuals-plain : {A : Type 0} (read : A → MotionSample) (f : Fitted) (xs : List A) → T (allFinite (residualsFrom read f xs)) → Each Plain (residualsFrom read f xs)
-residuals-plain read f [] t = tt
-residuals-plain read f (x ∷ xs) t =
-    let one = finite (residual f (read x)) in
-    let rest = allFinite (residualsFrom read f xs) in
-    (residual-plain f (read x) (holds one (both-left one rest t)), residuals-plain read f xs (both-right one rest t))
+pub residuals-plain : {A : Type 0} (read : A → MotionSample) (f : Fitted) (xs : List A) → allFinite (residualsFrom read f xs) ≡ true → Each Plain (residualsFrom read f xs)
+residuals-plain {A} read f xs e =
+    each-plain (residualsFrom read f xs)
+    (each-mapped (λ (x : A). residual f (read x)) (λ (r : Float). T (fits binary64 r) × (unsigned r ≡ true)) (λ x. residual-bare f (read x)) xs) e
 
 -- ---- finite numbers are under infinity
 

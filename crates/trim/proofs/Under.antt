@@ -6,7 +6,6 @@ use mathlib.Core.List.{List, [], _∷_}
 use mathlib.Core.Path.{_≡_, refl, sym, ap, _∙_}
 use native.Mathlib.Omega.{arith}
 use borrow.Author.Tests.{le-ltb}
-use lib.Dec.{T}
 use lib.ListN.{length, take, drop, getD, replicate, length-append, length-drop, length-map, getD-replicate, List·getD-append}
 use lib.Seq.{take-at}
 use lib.Ieee.{Float, nan, inf, le, ofBits}
@@ -25,7 +24,7 @@ use Rattle.trim.specs.Trim.{residual, residualsFrom, cutoff, keptFrom}
 use Rattle.trim.specs.Inner.{sampleAt, upTo, under}
 use Rattle.trim.proofs.Passing.{fold-passing, passing-few}
 use Rattle.trim.proofs.Indices.{getD-listing, map-listing, length-upTo, passing-same, passing-all}
-use Rattle.trim.proofs.NoSign.{residuals-plain, finite-at, under-infinity}
+use Rattle.trim.proofs.NoSign.{held, residuals-plain, finite-at, under-infinity}
 
 -- ---- a loop with the test
 
@@ -125,13 +124,13 @@ module _ (numbers : List Float) (f : Fitted) (n : ℕ) (old : List Float) where
       passing-same (λ i. le (getD roots i nan) (cutoff residuals)) (λ i. le (residual f (read i)) (cutoff residuals)) n
       (λ i h. ap (λ (r : Float). le r (cutoff residuals)) (root-at i h))
 
-  pub all-under : (limit : Float) → limit ≡ inf false → T (allFinite residuals) → under roots limit n ≡ upTo n
+  pub all-under : (limit : Float) → limit ≡ inf false → allFinite residuals ≡ true → under roots limit n ≡ upTo n
   all-under limit e t =
       passing-all (λ i. le (getD roots i nan) limit) n
       (λ i h.
       ap (λ (r : Float). le r limit) (in-front i h)
       ∙ ap (λ (l : Float). le (getD residuals i nan) l) e
-      ∙ under-infinity (getD residuals i nan) (finite-at residuals i t (rw length-residuals h)))
+      ∙ under-infinity (getD residuals i nan) (finite-at residuals i (held (allFinite residuals) t) (rw length-residuals h)))
 
-  pub findable : 0 < n → T (allFinite residuals) → Findable residuals
-  findable some t = record { some = rw length-residuals some; plain = residuals-plain read f (upTo n) t }
+  pub findable : 0 < n → allFinite residuals ≡ true → Findable residuals
+  findable some e = record { some = rw length-residuals some; plain = residuals-plain read f (upTo n) e }

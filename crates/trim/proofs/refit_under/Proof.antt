@@ -9,9 +9,9 @@ use Rattle.laws.specs.Loops.{fold}
 use Rattle.fit.specs.Sums.{reading}
 use Rattle.quantize.specs.declared.Refitting.{Refitting}
 use Rattle.quantize.specs.Inner.{refittingBegun, refittingStep, refittingEnds}
+use Rattle.quantize.proofs.Walked.{walk-ends}
 use Rattle.trim.specs.Inner.{sampleAt, upTo, under}
 use Rattle.trim.proofs.Indices.{index-again, index-done}
-use Rattle.trim.proofs.Refit.{refit-walked}
 use Rattle.trim.proofs.Under.{underStep, under-fold, turn-taken, turn-passed}
 use Rattle.trim.proofs.refit_under.Statement.{statement}
 use Rattle.trim.proofs.refit_under.Tie as tie
@@ -48,7 +48,7 @@ returns c =
     ∙ ap (fold steps (upTo (a .n))) (c .before .before .before .refit-begin .ensures)
     ∙ under-fold refittingStep (a .numbers .now) (a .roots .now) (a .limit) (a .n) (refittingBegun (a .fitted) (a .flag)))
     ∙ ap (λ (k : ℕ). refittingEnds (fold (reading refittingStep (sampleAt (a .numbers .now))) kept (refittingBegun (a .fitted) (a .flag))) k) (c .before .before .before .before .before .pre .counted)
-    ∙ refit-walked (sampleAt (a .numbers .now)) (a .fitted) (a .flag) kept
+    ∙ walk-ends (sampleAt (a .numbers .now)) (a .fitted) (a .flag) kept
 
 pub refit-under-spec : {M : Type 1} → statement M
 refit-under-spec =
