@@ -182,7 +182,7 @@ fn count_under(roots: &[f64], n: usize, limit: f64) -> usize
     let mut count = 0usize;
     let mut i = 0usize;
     while i < n {
-        if roots[i] <= limit {
+        if limit >= roots[i] {
             count += 1;
         }
         i += 1;
@@ -329,9 +329,9 @@ fn cut_of(fitted: Fitted, used: usize, limit: f64) -> Cut
     requires { ⌜ used ≤ mostSamples ⌝ }
     ensures { λ r. ⌜ r ≡ cutOf fitted used limit ⌝ }
 {
-    let number = fit::refusal_of(fitted);
-    if number != 0 {
-        return refused_cut(number);
+    let own = fit::refusal_of(fitted);
+    if own != 0 {
+        return refused_cut(own);
     }
     Cut {
         fitted,
