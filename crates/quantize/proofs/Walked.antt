@@ -21,11 +21,11 @@ use Rattle.quantize.proofs.Accepted.{accepted}
 use Rattle.quantize.proofs.Leftover.{refit-sums}
 
 -- a walk with other sums
-abbrev with : Refitting → TranslationSums → Refitting
+abbrev pub with : Refitting → TranslationSums → Refitting
 with t s = record { fitted = t .fitted; flag = t .flag; linear = t .linear; m = t .m; sums = s }
 
 module _ {A : Type 0} (read : A → MotionSample) where
-  sums-apart : (xs : List A) (t : Refitting) → fold (reading refittingStep read) xs t ≡ with t (fold (reading (refitStep (t .m)) read) xs (t .sums))
+  pub sums-apart : (xs : List A) (t : Refitting) → fold (reading refittingStep read) xs t ≡ with t (fold (reading (refitStep (t .m)) read) xs (t .sums))
   sums-apart [] t = refl
   sums-apart (x ∷ xs) t = sums-apart xs (refittingStep t (read x))
 

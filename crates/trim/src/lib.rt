@@ -13,6 +13,7 @@ use fit::RotZoomSums;
 use fit::TRANSLATION;
 use fit::TranslationSums;
 use quantize::Quantized;
+use quantize::Refitting;
 use sample::MOST_SAMPLES;
 use sample::MotionSample;
 use score::ContinuousModel;
@@ -22,13 +23,15 @@ ghost use mathlib.Core.Bool.{true};
 ghost use Prim.Native.Nat.{_≤_, _<_};
 ghost use lib.ListN.{length, take};
 ghost use Rattle.laws.specs.Buffer.{onto};
+ghost use Rattle.laws.specs.Loops.{fold};
 ghost use Rattle.sample.specs.Word.{mostSamples};
 ghost use Rattle.sample.specs.Sample.{sampleOf};
 ghost use Rattle.median.specs.Inner.{Findable};
 ghost use Rattle.median.specs.Median.{allFinite};
-ghost use Rattle.fit.specs.Sums.{sumsOf, translationTotals, rotZoomTotals, affineTotals};
+ghost use Rattle.fit.specs.Sums.{reading, sumsOf, translationTotals, rotZoomTotals, affineTotals};
 ghost use Rattle.fit.specs.Fitted.{refusalOf, fitFrom};
 ghost use Rattle.quantize.specs.Quantize.{quantizedFrom};
+ghost use Rattle.quantize.specs.Inner.{refitStep};
 ghost use Rattle.trim.specs.Trim.{leastOf, continuousFit, residualsFrom, cutoff, fewRefusal, trimmedFrom, trimmedModelFrom};
 ghost use Rattle.trim.specs.Inner.{itself, mostNumbers, sampleAt, upTo, samplesIn, stored, under, refusedCut, cutOf};
 ghost use Rattle.trim.specs.Inner.{listRefusal, modelRefusal, refusedModel, modelAs, Under, Untrimmed, Rooted, Cuts};
@@ -256,6 +259,29 @@ fn fit_under(
     fit::affine_ends(affine_under(numbers, roots, n, limit), used)
 }
 
+// The sums of the refit against a linear part, over the samples under a limit.
+fn left_under(
+    m: ContinuousModel,
+    begun: TranslationSums,
+    numbers: &[f64; 16384],
+    roots: &[f64],
+    n: usize,
+    limit: f64,
+) -> TranslationSums
+    requires { ⌜ (n ≤ mostSamples) × (n ≤ length (now roots)) ⌝ }
+    ensures { λ r. ⌜ r ≡ fold (reading (refitStep m) (sampleAt (now (numbers .entry)))) (under (now (roots .entry)) limit n) begun ⌝ }
+{
+    let mut t = begun;
+    let mut i = 0usize;
+    while i < n {
+        if roots[i] <= limit {
+            t = quantize::refit_step(m, t, sample_at(numbers, i));
+        }
+        i += 1;
+    }
+    t
+}
+
 // A fitted model on the grid, its translation fitted again over the samples under a limit.
 fn refit_under(
     fitted: Fitted,
@@ -269,15 +295,20 @@ fn refit_under(
     requires { ⌜ Under (now roots) limit n used ⌝ }
     ensures { λ r. ⌜ r ≡ quantizedFrom (sampleAt (now (numbers .entry))) fitted flag (under (now (roots .entry)) limit n) ⌝ }
 {
-    let mut t = quantize::refit_begin(fitted, flag);
-    let mut i = 0usize;
-    while i < n {
-        if roots[i] <= limit {
-            t = quantize::refitting_step(t, sample_at(numbers, i));
-        }
-        i += 1;
-    }
-    quantize::refit_ends(t, used)
+    let begun = quantize::refit_begin(fitted, flag);
+    let linear = begun.linear;
+    let m = begun.m;
+    let sums = left_under(m, begun.sums, numbers, roots, n, limit);
+    quantize::refit_ends(
+        Refitting {
+            fitted,
+            flag,
+            linear,
+            m,
+            sums,
+        },
+        used,
+    )
 }
 
 // ---- the trim
