@@ -1,6 +1,6 @@
 -- After the first fit: what is asked of the roots, and the cut of each case.
 -- Assumes nothing.
-use Prim.Native.Nat.{ℕ, suc, _≤_, _<_}
+use Prim.Native.Nat.{ℕ, _≤_, _<_}
 use mathlib.Core.Bool.{Bool, true, false}
 use mathlib.Core.List.{List}
 use mathlib.Core.Path.{_≡_, refl, sym, ap, subst, _∙_}
@@ -8,15 +8,14 @@ use native.Mathlib.Omega.{arith}
 use lib.Dec.{eqb, lit<}
 use lib.ListN.{length, take}
 use lib.Ieee.{Float, inf, binary64, ofBits}
-use Rattle.laws.specs.Buffer.{onto}
 use Rattle.laws.specs.Refusal.{choose}
 use Rattle.sample.specs.declared.MotionSample.{MotionSample}
 use Rattle.sample.specs.Word.{mostSamples}
 use Rattle.median.specs.Inner.{Findable}
 use Rattle.median.specs.Median.{allFinite}
 use Rattle.fit.specs.declared.Fitted.{Fitted}
-use Rattle.fit.specs.Fitted.{refusalOf, fitFrom}
-use Rattle.trim.specs.Trim.{leastOf, residualsFrom, cutoff, keptFrom, firstFrom, usedFrom, lastFrom}
+use Rattle.fit.specs.Fitted.{fitFrom}
+use Rattle.trim.specs.Trim.{leastOf, residualsFrom, cutoff, keptFrom, firstFrom, usedFrom}
 use Rattle.trim.specs.Inner.{sampleAt, upTo, under, refusedCut, cutOf, Under, Rooted, Cuts}
 use Rattle.trim.proofs.Answers.{used-all, used-kept, refused-cuts, not-finite, made-cuts}
 use Rattle.trim.proofs.Indices.{length-upTo}

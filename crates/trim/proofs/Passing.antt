@@ -1,6 +1,6 @@
 -- Keeping the elements of a list that pass a test: the kept list is the list filtered. It goes with parts and with reading, and a fold of what is kept is a fold with the test.
 -- Assumes nothing.
-use Prim.Native.Nat.{ℕ, zero, suc, _≤_, zero-le}
+use Prim.Native.Nat.{_≤_, zero-le}
 use mathlib.Core.Bool.{Bool, true, false}
 use mathlib.Core.List.{List, [], _∷_, _++_, map}
 use mathlib.Core.Path.{_≡_, refl, ap, _∙_}

@@ -4,7 +4,6 @@
 // own, so sample words and lent samples share one code. Nothing is moved: a sample is passed over where
 // its root is above a limit. Before the first fit every root is 0.0 and so is the limit.
 
-use fit::AFFINE;
 use fit::AffineSums;
 use fit::Fitted;
 use fit::NO_SUCH_CODE;
@@ -19,7 +18,6 @@ use sample::MotionSample;
 use score::ContinuousModel;
 ghost use mathlib.Core.Path.{_≡_};
 ghost use mathlib.Core.List.{map};
-ghost use mathlib.Core.Bool.{true};
 ghost use Prim.Native.Nat.{_≤_, _<_};
 ghost use lib.ListN.{length, take};
 ghost use Rattle.laws.specs.Buffer.{onto};
@@ -29,7 +27,7 @@ ghost use Rattle.sample.specs.Sample.{sampleOf};
 ghost use Rattle.median.specs.Inner.{Findable};
 ghost use Rattle.median.specs.Median.{allFinite};
 ghost use Rattle.fit.specs.Sums.{reading, sumsOf, translationTotals, rotZoomTotals, affineTotals};
-ghost use Rattle.fit.specs.Fitted.{refusalOf, fitFrom};
+ghost use Rattle.fit.specs.Fitted.{fitFrom};
 ghost use Rattle.quantize.specs.Quantize.{quantizedFrom};
 ghost use Rattle.quantize.specs.Inner.{refitStep};
 ghost use Rattle.trim.specs.Trim.{leastOf, continuousFit, residualsFrom, cutoff, fewRefusal, trimmedFrom, trimmedModelFrom};

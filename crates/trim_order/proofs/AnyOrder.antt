@@ -1,15 +1,14 @@
 -- Two lists in which each word stands equally often have the same fit after trimming, of every type, by bits or refused alike, over equally many words, and the same model on the grid.
 -- Assumes nothing.
-use Prim.Native.Nat.{ℕ, _≤_, _<_}
+use Prim.Native.Nat.{ℕ, _≤_}
 use mathlib.Core.Bool.{Bool, true, false, not}
 use mathlib.Core.List.{List}
 use mathlib.Core.Logic.{⊎-elim}
-use mathlib.Core.Path.{_≡_, refl, sym, ap, _∙_, subst}
+use mathlib.Core.Path.{_≡_, sym, ap, _∙_, subst}
 use native.Mathlib.Omega.{arith}
 use borrow.Author.Tests.{lt-ltb}
 use lib.IntN.{ℤ}
 use lib.ListN.{length}
-use lib.Ieee.{Float}
 use Rattle.laws.specs.Call.{answered}
 use Rattle.laws.specs.Refusal.{choose, orElse}
 use Rattle.laws.proofs.Call.{answered-refused}
@@ -27,9 +26,7 @@ use Rattle.exact.specs.Words.{Word, Words, SameWords}
 use Rattle.exact.proofs.Counts.{same-length, same-or-refused}
 use Rattle.exact.proofs.Fits.{same-fit-of}
 use Rattle.exact.proofs.Refit.{same-refit, linear-near}
-use Rattle.trim.specs.declared.Trimmed.{Trimmed}
-use Rattle.trim.specs.declared.TrimmedModel.{TrimmedModel}
-use Rattle.trim.specs.Trim.{tooFew, residual, residualsFrom, keptFrom, firstFrom, usedFrom, lastFrom, fewRefusal, residualRefusal, flagRefusal, trimRefusal, trimmedAs, trimmedModelAs, trimmedFrom, trimmedModelFrom}
+use Rattle.trim.specs.Trim.{tooFew, residual, residualsFrom, keptFrom, firstFrom, usedFrom, lastFrom, fewRefusal, flagRefusal, trimRefusal, trimmedAs, trimmedModelAs, trimmedFrom, trimmedModelFrom}
 use Rattle.trim.specs.Inner.{refusedModel}
 use Rattle.trim.proofs.Passing.{passing-few}
 use Rattle.trim_order.proofs.Kept.{each-passing, same-finite, same-kept}

@@ -19,7 +19,7 @@ use Rattle.sample.specs.Sample.{sampleOf}
 use Rattle.median.specs.Median.{allFinite}
 use Rattle.median.proofs.AnyOrder.{same-mapped, same-median}
 use Rattle.fit.specs.declared.Fitted.{Fitted}
-use Rattle.exact.specs.Words.{times, Words, SameWords}
+use Rattle.exact.specs.Words.{times, SameWords}
 use Rattle.exact.proofs.Counts.{same-whole-sum, same-each}
 use Rattle.trim.specs.Trim.{residual, residualsFrom, three, cutoff, passing, keptFrom}
 use Rattle.trim.proofs.NoSign.{held, residuals-plain}

@@ -1,6 +1,5 @@
 -- `trim::cutoff_of`: the median is that of the first n roots, and the comparison is the definition's.
 -- Assumes nothing.
-use borrow.Author.Needs.{needs}
 use mathlib.Core.Path.{sym}
 use lib.Seq.{length-take-le}
 use Rattle.trim.proofs.cutoff_of.Statement.{statement}

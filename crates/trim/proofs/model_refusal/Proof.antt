@@ -2,9 +2,8 @@
 -- Assumes nothing.
 use borrow.Author.Needs.{needs}
 use borrow.Author.Tests.{lt-ltb, le-ltb}
-use mathlib.Core.Path.{_∙_}
 use Rattle.laws.specs.Refusal.{orElse}
-use Rattle.laws.proofs.Refusal.{or-else-refused, or-else-none}
+use Rattle.laws.proofs.Refusal.{or-else-refused}
 use Rattle.trim.specs.Trim.{fewRefusal, flagRefusal}
 use Rattle.trim.proofs.model_refusal.Statement.{statement}
 use Rattle.trim.proofs.model_refusal.Tie as tie

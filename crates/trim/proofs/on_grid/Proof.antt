@@ -1,6 +1,5 @@
 -- `trim::on_grid`: the numbers are those of the refit.
 -- Assumes nothing.
-use borrow.Author.Needs.{needs}
 use mathlib.Core.Path.{ap}
 use Rattle.quantize.specs.declared.Quantized.{Quantized}
 use Rattle.trim.specs.Inner.{modelAs}

@@ -2,7 +2,6 @@
 -- Assumes nothing.
 use borrow.Author.Needs.{needs}
 use mathlib.Core.Path.{sym, _∙_}
-use native.Mathlib.Omega.{arith}
 use Rattle.trim.proofs.Answers.{refused-cuts, first-refused}
 use Rattle.trim.proofs.FirstFit.{room, all-under-nought, first-is, rooted}
 use Rattle.trim.proofs.trim.Statement.{statement}
