@@ -1,5 +1,5 @@
 //! Prepares the ported Rust for `include!`: the files go to OUT_DIR as they are, with `//!` made `//`,
-//! and three parts are cut out of functions and of frame_obu.rs. None of it is kept in this repository.
+//! and five parts are cut out of functions and of frame_obu.rs. None of it is kept in this repository.
 
 use std::path::PathBuf;
 use std::process::exit;
@@ -19,11 +19,19 @@ fn main() {
     let clamp = "        let raw = raw.clamp(";
     let grid_number = cut(&global_motion, "        let raw = (t * scale)", clamp, clamp);
 
+    let quantized = "    let params = quantize_model(";
+    let trimmed = cut(&global_motion, "    let min_samples = match gm_type", quantized, quantized);
+
+    let residuals = "    let mut residuals: Vec<f64> = samples";
+    let residuals = cut(&global_motion, residuals, residuals, "        .collect();");
+
     prepare("uncompressed_header_tail.rs", &header_tail);
     prepare("bitwriter.rs", &bitwriter);
     prepare("frame_obu.rs", &global_motion_writer);
     prepare("global_motion.rs", &global_motion);
     prepare("half_plane.rs", &format!("{{\n{downsample}\n    downsample(plane)\n}}"));
+    prepare("trimmed.rs", &format!("{{\n{trimmed}\n    Some((model.m, scored_samples.len(), params))\n}}"));
+    prepare("residuals.rs", &format!("{{\n{residuals}\n    residuals.split_off(0)\n}}"));
     prepare("grid_number.rs", &format!("{{\n{grid_number}\n        raw\n}}"));
 }
 

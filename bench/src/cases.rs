@@ -19,6 +19,7 @@ const SMALL_SEARCH: f64 = 0.20;
 const JOB: f64 = 0.15;
 const SUMS: f64 = 1.1;
 const SMALL_FITS: f64 = 1.2;
+const TRIMMED: f64 = 1.5;
 
 #[derive(Clone, Copy)]
 pub enum Case {
@@ -28,6 +29,8 @@ pub enum Case {
     Score(usize),
     ScoreSamples(usize),
     QuantizeModel(u8, usize),
+    QuantizeTrimmed(u8, usize),
+    QuantizeTrimmedSamples(u8, usize),
     WriteFrame(usize),
     ReadFrame(u8, usize),
     WriteHeader(u8, Distance),
@@ -59,6 +62,8 @@ pub fn all() -> Vec<Case> {
     cases.extend(counts.map(Score));
     cases.extend(counts.map(ScoreSamples));
     cases.extend(kinds.iter().flat_map(|&kind| counts.map(|n| QuantizeModel(kind, n))));
+    cases.extend(kinds.iter().flat_map(|&kind| counts.map(|n| QuantizeTrimmed(kind, n))));
+    cases.extend(kinds.iter().flat_map(|&kind| counts.map(|n| QuantizeTrimmedSamples(kind, n))));
     cases.extend(counts.map(WriteFrame));
     cases.extend([2, 1].iter().flat_map(|&form| counts.map(|n| ReadFrame(form, n))));
     cases.extend(header_kinds.iter().flat_map(|&kind| Distance::ALL.map(|prior| WriteHeader(kind, prior))));
@@ -80,6 +85,8 @@ impl fmt::Display for Case {
             Score(n) => write!(f, "score | {n} words"),
             ScoreSamples(n) => write!(f, "score | {n} samples"),
             QuantizeModel(kind, n) => write!(f, "quantize_model | {}, {n} words", type_name(kind)),
+            QuantizeTrimmed(kind, n) => write!(f, "quantize_trimmed | {}, {n} words", type_name(kind)),
+            QuantizeTrimmedSamples(kind, n) => write!(f, "quantize_trimmed | {}, {n} samples", type_name(kind)),
             WriteFrame(n) => write!(f, "write_frame | form 2, {n} samples"),
             ReadFrame(form, n) => write!(f, "read_both | form {form}, {n} samples"),
             WriteHeader(kind, prior) => write!(f, "header write | seven {}, prior {}", type_name(kind), prior.name()),
@@ -102,6 +109,7 @@ impl Case {
             WholeJob(..) => Some(JOB),
             Fit(_, 16) => Some(SMALL_FITS),
             Fit(_, 4096) | FitSamples(_, 4096) | Score(4096) | ScoreSamples(4096) => Some(SUMS),
+            QuantizeTrimmed(_, 4096) => Some(TRIMMED),
             _ => None,
         }
     }
@@ -119,6 +127,8 @@ impl Case {
             Score(n) => score(n),
             ScoreSamples(n) => score_samples(n),
             QuantizeModel(kind, n) => quantize_model(kind, n),
+            QuantizeTrimmed(kind, n) => quantize_trimmed(kind, n),
+            QuantizeTrimmedSamples(kind, n) => quantize_trimmed_samples(kind, n),
             WriteFrame(n) => write_frame(n),
             ReadFrame(form, n) => read_frame(form, n),
             WriteHeader(kind, prior) => write_header(kind, prior),
@@ -295,6 +305,45 @@ fn quantize_model(kind: u8, n: usize) -> Sides {
         },
         move |samples| {
             black_box(samples.quantize_model(black_box(&model), kind, true));
+        },
+    )
+}
+
+/// Words of a field that moves as one, with a share of loose ones.
+fn loose_words(n: usize) -> Vec<u32> {
+    let loose = oracle::blocks::words(n as u32, n).into_iter();
+    let even = |word: u32| word & !0x000f_ffff | (220 + (word >> 11 & 7)) << 11 | (230 + (word >> 2 & 7)) << 2;
+    loose.enumerate().map(|(i, word)| if i % 16 == 0 { word } else { even(word) }).collect()
+}
+
+/// The trimmed fit through the model on the grid, which is where the Rust's own goes on to its tests.
+fn quantize_trimmed(kind: u8, n: usize) -> Sides {
+    let words = loose_words(n);
+    let rust = Samples::of_words(&words).trimmed(kind, true).expect("neither fit is refused");
+    let ours = belt::quantize_trimmed(kind, HIGH_PRECISION, &words).expect("neither fit is refused");
+    assert_eq!((ours.model, ours.used), (Model(rust.params), rust.used));
+    on_words(
+        words,
+        move |words| {
+            black_box(belt::quantize_trimmed(kind, HIGH_PRECISION, words).ok());
+        },
+        move |samples| {
+            black_box(samples.trimmed(kind, true));
+        },
+    )
+}
+
+fn quantize_trimmed_samples(kind: u8, n: usize) -> Sides {
+    let words = loose_words(n);
+    let ours = belt::quantize_trimmed_samples(kind, HIGH_PRECISION, &lent_samples(&words));
+    assert_eq!(ours, belt::quantize_trimmed(kind, HIGH_PRECISION, &words));
+    on_samples(
+        &words,
+        move |samples| {
+            black_box(belt::quantize_trimmed_samples(kind, HIGH_PRECISION, samples).ok());
+        },
+        move |samples| {
+            black_box(samples.trimmed(kind, true));
         },
     )
 }

@@ -31,7 +31,14 @@ impl Job {
             input,
             reference,
             classes: inputs::classes(oracle::sample_count(width, height)),
-            settings: Settings { frame: FRAME, gm_type: kind, reference: REFERENCE, flag: HIGH_PRECISION, start: 0 },
+            settings: Settings {
+                frame: FRAME,
+                gm_type: kind,
+                reference: REFERENCE,
+                flag: HIGH_PRECISION,
+                trim: 0,
+                start: 0,
+            },
             header: Header::new(AFFINE, Distance::Near),
         }
     }

@@ -119,6 +119,7 @@ fn head() -> String {
          Fits, scores and quantizations take sample words. The Rust has no such form: in the first ratio it makes its list of samples of the \
          same words; in the last column, 'samples ready made', it has that list ready made and ours still reads words. \
          A row of samples has the list ready made on both sides: ours walks it, and makes none. \
+         A trimmed fit goes through the model on the grid, against those lines of `candidate_for`; one word in sixteen is loose. \
          Blocks are measured against a plain Rust writing of docs/RULES.md over lent buffers (`bench/src/frames.rs`).\n\n\
          A header has seven models of one type at high precision. A near prior is up to three steps of the grid from the models and gives short codes, \
          a far one is at the other end of the range and gives long codes; seven identities have no codes, and ours only judges their prior. \

@@ -1,4 +1,4 @@
-/* The proved library's calls (crates/belt and lent_fit), for C and C++ on x86-64 Linux. docs/RULES.md has the rules: what a
+/* The proved library's calls (crates/belt, lent_fit and lent_trim), for C and C++ on x86-64 Linux. docs/RULES.md has the rules: what a
    plane, a sample word, a block, a model and a header are, bit by bit; names in quotes are its sections.
    belt_motion.h beside this file reads words and models in pels.
 
@@ -7,8 +7,9 @@
    else that is passed. A count that names more than there is can't be seen here, and is the caller's to get right.
 
    The library allocates nothing, keeps nothing between calls and has no state of its own: any number of threads
-   may call it at once, each with its own buffers. It expects the floating-point environment that a process begins
-   with: rounding to nearest, traps off, subnormal numbers kept. It needs memcpy, memset and no other function.
+   may call it at once, each with its own buffers. A call that trims, which a job may, takes about 165 kB of the
+   thread's stack for its samples and residuals. The library expects the floating-point environment that a process
+   begins with: rounding to nearest, traps off, subnormal numbers kept. It needs memcpy, memset and no other function.
 
    A result's first field is the refusal: BELT_ACCEPTED, or the number of the row that refuses ('When a call
    says no'), and then all fields after it are 0. A refused call leaves its lent buffers as they were; belt_job
@@ -52,6 +53,7 @@ enum belt_type { BELT_IDENTITY = 0, BELT_TRANSLATION = 1, BELT_ROTZOOM = 2, BELT
 enum belt_class { BELT_UNSORTED = 0, BELT_FIBRE = 1, BELT_RIGID_PLASTIC = 2, BELT_METAL = 3, BELT_FILM = 4 };
 enum belt_form { BELT_FORM_1 = 1, BELT_FORM_2 = 2 };
 enum belt_flag { BELT_LOW_PRECISION = 0, BELT_HIGH_PRECISION = 1 };
+enum belt_trim { BELT_ALL_SAMPLES = 0, BELT_TRIM = 1 };
 
 /* The rows, in the order in which they are judged. */
 enum belt_refusal {
@@ -67,8 +69,10 @@ enum belt_refusal {
     BELT_NOT_RISING = 12,
     BELT_NOT_HELD = 13,
     BELT_TOO_SHORT = 3,
+    BELT_TOO_FEW = 15,
     BELT_SHUTTER_CLOSED = 17,
     BELT_SINGULAR = 6,
+    BELT_NOT_FINITE = 16,
     BELT_ENDS_FIRST = 9,
     BELT_WRONG_CHECK = 10,
     BELT_WRONG_BLOCK = 11
@@ -81,7 +85,7 @@ static inline const char *belt_refusal_text(uint32_t refusal) {
     case BELT_TOO_LARGE: return "side over 1,024, or over 4,096 samples";
     case BELT_TOO_FAR: return "motion of a practice belt beyond 24 pels";
     case BELT_WRONG_LENGTH: return "plane, class, type, model or prior list of wrong length";
-    case BELT_NO_SUCH_CODE: return "type, class or flag code out of range; type 0 for a fit";
+    case BELT_NO_SUCH_CODE: return "type, class, flag or trim code out of range; type 0 for a fit";
     case BELT_NO_SUCH_SLOT: return "slot over 5, or to price one that the type doesn't carry; reference outside 1 to 7";
     case BELT_START_OVER: return "start of a header to write over 7";
     case BELT_OFF_GRID: return "model off the grid, uncarried slot or pair wrong";
@@ -89,8 +93,10 @@ static inline const char *belt_refusal_text(uint32_t refusal) {
     case BELT_NOT_RISING: return "words to store out of range or not rising";
     case BELT_NOT_HELD: return "class 4 to be stored in form 1";
     case BELT_TOO_SHORT: return "output or working buffer too short";
+    case BELT_TOO_FEW: return "fewer samples than a trimmed fit needs";
     case BELT_SHUTTER_CLOSED: return "frame number 0: the shutter was closed";
     case BELT_SINGULAR: return "elimination refuses";
+    case BELT_NOT_FINITE: return "residual of a trimmed fit not finite";
     case BELT_ENDS_FIRST: return "bytes end before the last bit or block";
     case BELT_WRONG_CHECK: return "block check wrong";
     case BELT_WRONG_BLOCK: return "block field, filler or sequence wrong";
@@ -155,11 +161,16 @@ static inline struct belt_model belt_x_first(uint8_t type, struct belt_stored_mo
 struct belt_motion_sample { double x; double y; double u; double v; };
 /* A fitted model to be put on the grid: its type, 1 to 3, the flag, and the numbers of its fit. */
 struct belt_to_quantize { uint8_t type; uint8_t flag; double numbers[6]; };
+/* A fit after trimming to be put on the grid: its type, 1 to 3, and the flag. */
+struct belt_to_trim { uint8_t type; uint8_t flag; };
 /* How many samples were found, and how many rows of absolute differences were added to find them. */
 struct belt_searched { uint32_t refusal; size_t samples; uint32_t rows; };
 /* Two numbers of a translation, four of a rotation-zoom, six of an affine model, x first, zeros after them. */
 struct belt_fit_answer { uint32_t refusal; double numbers[6]; };
 struct belt_quantized_model { uint32_t refusal; struct belt_model model; };
+/* How many samples the last fit used, and its numbers as in belt_fit_answer; or its model on the grid. */
+struct belt_trimmed { uint32_t refusal; uint32_t used; double numbers[6]; };
+struct belt_trimmed_model { uint32_t refusal; uint32_t used; struct belt_model model; };
 struct belt_quantized_param { uint32_t refusal; int32_t value; };
 /* In square pels. */
 struct belt_score { uint32_t refusal; double score; };
@@ -171,9 +182,9 @@ struct belt_block_read { uint32_t refusal; uint16_t frame; size_t ordinal; size_
 struct belt_written { uint32_t refusal; size_t bits; };
 /* Seven types and models in rising order of reference, and the bits consumed. */
 struct belt_models { uint32_t refusal; uint8_t types[7]; struct belt_stored_model models[7]; size_t bits; };
-/* The frame number of the blocks, the type to fit (1 to 3), the reference of the model (1 to 7), the flag, and the bit
-   of the header's first byte at which writing begins (0 to 7). */
-struct belt_settings { uint16_t frame; uint8_t type; uint8_t reference; uint8_t flag; size_t start; };
+/* The frame number of the blocks, the type to fit (1 to 3), the reference of the model (1 to 7), the flag, whether the
+   job trims (BELT_TRIM), and the bit of the header's first byte at which writing begins (0 to 7). */
+struct belt_settings { uint16_t frame; uint8_t type; uint8_t reference; uint8_t flag; uint8_t trim; size_t start; };
 /* Seven types and models in rising order of reference; the fitted model's score in square pels; the header's
    bits; how many samples there are. */
 struct belt_report {
@@ -218,6 +229,14 @@ struct belt_fit_answer belt_fit_translation(const uint32_t *words, size_t word_c
 struct belt_fit_answer belt_fit_rotzoom(const uint32_t *words, size_t word_count);
 struct belt_fit_answer belt_fit_affine(const uint32_t *words, size_t word_count);
 
+/* Fits after trimming ('Trimming'): samples that lie far from a first fit are dropped, and the rest is fitted again if
+   it is enough.
+   In: the type, 1 to 3, and up to 4,096 sample words: at least 4, 6 or 8 by type. Out: the last fit made, and how many
+   samples it used; or that fit on the grid of a flag, x first, its translation fitted again to those samples.
+   Refuse: 1, 4, 15, 6, 16, and 6 of the second fit. With sample words 16 never arises. */
+struct belt_trimmed belt_fit_trimmed(uint8_t type, const uint32_t *words, size_t word_count);
+struct belt_trimmed_model belt_quantize_trimmed(uint8_t type, uint8_t flag, const uint32_t *words, size_t word_count);
+
 /* A fitted model on the grid ('Fits and score').
    In: the type, 1 to 3, the numbers of its fit, the flag, and the words that the translation is fitted
    again to. Out: the model, x first.
@@ -240,6 +259,14 @@ struct belt_quantized_model belt_quantize_model_samples(
     const struct belt_motion_sample *samples, size_t sample_count, struct belt_to_quantize model);
 struct belt_score belt_mean_sq_residual_samples(
     const struct belt_motion_sample *samples, size_t sample_count, struct belt_model model);
+
+/* Fits after trimming over samples instead of words, and those fits on the grid ('Trimming').
+   Refuse: 1, 4, 15, 6, 16 where a sample lies so far from the first fit that the square isn't finite, or no number says
+   how far, and 6 of the second fit. */
+struct belt_trimmed belt_fit_trimmed_samples(
+    const struct belt_motion_sample *samples, size_t sample_count, uint8_t type);
+struct belt_trimmed_model belt_quantize_trimmed_samples(
+    const struct belt_motion_sample *samples, size_t sample_count, struct belt_to_trim codes);
 
 /* One number on the grid ('Grid').
    In: type 0 to 3, flag, slot 0 to 5 and any number. Out: the codable number nearest to it.
@@ -348,8 +375,10 @@ struct belt_price belt_frame_price(
    from the settings' start on. The header buffer needs BELT_HEADER_BYTES, whatever the start, the blocks'
    belt_block_bytes of the samples in BELT_FORM_2. A header read from there is the report's models, and by
    belt_read_both the blocks read as the words and the classes.
-   Refuses: 1, 2, 4, 5, 14, 7, 8, 3, 17, 6. After 6 the half planes and the words are in their buffers, and
-   blocks and header are as they were. */
+   A job that trims fits as belt_quantize_trimmed does; its score takes all samples. Its type's least number of
+   samples, 4, 6 or 8, is judged by the sides (15).
+   Refuses: 1, 2, 4, 5, 14, 7, 8, 3, 15, 17, 6, 16, and 6 of a second fit. After 6 and 16 the half planes and the words
+   are in their buffers, and blocks and header are as they were. */
 struct belt_report belt_job(
     const uint16_t *input, size_t input_pels,
     const uint16_t *reference, size_t reference_pels,
@@ -370,6 +399,10 @@ struct belt_report belt_job(
    at 16 fraction bits.
    Refuses: 2, 4, 7 (types 0 and 1 too). */
 struct belt_shear belt_setup_shear(uint8_t type, const int32_t *params, size_t param_count);
+
+/* The root of a number, correctly rounded ('Root'): a zero, plus infinity and a not-a-number are their own
+   roots, and a number below 0 has none, which is a not-a-number. Refuses nothing. */
+double belt_root(double x);
 
 /* A belt to practise on ('Practice belt').
    In: a seed, the sides of both planes, and a motion of dy rows and dx columns, each at most BELT_MOST_SHIFT pels

@@ -213,6 +213,38 @@ static void conversions(void) {
     wants("form 2 to form 2", belt_to_form2(blocks, BLOCKS, back, BLOCKS).refusal, BELT_WRONG_BLOCK);
 }
 
+/* Loose film over the first block moves on its own; a fit after trimming leaves it out. */
+static void trimming(struct belt_settings settings) {
+    draw(4, -2);
+    for (size_t y = 0; y < BELT_BLOCK_SIDE; y++)
+        for (size_t x = 0; x < BELT_BLOCK_SIDE; x++)
+            input[y * WIDTH + x] = reference[(y + 20) * WIDTH + x + 9];
+    struct belt_report all = run(settings, PELS);
+    refused("belt_job", all.refusal);
+    print_motion(own_model(&all, settings), all.samples);
+    settings.trim = BELT_TRIM;
+    struct belt_report report = run(settings, PELS);
+    refused("belt_job", report.refusal);
+    struct belt_model own = own_model(&report, settings);
+    print_motion(own, report.samples);
+    struct belt_trimmed fitted = belt_fit_trimmed(settings.type, words, SAMPLES);
+    refused("belt_fit_trimmed", fitted.refusal);
+    struct belt_trimmed_model model = belt_quantize_trimmed(settings.type, settings.flag, words, SAMPLES);
+    refused("belt_quantize_trimmed", model.refusal);
+    printf("after trimming: %u of %u samples used\n", (unsigned)model.used, (unsigned)report.samples);
+    same(fitted.used == model.used && memcmp(&model.model, &own, sizeof own) == 0, "model after trimming");
+    static struct belt_motion_sample samples[SAMPLES];
+    for (size_t i = 0; i < SAMPLES; i++)
+        samples[i] = belt_motion_sample_of(words[i]);
+    const struct belt_to_trim codes = {settings.type, settings.flag};
+    struct belt_trimmed again = belt_fit_trimmed_samples(samples, SAMPLES, settings.type);
+    refused("belt_fit_trimmed_samples", again.refusal);
+    struct belt_trimmed_model model_again = belt_quantize_trimmed_samples(samples, SAMPLES, codes);
+    refused("belt_quantize_trimmed_samples", model_again.refusal);
+    same(memcmp(&again, &fitted, sizeof fitted) == 0 && memcmp(&model_again, &model, sizeof model) == 0,
+         "fit and model after trimming, over samples");
+}
+
 /* A pan by 40 columns is beyond the range: no row refuses it, but few samples agree. */
 static void too_far(struct belt_settings settings) {
     draw(0, 40);
@@ -236,6 +268,9 @@ static void refusals(struct belt_settings settings) {
     wants("a job on a plane that is a pel short", run(settings, PELS - 1).refusal, BELT_WRONG_LENGTH);
     settings.frame = 0;
     wants("a job on frame 0", run(settings, PELS).refusal, BELT_SHUTTER_CLOSED);
+    settings.trim = 2;
+    wants("a job with trim code 2", run(settings, PELS).refusal, BELT_NO_SUCH_CODE);
+    wants("an affine model of 7 words after trimming", belt_fit_trimmed(BELT_AFFINE, words, 7).refusal, BELT_TOO_FEW);
     wants("a search of a plane 1,025 wide",
           belt_collect_motion_samples(input, PELS, reference, PELS, 1025, HEIGHT, classes, SAMPLES, input_half, HALF,
                                       ref_half, HALF, words, SAMPLES)
@@ -254,6 +289,13 @@ static void refusals(struct belt_settings settings) {
     wants("a rotation-zoom of equal samples", belt_fit_rotzoom_samples(many_samples, 9).refusal, BELT_SINGULAR);
     wants("type 4 on the grid, over samples", belt_quantize_model_samples(many_samples, 9, no_type).refusal,
           BELT_NO_SUCH_CODE);
+    const struct belt_to_trim codes = {BELT_TRANSLATION, 2};
+    wants("flag 2 after trimming, over samples", belt_quantize_trimmed_samples(many_samples, 3, codes).refusal,
+          BELT_NO_SUCH_CODE);
+    wants("3 samples after trimming", belt_fit_trimmed_samples(many_samples, 3, BELT_TRANSLATION).refusal, BELT_TOO_FEW);
+    many_samples[0].u = 1e200;
+    wants("a motion of 1e200 pels after trimming", belt_fit_trimmed_samples(many_samples, 4, BELT_TRANSLATION).refusal,
+          BELT_NOT_FINITE);
     wants("type 4 on the grid", belt_quantize_model(4, numbers, 1, words, SAMPLES).refusal, BELT_NO_SUCH_CODE);
     wants("slot 6", belt_quantize_global_param(BELT_AFFINE, 1, 6, 0).refusal, BELT_NO_SUCH_SLOT);
     wants("words that fall", belt_write_frame(5, falling, 2, zeros, 2, blocks, BLOCKS).refusal, BELT_NOT_RISING);
@@ -286,6 +328,12 @@ static void refusals(struct belt_settings settings) {
           belt_make_practice_planes(1, WIDTH, HEIGHT, 0, -25, input, PELS, reference, PELS).refusal, BELT_TOO_FAR);
 }
 
+/* Correctly rounded: 2, and the least number above 0; a number below 0 has no root. */
+static void roots(void) {
+    double none = belt_root(-1.0);
+    same(belt_root(2.0) == 1.4142135623730951 && belt_root(5e-324) == 2.2227587494850775e-162 && none != none, "roots");
+}
+
 /* The same belt on every machine. */
 static void practise(void) {
     struct belt_made made = belt_make_practice_planes(1, 2, 2, 1, -1, input, PELS, reference, PELS);
@@ -306,7 +354,7 @@ int main(void) {
          "sizes");
     draw(4, -2);
     for (uint8_t type = BELT_TRANSLATION; type <= BELT_AFFINE; type++) {
-        const struct belt_settings settings = {5, type, 2, BELT_HIGH_PRECISION, (size_t)(2 * type)};
+        const struct belt_settings settings = {5, type, 2, BELT_HIGH_PRECISION, BELT_ALL_SAMPLES, (size_t)(2 * type)};
         struct belt_report report = run(settings, PELS);
         refused("belt_job", report.refusal);
         print_report(&report, settings);
@@ -318,9 +366,11 @@ int main(void) {
     for (uint8_t class_code = BELT_UNSORTED; class_code <= BELT_FILM; class_code++)
         printf("class %d: %s\n", class_code, belt_class_text(class_code));
     conversions();
-    const struct belt_settings settings = {5, BELT_TRANSLATION, 2, BELT_HIGH_PRECISION, 0};
+    const struct belt_settings settings = {5, BELT_TRANSLATION, 2, BELT_HIGH_PRECISION, BELT_ALL_SAMPLES, 0};
+    trimming(settings);
     too_far(settings);
     refusals(settings);
+    roots();
     practise();
     return 0;
 }

@@ -1,4 +1,4 @@
-//! Links the static library of the crates `belt` and `lent_fit`. `bindings/library` makes it by `rt staticlib` where it isn't
+//! Links the static library of the crates `belt`, `lent_fit` and `lent_trim`. `bindings/library` makes it by `rt staticlib` where it isn't
 //! there or any file under `crates/` is newer; BELT_LIB names another folder that has it.
 
 use std::path::PathBuf;

@@ -70,6 +70,24 @@ pub fn sample_of(word: u32) -> [f64; 4] {
     [centre(word >> 20 & 63), centre(word >> 26), motion(word >> 2 & 511), motion(word >> 11 & 511)]
 }
 
+/// A fit after trimming: the last fit made, how many samples it used, and the model on the grid, x first.
+#[derive(Clone, Copy, Debug, PartialEq)]
+pub struct Trimmed {
+    pub model: [f64; 6],
+    pub used: usize,
+    pub params: [i32; 6],
+}
+
+/// The rows of docs/RULES.md that a fit after trimming may be refused by, of a list that isn't too long.
+pub const SINGULAR: u32 = 6;
+pub const TOO_FEW: u32 = 15;
+pub const NOT_FINITE: u32 = 16;
+
+/// The fewest samples that `candidate_for` takes for a type.
+pub fn least_samples(kind: u8) -> usize {
+    [4, 6, 8][usize::from(kind) - 1]
+}
+
 /// Samples in the Rust's own form, so that a measurement needn't count the copying.
 pub struct Samples(Vec<MotionSample>);
 
@@ -89,6 +107,13 @@ impl Samples {
 
     pub fn score(&self, params: &[i32; 6]) -> f64 {
         canonical(global_motion::score(params, &self.0))
+    }
+
+    /// None for too few samples, and where an elimination refuses. The Rust stops at a residual that is not-a-number.
+    pub fn trimmed(&self, kind: u8, high: bool) -> Option<Trimmed> {
+        assert_ne!(kind, 0, "IDENTITY has no fit");
+        let (model, used, params) = global_motion::trimmed(type_of(kind), &self.0, high)?;
+        Some(Trimmed { model: model.map(canonical), used, params })
     }
 
     pub fn quantize_model(&self, model: &[f64; 6], kind: u8, high: bool) -> [i32; 6] {
@@ -123,6 +148,25 @@ pub fn grid_number(value: f64) -> i32 {
 
 pub fn quantize_model(model: &[f64; 6], kind: u8, high: bool, samples: &[[f64; 4]]) -> [i32; 6] {
     Samples::new(samples).quantize_model(model, kind, high)
+}
+
+/// The lines of `candidate_for` that fit, trim and fit again, through the quantized model.
+pub fn trimmed(kind: u8, high: bool, samples: &[[f64; 4]]) -> Option<Trimmed> {
+    Samples::new(samples).trimmed(kind, high)
+}
+
+/// The same, or the row that refuses. The Rust has no row 16: it stops at a residual that is not-a-number, and goes on
+/// with one that is infinite.
+pub fn trimmed_or_row(kind: u8, high: bool, samples: &[[f64; 4]]) -> Result<Trimmed, u32> {
+    if samples.len() < least_samples(kind) {
+        return Err(TOO_FEW);
+    }
+    let samples = Samples::new(samples);
+    let first = samples.fit(kind).ok_or(SINGULAR)?;
+    if global_motion::residuals(&first, &samples.0).iter().any(|residual| !residual.is_finite()) {
+        return Err(NOT_FINITE);
+    }
+    samples.trimmed(kind, high).ok_or(SINGULAR)
 }
 
 pub fn quantize_global_param(kind: u8, high: bool, slot: usize, value: i32) -> i32 {

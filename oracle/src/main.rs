@@ -31,6 +31,7 @@ fn answer(line: &str) -> Answer {
         "half" => fields.half(),
         "sample" => Ok(floats(&oracle::sample_of(fields.number()?))),
         "fit" => fields.fit(),
+        "trimmed" => fields.trimmed(),
         "solve" => fields.solve(),
         "score" => Ok(floats(&[oracle::score(&fields.model()?, &fields.samples()?)])),
         "grid_number" => Ok(oracle::grid_number(fields.float()?).to_string()),
@@ -77,6 +78,17 @@ impl Fields<'_> {
             return Err("type 0 has no fit".into());
         }
         Ok(optional(oracle::fit(kind, &self.samples()?)))
+    }
+
+    fn trimmed(&mut self) -> Answer {
+        let (kind, high) = (self.code()?, self.flag()?);
+        if kind == 0 {
+            return Err("type 0 has no fit".into());
+        }
+        Ok(match oracle::trimmed(kind, high, &self.samples()?) {
+            None => "none".into(),
+            Some(t) => format!("{} {} {}", t.used, floats(&t.model), spaced(&t.params)),
+        })
     }
 
     fn solve(&mut self) -> Answer {

@@ -92,6 +92,21 @@ pub mod encoder {
             include!(concat!(env!("OUT_DIR"), "/grid_number.rs"))
         }
 
+        /// The last fit made, how many samples it used, and the quantized model.
+        pub fn trimmed(
+            gm_type: WarpModelType,
+            samples: &[MotionSample],
+            allow_high_precision_mv: bool,
+        ) -> Option<([f64; 6], usize, [i32; 6])> {
+            include!(concat!(env!("OUT_DIR"), "/trimmed.rs"))
+        }
+
+        /// How far each sample lies from a model.
+        pub fn residuals(m: &[f64; 6], samples: &[MotionSample]) -> Vec<f64> {
+            let first = ContinuousModel { m: *m };
+            include!(concat!(env!("OUT_DIR"), "/residuals.rs"))
+        }
+
         pub fn quantize(m: &[f64; 6], gm_type: WarpModelType, high: bool, samples: &[MotionSample]) -> [i32; 6] {
             quantize_model(&ContinuousModel { m: *m }, gm_type, high, samples)
         }

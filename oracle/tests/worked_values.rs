@@ -3,8 +3,8 @@
 use oracle::blocks::{self, ONE, TWO};
 use oracle::list::tilted_words;
 use oracle::{
-    IDENTITY, coefficient, fit, quantize_global_param, quantize_model, read_header, sample_of, score, search,
-    write_header,
+    IDENTITY, NOT_FINITE, TOO_FEW, coefficient, fit, quantize_global_param, quantize_model, read_header, sample_of,
+    sample_words, score, search, trimmed, trimmed_or_row, write_header,
 };
 
 const TRANSLATION: u8 = 1;
@@ -179,4 +179,66 @@ fn practice_belts() {
     for (width, height, dy, dx, room, row) in rows {
         assert_eq!(refusal(width, height, dy, dx, room, room), row);
     }
+}
+
+/// Samples of the first row of blocks that move by eighths to the right.
+fn across(eighths: &[i32]) -> Vec<[f64; 4]> {
+    let word = |(place, &u): (usize, &i32)| (place as u32) << 20 | 223 << 11 | ((223 + u) as u32) << 2;
+    eighths.iter().enumerate().map(word).map(sample_of).collect()
+}
+
+#[test]
+fn fits_after_trimming() {
+    let answer = |eighths: &[i32]| trimmed(TRANSLATION, true, &across(eighths)).map(|t| (t.model[0], t.used));
+    assert_eq!(answer(&[0, 0, 0, 0, 80]), Some((0.0, 4)));
+    assert_eq!(answer(&[0, 0, 0, 80, -40]), Some((1.0, 5)));
+    assert_eq!(answer(&[0, 0, 0, 80]), Some((2.5, 4)));
+    assert_eq!(answer(&[8, -8, 0, 0, 0, 0, 0, 0]), Some((0.0, 8)));
+    assert_eq!(answer(&[9, -9, 0, 0, 0, 0, 0, 0]), Some((0.0, 6)));
+    assert_eq!(answer(&[-27, 52, 15, 21, 7, -2]), Some((0.35, 5)));
+    let mut lined = across(&[0; 10]);
+    lined.extend(
+        (3..7).map(|column| sample_of(1 << 26 | column << 20 | 223 << 11 | [23, 423][column as usize % 2] << 2)),
+    );
+    assert!(trimmed(AFFINE, true, &lined).is_none() && fit(AFFINE, &lined).is_some());
+    assert!(trimmed(ROTZOOM, true, &lined).is_some());
+    for (kind, least) in [(TRANSLATION, 4), (ROTZOOM, 6), (AFFINE, 8)] {
+        assert!(trimmed(kind, true, &across(&vec![0; least - 1])).is_none());
+        assert_eq!(trimmed(kind, true, &vec![across(&[0])[0]; least]).is_some(), kind == TRANSLATION);
+    }
+}
+
+/// A sample that moves by so much, among so many in all, at rest and at one place.
+#[test]
+fn residuals_that_are_not_finite() {
+    let row = |count, u| {
+        let mut samples = vec![[0.0; 4]; count];
+        samples[0][2] = u;
+        trimmed_or_row(TRANSLATION, true, &samples).map(|trimmed| trimmed.used)
+    };
+    assert_eq!([row(4, 1e150), row(4, 1e200), row(4, f64::NAN)], [Ok(4), Err(NOT_FINITE), Err(NOT_FINITE)]);
+    assert_eq!([row(4, f64::INFINITY), row(3, f64::NAN), row(3, 0.0)], [Err(NOT_FINITE), Err(TOO_FEW), Err(TOO_FEW)]);
+}
+
+/// A 64×64 bowl, and the input that is it drawn together by a sixteenth.
+#[test]
+fn a_bowl_after_trimming() {
+    let square = |at: usize, middle: i32| (at as i32 - middle).pow(2);
+    let bowl = |r: usize, c: usize| (square(r.min(63), 31) + 2 * square(c.min(63), 29)) as u16;
+    let places = || (0..64 * 64).map(|i| (i / 64, i % 64));
+    let reference: Vec<u16> = places().map(|(r, c)| bowl(r, c)).collect();
+    let input: Vec<u16> = places().map(|(r, c)| bowl(r + r / 16, c + c / 16)).collect();
+    let words = sample_words(&input, &reference, 64, 64);
+    let samples: Vec<_> = words.iter().map(|&word| sample_of(word)).collect();
+    let written = |model: [i32; 6]| {
+        let mut models = [IDENTITY; 7];
+        models[6] = model;
+        let bits = write_header(&[0, 0, 0, 0, 0, 0, ROTZOOM], &models, true, &[IDENTITY; 7], 5).1;
+        (model, score(&model, &samples).to_bits(), bits)
+    };
+    let after = trimmed(ROTZOOM, true, &samples).expect("both fits are accepted");
+    assert_eq!(after.used, 15);
+    assert_eq!(written(after.params), ([-29696, -30720, 69638, -22, 22, 69638], 0x3FB5_8AF3_0400_0000, 55));
+    let all = quantize_model(&fit(ROTZOOM, &samples).unwrap(), ROTZOOM, true, &samples);
+    assert_eq!(written(all), ([-37888, -30720, 69678, 160, -160, 69678], 0x3FB2_B2BB_2200_0000, 63));
 }

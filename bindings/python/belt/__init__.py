@@ -47,7 +47,7 @@ REFUSALS = {
     1: "side over 1,024, or over 4,096 samples",
     18: "motion of a practice belt beyond 24 pels",
     2: "plane, class, type, model or prior list of wrong length",
-    4: "type, class or flag code out of range; type 0 for a fit",
+    4: "type, class, flag or trim code out of range; type 0 for a fit",
     5: "slot over 5, or to price one that the type doesn't carry; reference outside 1 to 7",
     14: "start of a header to write over 7",
     7: "model off the grid, uncarried slot or pair wrong",
@@ -55,8 +55,10 @@ REFUSALS = {
     12: "words to store out of range or not rising",
     13: "class 4 to be stored in form 1",
     3: "output or working buffer too short",
+    15: "fewer samples than a trimmed fit needs",
     17: "frame number 0: the shutter was closed",
     6: "elimination refuses",
+    16: "residual of a trimmed fit not finite",
     9: "bytes end before the last bit or block",
     10: "block check wrong",
     11: "block field, filler or sequence wrong",
@@ -188,6 +190,20 @@ class Fitted(NamedTuple):
     numbers: Tuple[float, ...]
 
 
+class Trimmed(NamedTuple):
+    """The last fit made after trimming, and how many samples it used ('Trimming')."""
+
+    fitted: Fitted
+    used: int
+
+
+class TrimmedModel(NamedTuple):
+    """The same on the grid: a Model."""
+
+    model: Model
+    used: int
+
+
 class Shear(NamedTuple):
     """Whether a decoder keeps a warp, and its shear numbers at 16 fraction bits."""
 
@@ -218,14 +234,15 @@ class Models(NamedTuple):
 
 
 class Settings(NamedTuple):
-    """The frame's number, the type to fit (1 to 3), the reference of the model (1 to 7), the flag, and the bit of the
-    header's first byte at which writing begins (0 to 7)."""
+    """The frame's number, the type to fit (1 to 3), the reference of the model (1 to 7), the flag, the bit of the header's
+    first byte at which writing begins (0 to 7), and 1 for a fit after trimming."""
 
     frame: int
     gm_type: int
     reference: int
     flag: int
     start: int = 0
+    trim: int = 0
 
 
 class Report(NamedTuple):
@@ -371,6 +388,20 @@ def fit_affine(words):
     return _fit(AFFINE, "belt_fit_affine", words)
 
 
+def fit_trimmed(gm_type, words):
+    """The fit of a type after trimming ('Trimming'): words that lie far from a first fit are dropped, and the rest is fitted
+    again if it is enough. A Trimmed. Refuses 1, 4, 15, 6, 16, and 6 of the second fit; with words never 16."""
+    answer = _call("belt_fit_trimmed", _code(gm_type, "gm_type"), _list(words, c_uint32, "words"))
+    return Trimmed(Fitted(gm_type, tuple(answer.numbers)), answer.used)
+
+
+def quantize_trimmed(gm_type, flag, words):
+    """The same on the grid of a flag, its translation fitted again to the samples used: a TrimmedModel."""
+    codes = _code(gm_type, "gm_type"), _code(flag, "flag")
+    answer = _call("belt_quantize_trimmed", *codes, _list(words, c_uint32, "words"))
+    return TrimmedModel(Model(answer.params), answer.used)
+
+
 def quantize_model(fitted, flag, words):
     """The fitted model on the grid ('Fits and score'), a Model. Refuses 1, 4."""
     numbers = (c_double * 6)(*fitted.numbers)
@@ -412,6 +443,20 @@ def quantize_model_samples(fitted, flag, samples):
     numbers = (c_double * 6)(*fitted.numbers)
     model = _raw.ToQuantize(_code(fitted.gm_type, "gm_type"), _code(flag, "flag"), numbers)
     return Model(_call("belt_quantize_model_samples", _samples(samples), model).params)
+
+
+def fit_trimmed_samples(gm_type, samples):
+    """As fit_trimmed, over samples: four numbers x, y, u, v each, of any value. Refuses 1, 4, 15, 6, 16, and 6 of the second
+    fit."""
+    answer = _call("belt_fit_trimmed_samples", _samples(samples), _code(gm_type, "gm_type"))
+    return Trimmed(Fitted(gm_type, tuple(answer.numbers)), answer.used)
+
+
+def quantize_trimmed_samples(gm_type, flag, samples):
+    """The same on the grid of a flag, its translation fitted again to the samples used: a TrimmedModel."""
+    codes = _raw.ToTrim(_code(gm_type, "gm_type"), _code(flag, "flag"))
+    answer = _call("belt_quantize_trimmed_samples", _samples(samples), codes)
+    return TrimmedModel(Model(answer.params), answer.used)
 
 
 def mean_sq_residual_samples(model, samples):
@@ -553,11 +598,12 @@ def job(input_y, reference, width, height, settings, classes, buffers, types=(0,
     """Runs a whole job ('Job'): search, fit, grid, score, blocks and header, into a Buffers or anything with its five
     fields; answers a Report. The six other references are identities unless types and StoredModels are given.
 
-    Refuses 1, 2, 4, 5, 14, 7, 8, 3, 17, 6. After 6 the half planes and the words are in their buffers; blocks and header are
-    as they were.
+    Refuses 1, 2, 4, 5, 14, 7, 8, 3, 15, 17, 6, 16, and 6 of a second fit. After 6 and 16 the half planes and the words are
+    in their buffers; blocks and header are as they were.
     """
     frame = _code(settings.frame, "frame", 65535)
     codes = [_code(code, name) for code, name in zip(settings[1:4], ("gm_type", "reference", "flag"))]
+    trim = _code(settings.trim, "trim")
     start = _code(settings.start, "start", 2**64 - 1)
     report = _call(
         "belt_job",
@@ -565,7 +611,7 @@ def job(input_y, reference, width, height, settings, classes, buffers, types=(0,
         _list(reference, c_uint16, "reference"),
         width,
         height,
-        _raw.Settings(frame, *codes, start),
+        _raw.Settings(frame, *codes, trim, start),
         _list(classes, c_uint8, "classes"),
         _list(types, c_uint8, "types"),
         _numbers(IDENTITIES[:6] if models is None else models, "models"),
@@ -585,6 +631,12 @@ def setup_shear(gm_type, params):
     numbers = [(c_int32 * len(params))(*map(_signed, params)), len(params)]
     read = _call("belt_setup_shear", _code(gm_type, "gm_type"), numbers)
     return Shear(read.valid == 1, read.alpha, read.beta, read.gamma, read.delta)
+
+
+def root(x):
+    """The root of a number, correctly rounded ('Root'). A zero, plus infinity and a not-a-number are their own roots; a
+    number below 0 has none, which is a not-a-number."""
+    return _raw.library.belt_root(x)
 
 
 def make_practice_planes(seed, width, height, dy, dx, input_y, reference):

@@ -1,4 +1,4 @@
-"""The shared library's declarations, by ctypes: every call and struct of crates/belt and lent_fit, and nothing else.
+"""The shared library's declarations, by ctypes: every call and struct of crates/belt, lent_fit and lent_trim, and no more.
 
 `bindings/declarations` holds them to the library's own.
 """
@@ -29,8 +29,20 @@ class MotionSample(ctypes.Structure):
     _fields_ = [("x", c_double), ("y", c_double), ("u", c_double), ("v", c_double)]
 
 
+class ToTrim(ctypes.Structure):
+    _fields_ = [("gm_type", c_uint8), ("flag", c_uint8)]
+
+
 class QuantizedModel(ctypes.Structure):
     _fields_ = [("refusal", c_uint32), ("params", c_int32 * 6)]
+
+
+class Trimmed(ctypes.Structure):
+    _fields_ = [("refusal", c_uint32), ("used", c_uint32), ("numbers", c_double * 6)]
+
+
+class TrimmedModel(ctypes.Structure):
+    _fields_ = [("refusal", c_uint32), ("used", c_uint32), ("params", c_int32 * 6)]
 
 
 class QuantizedParam(ctypes.Structure):
@@ -85,7 +97,14 @@ class Made(ctypes.Structure):
 
 
 class Settings(ctypes.Structure):
-    _fields_ = [("frame", c_uint16), ("gm_type", c_uint8), ("reference", c_uint8), ("flag", c_uint8), ("start", c_size_t)]
+    _fields_ = [
+        ("frame", c_uint16),
+        ("gm_type", c_uint8),
+        ("reference", c_uint8),
+        ("flag", c_uint8),
+        ("trim", c_uint8),
+        ("start", c_size_t),
+    ]
 
 
 class Report(ctypes.Structure):
@@ -116,6 +135,8 @@ CALLS = {
     "belt_fit_translation": (_WORDS, FitAnswer),
     "belt_fit_rotzoom": (_WORDS, FitAnswer),
     "belt_fit_affine": (_WORDS, FitAnswer),
+    "belt_fit_trimmed": ([c_uint8] + _WORDS, Trimmed),
+    "belt_quantize_trimmed": ([c_uint8, c_uint8] + _WORDS, TrimmedModel),
     "belt_quantize_model": ([c_uint8, POINTER(c_double * 6), c_uint8] + _WORDS, QuantizedModel),
     "belt_mean_sq_residual": ([POINTER(c_int32 * 6)] + _WORDS, Score),
     "belt_fit_translation_samples": (_SAMPLES, FitAnswer),
@@ -123,6 +144,8 @@ CALLS = {
     "belt_fit_affine_samples": (_SAMPLES, FitAnswer),
     "belt_quantize_model_samples": (_SAMPLES + [ToQuantize], QuantizedModel),
     "belt_mean_sq_residual_samples": (_SAMPLES + [Params], Score),
+    "belt_fit_trimmed_samples": (_SAMPLES + [c_uint8], Trimmed),
+    "belt_quantize_trimmed_samples": (_SAMPLES + [ToTrim], TrimmedModel),
     "belt_quantize_global_param": ([c_uint8, c_uint8, c_uint8, c_int32], QuantizedParam),
     "belt_write_frame": ([c_uint16] + _WORDS + _BYTES + _BYTES, Stored),
     "belt_read_both": (_BYTES + _WORDS + _BYTES, FrameRead),
@@ -138,6 +161,7 @@ CALLS = {
     "belt_coefficient_prices": ([c_uint8, c_uint8, c_uint8, c_int32], PriceList),
     "belt_frame_price": ([c_bool] + _BYTES + _NUMBERS + [c_uint8] + _NUMBERS, Price),
     "belt_setup_shear": ([c_uint8] + _NUMBERS, Shear),
+    "belt_root": ([c_double], c_double),
     "belt_make_practice_planes": ([c_uint32, c_size_t, c_size_t, c_int32, c_int32] + _PELS + _PELS, Made),
     "belt_job": (
         _PELS

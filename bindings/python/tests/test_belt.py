@@ -202,7 +202,7 @@ class Refused(unittest.TestCase):
 
 class Refusals(Refused):
     def test_the_table(self):
-        self.assertEqual(list(belt.REFUSALS), [1, 18, 2, 4, 5, 14, 7, 8, 12, 13, 3, 17, 6, 9, 10, 11])
+        self.assertEqual(list(belt.REFUSALS), [1, 18, 2, 4, 5, 14, 7, 8, 12, 13, 3, 15, 17, 6, 16, 9, 10, 11])
         rules = (Path(__file__).resolve().parents[3] / "docs" / "RULES.md").read_text(encoding="utf-8")
         for number, text in belt.REFUSALS.items():
             self.assertIn(f"| {number} | {text} |", rules)
@@ -227,6 +227,7 @@ class Refusals(Refused):
             (4, dict(settings=Settings(1, 0, 1, 1))),
             (4, dict(settings=Settings(1, 4, 1, 1))),
             (4, dict(settings=Settings(1, 1, 1, 2))),
+            (4, dict(settings=Settings(1, 1, 1, 1, trim=2))),
             (4, dict(types=bytes([0, 0, 0, 0, 0, 4]))),
             (5, dict(settings=Settings(1, 1, 0, 1))),
             (5, dict(settings=Settings(1, 1, 8, 1))),
@@ -236,6 +237,9 @@ class Refusals(Refused):
             (7, dict(models=IDENTITIES[:5] + (stored(2, 65537),), types=[0, 0, 0, 0, 0, 3])),
             (8, dict(prior=(stored(3, 8193),) + IDENTITIES[:6])),
             (8, dict(prior=IDENTITIES[:6] + (stored(1, -(2**31)),))),
+            (15, dict(settings=Settings(1, 3, 1, 1, trim=1))),
+            (15, dict(settings=Settings(0, 3, 1, 1, trim=1))),
+            (17, dict(settings=Settings(0, 2, 1, 1, trim=1))),
         ]
         for number, change in changes:
             buffers = Guarded(48, 32)
@@ -304,6 +308,39 @@ class Refusals(Refused):
         self.refused(5, belt.quantize_global_param, 3, 1, 6, 0)
         self.assertEqual(belt.quantize_global_param(3, 0, 2, 65537), 65538)
         self.assertEqual(belt.quantize_global_param(1, 1, 1, -4096), -8192)
+
+    def test_fits_after_trimming(self):
+        def moving(*eighths):
+            return [place << 20 | 223 << 11 | (223 + u) << 2 for place, u in enumerate(eighths)]
+
+        self.assertEqual(belt.fit_trimmed(1, moving(0, 0, 0, 0, 80)), (belt.Fitted(1, (0.0,) * 6), 4))
+        self.assertEqual(belt.fit_trimmed(1, moving(0, 0, 0, 80, -40)), (belt.Fitted(1, (1.0,) + (0.0,) * 5), 5))
+        self.assertEqual(belt.quantize_trimmed(1, 1, moving(0, 0, 0, 0, 80)), (Model(belt.STILL), 4))
+        self.refused(1, belt.fit_trimmed, 1, words(4097))
+        self.refused(4, belt.fit_trimmed, 0, [])
+        self.refused(4, belt.quantize_trimmed, 1, 2, [])
+        for gm_type, least in ((1, 4), (2, 6), (3, 8)):
+            self.refused(15, belt.fit_trimmed, gm_type, words(least - 1))
+            self.refused(15, belt.quantize_trimmed, gm_type, 1, words(least - 1))
+        self.refused(6, belt.fit_trimmed, 2, [words(1)[0]] * 6)
+
+    def test_fits_of_samples_after_trimming(self):
+        def moving(*motions):
+            return [(0.1 * place, -0.2, u, 0.0) for place, u in enumerate(motions)]
+
+        fitted, used = belt.fit_trimmed_samples(1, moving(0.1, 0.1, 0.1, 0.1, 80))
+        self.assertEqual((fitted.numbers, used), ((0.1,) + (0.0,) * 5, 4))
+        self.assertEqual(belt.fit_trimmed_samples(1, moving(1e150, 0, 0, 0)).used, 4)
+        self.assertEqual(belt.quantize_trimmed_samples(1, 1, moving(0, 0, 0, 0, 80)), (Model(belt.STILL), 4))
+        self.refused(1, belt.fit_trimmed_samples, 0, moving(*[0.0] * 4097))
+        self.refused(1, belt.quantize_trimmed_samples, 1, 2, moving(*[0.0] * 4097))
+        self.refused(4, belt.fit_trimmed_samples, 4, [])
+        self.refused(4, belt.quantize_trimmed_samples, 1, 2, [])
+        self.refused(15, belt.fit_trimmed_samples, 1, moving(math.nan, 0, 0))
+        self.refused(6, belt.fit_trimmed_samples, 2, [(1.0, 2.0, math.nan, 0.0)] * 6)
+        for far in (1e200, math.inf, math.nan):
+            self.refused(16, belt.fit_trimmed_samples, 1, moving(far, 0, 0, 0))
+            self.refused(16, belt.quantize_trimmed_samples, 1, 0, moving(far, 0, 0, 0))
 
     def test_fits_and_scores_of_samples(self):
         many = [(0.1 * i, 0.2, math.inf, -0.0) for i in range(4097)]
@@ -477,6 +514,14 @@ class Shears(Refused):
         self.refused(2, belt.setup_shear, 3, belt.STILL[:5])
         self.refused(4, belt.setup_shear, 4, belt.STILL)
         self.refused(7, belt.setup_shear, 1, belt.STILL)
+
+
+class Roots(unittest.TestCase):
+    def test_root(self):
+        self.assertEqual(belt.root(2.0).hex(), "0x1.6a09e667f3bcdp+0")
+        self.assertEqual(str(belt.root(-0.0)), "-0.0")
+        self.assertEqual(belt.root(float("inf")), float("inf"))
+        self.assertNotEqual(belt.root(-1.0), belt.root(-1.0))
 
 
 class Prices(Refused):

@@ -67,7 +67,7 @@ fn measure(input: &Picture, reference: &Picture, gm_type: u8) -> Result<(), Box<
         reference: &reference.pels,
         width,
         height,
-        settings: Settings { frame: 1, gm_type, reference: REFERENCE, flag: 1, start: 0 },
+        settings: Settings { frame: 1, gm_type, reference: REFERENCE, flag: 1, trim: 0, start: 0 },
         classes: &vec![0; sample_count(width, height)],
         types: &[0; 6],
         models: &IDENTITIES[..6],

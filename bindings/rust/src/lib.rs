@@ -7,9 +7,10 @@
 //! are not proved, and are compared by `oracle/compare`.
 //!
 //! A call that refuses answers with the table's row, a [`Refusal`], and leaves the lent slices as they were; the one
-//! exception is [`Refusal::Singular`] of [`job`]. An accepted call writes only the part that it uses. The library
-//! keeps nothing between calls, so any number of threads may call it at once. It expects the floating-point
-//! environment that a process begins with: rounding to nearest, traps off.
+//! exception is [`job`] with [`Refusal::Singular`] or [`Refusal::NotFinite`]. An accepted call writes only the part that
+//! it uses. The library keeps nothing between calls, so any number of threads may call it at once. A call that trims,
+//! which a job may, takes about 165 kB of the thread's stack. It expects the floating-point environment that a process
+//! begins with: rounding to nearest, traps off.
 //!
 //! Types are 0 identity, 1 translation, 2 rotation-zoom, 3 affine; classes are [`UNSORTED`], [`FIBRE`],
 //! [`RIGID_PLASTIC`], [`METAL`] and [`FILM`]; a flag is 1 for high precision, else 0. Codes are plain numbers, so that
@@ -33,7 +34,7 @@
 //!         reference: &reference,
 //!         width: 64,
 //!         height: 48,
-//!         settings: Settings { frame: 5, gm_type: 1, reference: 1, flag: 1, start: 0 },
+//!         settings: Settings { frame: 5, gm_type: 1, reference: 1, flag: 1, trim: 0, start: 0 },
 //!         classes: &[0; 12],
 //!         types: &[0; 6],
 //!         models: &IDENTITIES[..6],
@@ -159,6 +160,8 @@ pub struct Settings {
     pub reference: u8,
     /// 1 for high precision, else 0.
     pub flag: u8,
+    /// 1 for a fit after trimming, else 0.
+    pub trim: u8,
     /// The bit of the header's first byte at which writing begins, 0 to 7.
     pub start: usize,
 }
@@ -174,7 +177,7 @@ pub struct Task<'a> {
     pub width: usize,
     /// The sides of both, in pels, at most [`MOST_SIDE`].
     pub height: usize,
-    /// Frame number, type, reference, flag and start.
+    /// Frame number, type, reference, flag, trim code and start.
     pub settings: Settings,
     /// A class for each whole 16×16 block: [`sample_count`] of them.
     pub classes: &'a [u8],
@@ -389,6 +392,63 @@ fn fitted(gm_type: u8, answer: raw::FitAnswer) -> Result<Fitted, Refusal> {
     judged(answer.refusal, Fitted { gm_type, numbers: answer.numbers })
 }
 
+/// A fit after trimming ('Trimming'): the last fit made, and how many samples it used.
+#[derive(Clone, Copy, Debug, PartialEq)]
+pub struct Trimmed {
+    /// The last fit made.
+    pub fitted: Fitted,
+    /// How many samples it used.
+    pub used: usize,
+}
+
+/// A fit after trimming on the grid ('Trimming').
+#[derive(Clone, Copy, Debug, PartialEq, Eq)]
+pub struct TrimmedModel {
+    /// The model, its translation fitted again to the samples used.
+    pub model: Model,
+    /// How many samples the last fit used.
+    pub used: usize,
+}
+
+/// The fit of a type after trimming ('Trimming'): words that lie far from a first fit are dropped, and the rest is
+/// fitted again if it is enough.
+///
+/// # Errors
+///
+/// [`Refusal::TooLarge`], [`Refusal::NoSuchCode`], [`Refusal::TooFew`], [`Refusal::Singular`] of either fit. With words
+/// [`Refusal::NotFinite`] never arises.
+///
+/// ```
+/// // four blocks at rest and one that moves by ten pels
+/// let words = [223, 223, 223, 223, 303].map(|u| 223 << 11 | u << 2);
+/// let trimmed = belt::fit_trimmed(1, &words)?;
+/// assert_eq!((trimmed.fitted.numbers[0], trimmed.used), (0.0, 4));
+/// assert_eq!(belt::fit_translation(&words)?.numbers[0], 2.0);
+/// assert_eq!(belt::fit_trimmed(1, &words[..3]), Err(belt::Refusal::TooFew));
+/// # Ok::<(), belt::Refusal>(())
+/// ```
+pub fn fit_trimmed(gm_type: u8, words: &[u32]) -> Result<Trimmed, Refusal> {
+    trimmed(gm_type, raw::fit_trimmed(gm_type, words))
+}
+
+fn trimmed(gm_type: u8, answer: raw::Trimmed) -> Result<Trimmed, Refusal> {
+    let fitted = Fitted { gm_type, numbers: answer.numbers };
+    judged(answer.refusal, Trimmed { fitted, used: answer.used as usize })
+}
+
+/// The same on the grid of a flag.
+///
+/// # Errors
+///
+/// As [`fit_trimmed`]; the flag is judged with the type.
+pub fn quantize_trimmed(gm_type: u8, flag: u8, words: &[u32]) -> Result<TrimmedModel, Refusal> {
+    trimmed_model(raw::quantize_trimmed(gm_type, flag, words))
+}
+
+fn trimmed_model(answer: raw::TrimmedModel) -> Result<TrimmedModel, Refusal> {
+    judged(answer.refusal, TrimmedModel { model: answer.params, used: answer.used as usize })
+}
+
 /// The fitted model on the grid ('Fits and score'); its translation is fitted again to the words.
 ///
 /// # Errors
@@ -467,6 +527,34 @@ pub fn quantize_model_samples(fitted: &Fitted, flag: u8, samples: &[MotionSample
 pub fn mean_sq_residual_samples(model: &Model, samples: &[MotionSample]) -> Result<f64, Refusal> {
     let answer = raw::mean_sq_residual_samples(samples, raw::Params { numbers: model.0 });
     judged(answer.refusal, answer.score)
+}
+
+/// As [`fit_trimmed`], over samples of any four numbers.
+///
+/// # Errors
+///
+/// [`Refusal::TooLarge`], [`Refusal::NoSuchCode`], [`Refusal::TooFew`], [`Refusal::Singular`] of either fit,
+/// [`Refusal::NotFinite`] where the square of a sample's distance from the first fit isn't finite.
+///
+/// ```
+/// let moving = |u| belt::MotionSample { x: 0.1, y: 0.2, u, v: 0.0 };
+/// let samples = [10.0, 0.0, 0.0, 0.0, 0.0].map(moving);
+/// assert_eq!(belt::fit_trimmed_samples(1, &samples)?.used, 4);
+/// let far = [1e200, 0.0, 0.0, 0.0].map(moving);
+/// assert_eq!(belt::fit_trimmed_samples(1, &far), Err(belt::Refusal::NotFinite));
+/// # Ok::<(), belt::Refusal>(())
+/// ```
+pub fn fit_trimmed_samples(gm_type: u8, samples: &[MotionSample]) -> Result<Trimmed, Refusal> {
+    trimmed(gm_type, raw::fit_trimmed_samples(samples, gm_type))
+}
+
+/// The same on the grid of a flag.
+///
+/// # Errors
+///
+/// As [`fit_trimmed_samples`]; the flag is judged with the type.
+pub fn quantize_trimmed_samples(gm_type: u8, flag: u8, samples: &[MotionSample]) -> Result<TrimmedModel, Refusal> {
+    trimmed_model(raw::quantize_trimmed_samples(samples, raw::ToTrim { gm_type, flag }))
 }
 
 /// The codable number nearest to a value ('Grid'), for type 0 to 3 and slot 0 to 5.
@@ -815,16 +903,17 @@ pub fn frame_price(
 /// # Errors
 ///
 /// [`Refusal::TooLarge`], [`Refusal::WrongLength`], [`Refusal::NoSuchCode`], [`Refusal::NoSuchSlot`],
-/// [`Refusal::StartOver`], [`Refusal::OffGrid`], [`Refusal::PriorOut`], [`Refusal::TooShort`],
-/// [`Refusal::ShutterClosed`], [`Refusal::Singular`]. After the last the half planes and the words are in their buffers; blocks and header are as they were.
+/// [`Refusal::StartOver`], [`Refusal::OffGrid`], [`Refusal::PriorOut`], [`Refusal::TooShort`], [`Refusal::TooFew`],
+/// [`Refusal::ShutterClosed`], [`Refusal::Singular`], [`Refusal::NotFinite`]. After the last two the half planes and the
+/// words are in their buffers; blocks and header are as they were.
 pub fn job(task: &Task<'_>, lent: &mut Lent<'_>) -> Result<Report, Refusal> {
-    let Settings { frame, gm_type, reference, flag, start } = task.settings;
+    let Settings { frame, gm_type, reference, flag, trim, start } = task.settings;
     let report = raw::job(
         task.input,
         task.reference,
         task.width,
         task.height,
-        raw::Settings { frame, gm_type, reference, flag, start },
+        raw::Settings { frame, gm_type, reference, flag, trim, start },
         task.classes,
         task.types,
         raw::numbers(task.models),
@@ -885,6 +974,18 @@ pub fn setup_shear(gm_type: u8, params: &[i32]) -> Result<Shear, Refusal> {
     let raw::Shear { refusal, valid, alpha, beta, gamma, delta } = raw::setup_shear(gm_type, params);
     let shear = Shear { valid: valid == 1, alpha, beta, gamma, delta };
     judged_lists(refusal, shear, || [Length::of("params", params, 6)], || [])
+}
+
+/// The root of a number, correctly rounded ('Root'). A zero, plus infinity and a not-a-number are their own roots;
+/// a number below 0 has none, which is a not-a-number.
+///
+/// ```
+/// assert_eq!(belt::root(2.0).to_bits(), 0x3FF6_A09E_667F_3BCD);
+/// assert!(belt::root(-1.0).is_nan());
+/// ```
+#[must_use]
+pub fn root(x: f64) -> f64 {
+    raw::root(x)
 }
 
 /// Makes a belt to practise on ('Practice belt'): a reference plane of noise, and the input plane whose pel at a place

@@ -41,8 +41,28 @@ pub struct ToQuantize {
 }
 
 #[repr(C)]
+pub struct ToTrim {
+    pub gm_type: u8,
+    pub flag: u8,
+}
+
+#[repr(C)]
 pub struct QuantizedModel {
     pub refusal: u32,
+    pub params: Model,
+}
+
+#[repr(C)]
+pub struct Trimmed {
+    pub refusal: u32,
+    pub used: u32,
+    pub numbers: [f64; 6],
+}
+
+#[repr(C)]
+pub struct TrimmedModel {
+    pub refusal: u32,
+    pub used: u32,
     pub params: Model,
 }
 
@@ -128,6 +148,7 @@ pub struct Settings {
     pub gm_type: u8,
     pub reference: u8,
     pub flag: u8,
+    pub trim: u8,
     pub start: usize,
 }
 
@@ -161,6 +182,8 @@ unsafe extern "C" {
     fn belt_fit_translation(words: *const u32, count: usize) -> FitAnswer;
     fn belt_fit_rotzoom(words: *const u32, count: usize) -> FitAnswer;
     fn belt_fit_affine(words: *const u32, count: usize) -> FitAnswer;
+    fn belt_fit_trimmed(gm_type: u8, words: *const u32, count: usize) -> Trimmed;
+    fn belt_quantize_trimmed(gm_type: u8, flag: u8, words: *const u32, count: usize) -> TrimmedModel;
     fn belt_quantize_model(
         gm_type: u8,
         numbers: *const [f64; 6],
@@ -174,6 +197,8 @@ unsafe extern "C" {
     fn belt_fit_affine_samples(samples: *const MotionSample, count: usize) -> FitAnswer;
     fn belt_quantize_model_samples(samples: *const MotionSample, count: usize, model: ToQuantize) -> QuantizedModel;
     fn belt_mean_sq_residual_samples(samples: *const MotionSample, count: usize, model: Params) -> Score;
+    fn belt_fit_trimmed_samples(samples: *const MotionSample, count: usize, gm_type: u8) -> Trimmed;
+    fn belt_quantize_trimmed_samples(samples: *const MotionSample, count: usize, codes: ToTrim) -> TrimmedModel;
     fn belt_quantize_global_param(gm_type: u8, flag: u8, slot: u8, value: i32) -> QuantizedParam;
     fn belt_write_frame(
         frame: u16,
@@ -251,6 +276,7 @@ unsafe extern "C" {
         prior_count: usize,
     ) -> Models;
     fn belt_setup_shear(gm_type: u8, params: *const i32, count: usize) -> Shear;
+    fn belt_root(x: f64) -> f64;
     fn belt_make_practice_planes(
         seed: u32,
         width: usize,
@@ -346,6 +372,16 @@ pub fn fit_affine(words: &[u32]) -> FitAnswer {
     unsafe { belt_fit_affine(words.as_ptr(), words.len()) }
 }
 
+pub fn fit_trimmed(gm_type: u8, words: &[u32]) -> Trimmed {
+    // SAFETY: one slice is read.
+    unsafe { belt_fit_trimmed(gm_type, words.as_ptr(), words.len()) }
+}
+
+pub fn quantize_trimmed(gm_type: u8, flag: u8, words: &[u32]) -> TrimmedModel {
+    // SAFETY: one slice is read.
+    unsafe { belt_quantize_trimmed(gm_type, flag, words.as_ptr(), words.len()) }
+}
+
 pub fn quantize_model(gm_type: u8, numbers: &[f64; 6], flag: u8, words: &[u32]) -> QuantizedModel {
     // SAFETY: the six numbers and one slice are read; the array's type holds its length.
     unsafe { belt_quantize_model(gm_type, numbers, flag, words.as_ptr(), words.len()) }
@@ -374,6 +410,16 @@ pub fn fit_affine_samples(samples: &[MotionSample]) -> FitAnswer {
 pub fn quantize_model_samples(samples: &[MotionSample], model: ToQuantize) -> QuantizedModel {
     // SAFETY: numbers, and one slice is read.
     unsafe { belt_quantize_model_samples(samples.as_ptr(), samples.len(), model) }
+}
+
+pub fn fit_trimmed_samples(samples: &[MotionSample], gm_type: u8) -> Trimmed {
+    // SAFETY: one slice is read.
+    unsafe { belt_fit_trimmed_samples(samples.as_ptr(), samples.len(), gm_type) }
+}
+
+pub fn quantize_trimmed_samples(samples: &[MotionSample], codes: ToTrim) -> TrimmedModel {
+    // SAFETY: one slice is read.
+    unsafe { belt_quantize_trimmed_samples(samples.as_ptr(), samples.len(), codes) }
 }
 
 pub fn mean_sq_residual_samples(samples: &[MotionSample], model: Params) -> Score {
@@ -576,6 +622,11 @@ pub fn job(
 pub fn setup_shear(gm_type: u8, params: &[i32]) -> Shear {
     // SAFETY: one slice is read.
     unsafe { belt_setup_shear(gm_type, params.as_ptr(), params.len()) }
+}
+
+pub fn root(x: f64) -> f64 {
+    // SAFETY: a number goes in and a number comes out.
+    unsafe { belt_root(x) }
 }
 
 pub fn make_practice_planes(

@@ -13,7 +13,7 @@ pub enum Refusal {
     TooFar,
     /// 2: plane, class, type, model or prior list of wrong length.
     WrongLength(Length),
-    /// 4: type, class or flag code out of range; type 0 for a fit.
+    /// 4: type, class, flag or trim code out of range; type 0 for a fit.
     NoSuchCode,
     /// 5: slot over 5, or to price one that the type doesn't carry; reference outside 1 to 7.
     NoSuchSlot,
@@ -29,10 +29,14 @@ pub enum Refusal {
     NotHeld,
     /// 3: output or working buffer too short.
     TooShort(Length),
+    /// 15: fewer samples than a trimmed fit needs.
+    TooFew,
     /// 17: frame number 0: the shutter was closed.
     ShutterClosed,
     /// 6: elimination refuses.
     Singular,
+    /// 16: residual of a trimmed fit not finite.
+    NotFinite,
     /// 9: bytes end before the last bit or block.
     EndsFirst,
     /// 10: block check wrong.
@@ -63,11 +67,11 @@ impl Length {
 
 impl Refusal {
     /// Every row's number and condition, in the table's order.
-    pub const TABLE: [(u32, &str); 16] = [
+    pub const TABLE: [(u32, &str); 18] = [
         (1, "side over 1,024, or over 4,096 samples"),
         (18, "motion of a practice belt beyond 24 pels"),
         (2, "plane, class, type, model or prior list of wrong length"),
-        (4, "type, class or flag code out of range; type 0 for a fit"),
+        (4, "type, class, flag or trim code out of range; type 0 for a fit"),
         (5, "slot over 5, or to price one that the type doesn't carry; reference outside 1 to 7"),
         (14, "start of a header to write over 7"),
         (7, "model off the grid, uncarried slot or pair wrong"),
@@ -75,8 +79,10 @@ impl Refusal {
         (12, "words to store out of range or not rising"),
         (13, "class 4 to be stored in form 1"),
         (3, "output or working buffer too short"),
+        (15, "fewer samples than a trimmed fit needs"),
         (17, "frame number 0: the shutter was closed"),
         (6, "elimination refuses"),
+        (16, "residual of a trimmed fit not finite"),
         (9, "bytes end before the last bit or block"),
         (10, "block check wrong"),
         (11, "block field, filler or sequence wrong"),
@@ -96,8 +102,10 @@ impl Refusal {
             Refusal::NotRising => 12,
             Refusal::NotHeld => 13,
             Refusal::TooShort(_) => 3,
+            Refusal::TooFew => 15,
             Refusal::ShutterClosed => 17,
             Refusal::Singular => 6,
+            Refusal::NotFinite => 16,
             Refusal::EndsFirst => 9,
             Refusal::WrongCheck => 10,
             Refusal::WrongBlock => 11,
@@ -124,8 +132,10 @@ impl Refusal {
             12 => Refusal::NotRising,
             13 => Refusal::NotHeld,
             3 => Refusal::TooShort(length),
+            15 => Refusal::TooFew,
             17 => Refusal::ShutterClosed,
             6 => Refusal::Singular,
+            16 => Refusal::NotFinite,
             9 => Refusal::EndsFirst,
             10 => Refusal::WrongCheck,
             11 => Refusal::WrongBlock,

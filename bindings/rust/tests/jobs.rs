@@ -61,6 +61,9 @@ fn run(handed: &Handed) -> (Report, Buffers) {
     assert_eq!(fits[usize::from(settings.gm_type) - 1](&made).unwrap(), fitted);
     assert_eq!(belt::quantize_model_samples(&fitted, settings.flag, &made).unwrap(), model);
     assert_eq!(belt::mean_sq_residual_samples(&model, &made).unwrap(), report.score);
+    let (kind, flag) = (settings.gm_type, settings.flag);
+    assert_eq!(belt::fit_trimmed_samples(kind, &made), belt::fit_trimmed(kind, words));
+    assert_eq!(belt::quantize_trimmed_samples(kind, flag, &made), belt::quantize_trimmed(kind, flag, words));
 
     // the six others keep their order
     let mut types = handed.types.clone();
@@ -144,6 +147,34 @@ fn rotation_zooms_and_affine_motions_read_back() {
                 }
             }
         }
+    }
+}
+
+/// The bowl of docs/RULES.md, 'Job': the same job with and without trimming.
+#[test]
+fn a_bowl_is_trimmed() {
+    let square = |at: usize, middle: i32| (at as i32 - middle).pow(2);
+    let bowl = |r: usize, c: usize| (square(r.min(63), 31) + 2 * square(c.min(63), 29)) as u16;
+    let plane =
+        |zoom: usize| (0..64 * 64).map(|i| (i / 64, i % 64)).map(|(r, c)| bowl(r + r / zoom, c + c / zoom)).collect();
+    let mut handed = Handed::new(plane(16), plane(64), 64, 64, 2);
+    handed.settings.reference = 7;
+    for (trim, model, score, bits) in [
+        (1, [-29696, -30720, 69638, -22, 22, 69638], 0x3FB5_8AF3_0400_0000, 55),
+        (0, [-37888, -30720, 69678, 160, -160, 69678], 0x3FB2_B2BB_2200_0000, 63),
+    ] {
+        handed.settings.trim = trim;
+        let mut left = guarded(64, 64);
+        let report = belt::job(&handed.task(), &mut left.lend()).expect("no row refuses");
+        assert_eq!((report.models[6], report.bits), (StoredModel(model), bits));
+        assert_eq!(report.score.to_bits(), score);
+        let words = &left.words[..16];
+        assert_eq!(report.score, belt::mean_sq_residual(&Model(model), words).unwrap());
+        let trimmed = belt::quantize_trimmed(2, 1, words).unwrap();
+        assert_eq!((trimmed.model == Model(model), trimmed.used), (trim == 1, 15));
+        assert_eq!(belt::fit_trimmed(2, words).unwrap().used, 15);
+        let read = belt::read_global_motion_params(&left.header, 5, 1, &handed.prior).unwrap();
+        assert_eq!((read.models, read.bits), (report.models, report.bits));
     }
 }
 

@@ -14,11 +14,11 @@ fn words(count: usize) -> Vec<u32> {
 #[test]
 fn the_table_is_that_of_the_rules() {
     let numbers = Refusal::TABLE.map(|(number, _)| number);
-    assert_eq!(numbers, [1, 18, 2, 4, 5, 14, 7, 8, 12, 13, 3, 17, 6, 9, 10, 11]);
+    assert_eq!(numbers, [1, 18, 2, 4, 5, 14, 7, 8, 12, 13, 3, 15, 17, 6, 16, 9, 10, 11]);
     for row in [TooLarge, TooFar, NoSuchCode, NoSuchSlot, OffGrid, PriorOut, NotRising, NotHeld, Singular] {
         assert_eq!(row.to_string(), format!("{}: {}", row.number(), row.condition()));
     }
-    for row in [ShutterClosed, EndsFirst, WrongCheck, WrongBlock] {
+    for row in [TooFew, ShutterClosed, NotFinite, EndsFirst, WrongCheck, WrongBlock] {
         assert!(Refusal::TABLE.contains(&(row.number(), row.condition())));
     }
     let rules = include_str!("../../../docs/RULES.md");
@@ -69,6 +69,8 @@ fn job() {
         (NoSuchCode, |h, _| h.settings.gm_type = 4),
         (NoSuchCode, |h, _| h.settings.flag = 2),
         (NoSuchCode, |h, _| h.settings.flag = 255),
+        (NoSuchCode, |h, _| h.settings.trim = 2),
+        (NoSuchCode, |h, _| h.settings.trim = 255),
         (NoSuchCode, |h, _| h.types[5] = 4),
         (NoSuchSlot, |h, _| h.settings.reference = 0),
         (NoSuchSlot, |h, _| h.settings.reference = 8),
@@ -90,6 +92,8 @@ fn job() {
         (short("blocks", 511, 512), |_, b| b.blocks.truncate(511)),
         (short("header", 124, 125), |_, b| b.header.truncate(124)),
         (short("header", 0, 125), |_, b| b.header.clear()),
+        (TooFew, |h, _| (h.settings.gm_type, h.settings.trim) = (3, 1)),
+        (ShutterClosed, |h, _| h.settings.frame = 0),
     ];
     let handed = Handed::new(noisy_plane(48, 32), noisy_plane(48, 32), 48, 32, 1);
     let mut exact = guarded(48, 32);
@@ -203,6 +207,55 @@ fn fits_and_scores() {
     assert_eq!(belt::quantize_model(&fitted(4), 2, &many), Err(TooLarge));
     for gm_type in 1..=3 {
         assert_eq!(belt::quantize_model(&fitted(gm_type), 1, &many[..9]), Ok(Model::IDENTITY));
+    }
+}
+
+#[test]
+fn fits_after_trimming() {
+    let many = words(4097);
+    assert_eq!(belt::fit_trimmed(1, &many), Err(TooLarge));
+    assert_eq!(belt::fit_trimmed(0, &many), Err(TooLarge));
+    assert_eq!(belt::fit_trimmed(0, &[]), Err(NoSuchCode));
+    assert_eq!(belt::fit_trimmed(4, &many[..9]), Err(NoSuchCode));
+    assert_eq!(belt::quantize_trimmed(1, 2, &[]), Err(NoSuchCode));
+    for (gm_type, least) in [(1, 4), (2, 6), (3, 8)] {
+        assert_eq!(belt::fit_trimmed(gm_type, &many[..least - 1]), Err(TooFew));
+        assert_eq!(belt::quantize_trimmed(gm_type, 1, &many[..least - 1]), Err(TooFew));
+        let one_place = vec![many[0]; least];
+        assert_eq!(belt::fit_trimmed(gm_type, &one_place).is_ok(), gm_type == 1);
+        assert_eq!(belt::quantize_trimmed(gm_type, 1, &one_place).err(), (gm_type > 1).then_some(Singular));
+    }
+    // the samples that stay have no fit of six numbers
+    let far = [423, 23, 423, 23].into_iter().zip(3u32..).map(|(u, column)| 1 << 26 | column << 20 | 223 << 11 | u << 2);
+    let lined: Vec<u32> = many[..10].iter().copied().chain(far).collect();
+    assert!(belt::fit_affine(&lined).is_ok() && belt::fit_trimmed(2, &lined).is_ok());
+    assert_eq!(belt::fit_trimmed(3, &lined), Err(Singular));
+    let samples: Vec<_> = lined.iter().map(|&word| belt::MotionSample::of_word(word)).collect();
+    assert_eq!(belt::fit_trimmed_samples(2, &samples), belt::fit_trimmed(2, &lined));
+    assert_eq!(belt::quantize_trimmed_samples(2, 1, &samples), belt::quantize_trimmed(2, 1, &lined));
+    assert_eq!(belt::fit_trimmed_samples(3, &samples), Err(Singular));
+}
+
+#[test]
+fn fits_of_samples_after_trimming() {
+    let moving = |count: usize, u| {
+        let mut samples = vec![belt::MotionSample { x: 0.5, y: -0.5, u: 0.0, v: 0.0 }; count];
+        samples[0].u = u;
+        samples
+    };
+    assert_eq!(belt::fit_trimmed_samples(0, &moving(4097, 0.0)), Err(TooLarge));
+    assert_eq!(belt::quantize_trimmed_samples(1, 2, &moving(4097, 0.0)), Err(TooLarge));
+    assert_eq!(belt::fit_trimmed_samples(4, &[]), Err(NoSuchCode));
+    assert_eq!(belt::quantize_trimmed_samples(1, 2, &[]), Err(NoSuchCode));
+    for (gm_type, least) in [(1, 4), (2, 6), (3, 8)] {
+        assert_eq!(belt::fit_trimmed_samples(gm_type, &moving(least - 1, f64::NAN)), Err(TooFew));
+        assert_eq!(belt::quantize_trimmed_samples(gm_type, 1, &moving(least - 1, 0.0)), Err(TooFew));
+        assert_eq!(belt::fit_trimmed_samples(gm_type, &moving(least, 0.0)).is_ok(), gm_type == 1);
+    }
+    assert_eq!(belt::fit_trimmed_samples(1, &moving(4, 1e150)).map(|trimmed| trimmed.used), Ok(4));
+    for far in [1e200, f64::INFINITY, f64::NAN] {
+        assert_eq!(belt::fit_trimmed_samples(1, &moving(4, far)), Err(NotFinite));
+        assert_eq!(belt::quantize_trimmed_samples(1, 0, &moving(4096, far)), Err(NotFinite));
     }
 }
 

@@ -389,6 +389,7 @@ fn run(gm_type: u8, input: &[u16], reference: &[u16], prior: &[i32], models: &[i
         gm_type,
         reference: REFERENCE,
         flag: HIGH_PRECISION,
+        trim: 0,
         start: START,
     };
     let classes = load();

@@ -4,3 +4,4 @@ pub mod Refusals
 pub mod Accepted
 pub mod SameSamples
 pub mod NoSamples
+pub mod OfType

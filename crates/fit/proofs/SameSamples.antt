@@ -31,6 +31,18 @@ pub fold-map : {A B S : Type 0} (f : S → B → S) (read : A → B) (xs : List 
 fold-map f read [] s = refl
 fold-map f read (x ∷ xs) s = fold-map f read xs (f s (read x))
 
+-- the sums over it are those over that list
+module _ {A : Type 0} (read : A → MotionSample) (xs : List A) where
+  abbrev samples : List MotionSample
+  samples = map read xs
+
+  sums-read : sumsOf (λ (s : MotionSample). s) samples ≡ sumsOf read xs
+  sums-read = λ i term. fold-map (plus term) read xs nought i
+
+  -- and so is whatever the sums over so many samples make
+  pub by-samples : {B : Type 0} (g : Summing → ℕ → B) → g (sumsOf (λ (s : MotionSample). s) samples) (length samples) ≡ g (sumsOf read xs) (length xs)
+  by-samples g = ap (g (sumsOf (λ (s : MotionSample). s) samples)) (length-map xs read) ∙ ap (λ (sum : Summing). g sum (length xs)) sums-read
+
 -- two lists of words that stand for the same samples
 pub record SameSamples (ws vs : List ℕ) : Type 0 where
   pub samples : map sampleOf ws ≡ map sampleOf vs

@@ -157,8 +157,12 @@ abbrev pub fitRefusal : ℕ → ℕ → ℕ
 fitRefusal gmType samples = orElse (listRefusal samples) (typeRefusal gmType)
 
 -- the fit of a type: 1 TRANSLATION, 2 ROTZOOM, and 3 AFFINE
+abbrev pub fitFrom : {A : Type 0} → (A → MotionSample) → ℕ → List A → Fitted
+fitFrom read gmType xs =
+    choose (eqb gmType 1) (translationFrom read xs) (choose (eqb gmType 2) (rotZoomFrom read xs) (affineFrom read xs))
+
 abbrev pub fitOf : ℕ → List ℕ → Fitted
-fitOf gmType ws = choose (eqb gmType 1) (translationFit ws) (choose (eqb gmType 2) (rotZoomFit ws) (affineFit ws))
+fitOf gmType ws = fitFrom sampleOf gmType ws
 
 abbrev pub fitted : ℕ → List ℕ → Fitted
 fitted gmType ws = answered Refused (fitRefusal gmType (length ws)) (fitOf gmType ws)

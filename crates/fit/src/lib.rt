@@ -494,7 +494,7 @@ fn type_refusal(gm_type: u8) -> u32
     0
 }
 
-fn fit_refusal(gm_type: u8, samples: usize) -> u32
+pub fn fit_refusal(gm_type: u8, samples: usize) -> u32
     ensures { λ r. ⌜ r ≡ fitRefusal «gm_type» samples ⌝ }
 {
     let first = list_refusal(samples);

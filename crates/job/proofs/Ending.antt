@@ -76,7 +76,11 @@ module _ (j : Task) (l : Lent) (r : Ready j l) {found : Searched} {left : search
   pub found-modelling : Modelling (j .settings) (j .types) (j .models) (take (found .samples) (left .words))
   found-modelling =
       let s = r .sound in
-      record { range = s .range; six = s .six; numbers = s .numbers; few = rw found-words (words-few j s) }
+      record {
+        fitting = record { range = s .range; few = rw found-words (words-few j s); enough = rw (found-words, words-length j) (s .enough) };
+        six = s .six;
+        numbers = s .numbers;
+      }
 
 -- ---- what follows from the words, by the model's refusal
 

@@ -1,4 +1,4 @@
--- The model of a job: fitted, on the grid, scored, and among the six others at its reference. docs/RULES.md, 'Job'.
+-- The model of a job: fitted, after trimming where the job trims, on the grid, scored, and among the six others at its reference. docs/RULES.md, 'Job'.
 -- Assumes nothing.
 use Prim.Native.Nat.{ℕ}
 use mathlib.Core.List.{List}
@@ -7,11 +7,15 @@ use lib.ListN.{replicate}
 use lib.Ieee.{Float}
 use Rattle.laws.specs.Binary64.{nought}
 use Rattle.laws.specs.Call.{answered}
+use Rattle.laws.specs.Refusal.{choose}
+use Rattle.sample.specs.Sample.{sampleOf}
 use Rattle.fit.specs.declared.Fitted.{Fitted}
 use Rattle.fit.specs.Fitted.{fitOf, refusalOf}
 use Rattle.score.specs.Score.{meanSqResidual}
 use Rattle.quantize.specs.Quantize.{params, rowFirst}
+use Rattle.trim.specs.Trim.{usedFrom, trimRefusal}
 use Rattle.job_task.specs.declared.Settings.{Settings}
+use Rattle.job_task.specs.Rows.{trims}
 use Rattle.job_model.specs.declared.Modelled.{Modelled}
 use Rattle.job_model.specs.Assemble.{typesWith, modelsWith}
 
@@ -21,11 +25,11 @@ use Rattle.job_model.specs.Assemble.{typesWith, modelsWith}
 abbrev pub ownType : Settings → List ℕ → ℕ
 ownType s ws = s .«gm_type»
 
--- the words of the fit, and of the translation's second fit on the grid: all of them
+-- the words of the fit, and of the translation's second fit on the grid: those of the last fit made where the job trims, otherwise all of them
 abbrev pub fitWords : Settings → List ℕ → List ℕ
-fitWords s ws = ws
+fitWords s ws = choose (trims s) (usedFrom sampleOf (s .«gm_type») ws) ws
 
--- the words of the score: all of them
+-- the words of the score: all of them, whether the job trims or not
 abbrev pub scoreWords : Settings → List ℕ → List ℕ
 scoreWords s ws = ws
 
@@ -34,9 +38,9 @@ scoreWords s ws = ws
 abbrev pub fitIn : Settings → List ℕ → Fitted
 fitIn s ws = fitOf (ownType s ws) (fitWords s ws)
 
--- what it is refused for, 0 for nothing: an elimination refuses
+-- what it is refused for, 0 for nothing: an elimination refuses; of a job that trims also a residual that isn't finite
 abbrev pub modelRefusal : Settings → List ℕ → ℕ
-modelRefusal s ws = refusalOf (fitIn s ws)
+modelRefusal s ws = choose (trims s) (trimRefusal sampleOf (s .«gm_type») ws) (refusalOf (fitIn s ws))
 
 -- on the grid, x first, and as it is stored
 abbrev pub own : Settings → List ℕ → List ℤ

@@ -1,11 +1,13 @@
-// The model of a job (docs/RULES.md, 'Job', 'Fits and score', row 6): the settings, the six other types
-// and models and the sample words go in; the seven types and models, as stored, and the score of the
-// fitted one come out.
-use fit::Fitted;
+// The model of a job (docs/RULES.md, 'Job', 'Fits and score', 'Trimming', rows 6 and 16): the settings,
+// the six other types and models and the sample words go in; the seven types and models, as stored,
+// and the score of the fitted one come out.
 use job_task::Settings;
+use quantize::Quantized;
 ghost use mathlib.Core.Path.{_≡_};
+ghost use mathlib.Core.Bool.{true, false};
 ghost use Rattle.job_model.specs.Modelled.{modelled, modelledAs, notModelled};
-ghost use Rattle.job_model.specs.Inner.{Modelling, WithFit};
+ghost use Rattle.job_task.specs.Rows.{trims};
+ghost use Rattle.job_model.specs.Inner.{Fitting, ownAnswer, Modelling, WithOwn};
 
 pub mod assemble; // assemble.rt: seven models from six others and one
 
@@ -31,19 +33,55 @@ fn not_modelled(number: u32) -> Modelled
     }
 }
 
+// The fit that is left after trimming, on the grid.
+fn trimmed(settings: Settings, words: &[u32]) -> Quantized
+    requires { ⌜ Fitting settings (now words) × (trims settings ≡ true) ⌝ }
+    ensures { λ r. ⌜ r ≡ ownAnswer settings (now (words .entry)) ⌝ }
+{
+    let t = trim::quantize_trimmed(settings.gm_type, settings.flag, words);
+    let params = t.params;
+    Quantized {
+        refusal: t.refusal,
+        params,
+    }
+}
+
+// The fit of all words, on the grid.
+fn untrimmed(settings: Settings, words: &[u32]) -> Quantized
+    requires { ⌜ Fitting settings (now words) × (trims settings ≡ false) ⌝ }
+    ensures { λ r. ⌜ r ≡ ownAnswer settings (now (words .entry)) ⌝ }
+{
+    let fitted = fit::fit_model(settings.gm_type, words);
+    let refusal = fit::refusal_of(fitted);
+    if refusal != 0 {
+        let params = [0i32; 6];
+        return Quantized { refusal, params };
+    }
+    quantize::quantize_model(fitted, settings.flag, words)
+}
+
+// The fit on the grid, x first, or the number of what refuses it.
+fn own_of(settings: Settings, words: &[u32]) -> Quantized
+    requires { ⌜ Fitting settings (now words) ⌝ }
+    ensures { λ r. ⌜ r ≡ ownAnswer settings (now (words .entry)) ⌝ }
+{
+    if settings.trim == 1 {
+        return trimmed(settings, words);
+    }
+    untrimmed(settings, words)
+}
+
 // The score is that of the model with x first; stored it is row first.
 fn with_model(
-    fitted: Fitted,
+    own: [i32; 6],
     settings: Settings,
     types: &[u8],
     models: &[i32],
     words: &[u32],
 ) -> Modelled
-    requires { ⌜ WithFit fitted settings (now types) (now models) (now words) ⌝ }
+    requires { ⌜ WithOwn own settings (now types) (now models) (now words) ⌝ }
     ensures { λ r. ⌜ r ≡ modelledAs settings (now (types .entry)) (now (models .entry)) (now (words .entry)) ⌝ }
 {
-    let q = quantize::quantize_model(fitted, settings.flag, words);
-    let own = q.params;
     let stored = quantize::row_first(settings.gm_type, own);
     let score = score::mean_sq_residual(own, words);
     let seven = assemble::types_with(types, settings.reference, settings.gm_type);
@@ -60,10 +98,10 @@ pub fn models_of(settings: Settings, types: &[u8], models: &[i32], words: &[u32]
     requires { ⌜ Modelling settings (now types) (now models) (now words) ⌝ }
     ensures { λ r. ⌜ r ≡ modelled settings (now (types .entry)) (now (models .entry)) (now (words .entry)) ⌝ }
 {
-    let fitted = fit::fit_model(settings.gm_type, words);
-    let refusal = fit::refusal_of(fitted);
-    if refusal != 0 {
-        return not_modelled(refusal);
+    let own = own_of(settings, words);
+    if own.refusal != 0 {
+        return not_modelled(own.refusal);
     }
-    with_model(fitted, settings, types, models, words)
+    let params = own.params;
+    with_model(params, settings, types, models, words)
 }

@@ -9,3 +9,4 @@ pub mod Refused
 pub mod Six
 pub mod Demand3
 pub mod HeaderRead
+pub mod Untrimmed

@@ -9,11 +9,11 @@ use Rattle.laws.proofs.Refusal.{or-else-refused, or-else-none}
 use Rattle.frame_store.specs.Store.{storeRefusal}
 use Rattle.models.specs.Models.{modelWrong, modelsWrong}
 use Rattle.job_model.specs.Modelled.{stored}
-use Rattle.job_model.proofs.FitOfType.{refusal-or-six}
+use Rattle.job_model.proofs.Refusals.{model-refusals}
 use Rattle.job_task.specs.Task.{Task, Lent, sizesOf}
 use Rattle.job_task.specs.Rows.{tooLittle, early}
 use Rattle.job_task.proofs.Accepted.{all-quiet, quiet-all, ready}
-use Rattle.job_outcome.specs.Outcome.{Ended, words, ownType, fitWords, types, models, late, refusal, refused, searched, outcome}
+use Rattle.job_outcome.specs.Outcome.{Ended, words, ownType, types, models, late, refusal, refused, searched, outcome}
 use Rattle.job_outcome.proofs.Stages.{refused-early, refused-late, ends-accepted, by-stages, early-never-twelve, refused-in-second}
 use Rattle.job_outcome.proofs.Blocks as blocks
 use Rattle.job_outcome.proofs.Written.{writable, fitted-right}
@@ -49,7 +49,9 @@ module _ (j : Task) (l : Lent) where
   never-twelve e =
       let q = refused-in-second j l 12 (early-never-twelve j l) e in
       let r = ready j l (q .0) .sound .range in
-      ⊎-elim (λ (z : late j ≡ 0). omega (arith, q .1)) (λ (z : late j ≡ 6). omega (arith, q .1)) (refusal-or-six (ownType j) (fitWords j) (r .some-type) (r .last-type))
+      ⊎-elim (λ (z : late j ≡ 0). omega (arith, q .1))
+      (⊎-elim (λ (z : late j ≡ 6). omega (arith, q .1)) (λ (z : late j ≡ 16). omega (arith, q .1)))
+      (model-refusals (j .settings) (words j) r)
 
   module _ (quiet : early j l ≡ 0) where
     -- storing refuses nothing, 12 neither
@@ -69,8 +71,9 @@ module _ (j : Task) (l : Lent) where
       pub early-again : early j other ≡ 0
       early-again =
           let q = all-quiet (sizesOf j l) (j .settings) (j .classes) (j .types) (j .models) (j .prior) quiet in
+          let few = ready j l quiet .sound .enough in
           quiet-all (sizesOf j other) (j .settings) (j .classes) (j .types) (j .models) (j .prior)
-          (record { sizes = q .sizes; codes = q .codes; handed = q .handed; room = rw enough; shutter = q .shutter })
+          (record { sizes = q .sizes; codes = q .codes; handed = q .handed; room = rw (enough, few); shutter = q .shutter })
 
       pub same-report : late j ≡ 0 → outcome j other .report ≡ outcome j l .report
       same-report fits =

@@ -1,4 +1,4 @@
--- Row 6 holds of a job exactly when no earlier row does and its fit refuses; and a fit refuses exactly when an elimination does.
+-- Rows 6 and 16 hold of a job exactly when no earlier row does and its model is refused so; and a fit refuses exactly when an elimination does.
 -- Assumes nothing.
 use mathlib.Core.List.{List}
 use mathlib.Core.Logic.{_⊎_, _↔_}
@@ -13,7 +13,7 @@ use Rattle.fit.proofs.Refusals.{rotzoom-refuses, affine-refuses, translation-ne
 use Rattle.job_task.specs.Task.{Task, Lent}
 use Rattle.job_task.specs.Rows.{early}
 use Rattle.job_outcome.specs.Outcome.{late, refusal}
-use Rattle.job_outcome.proofs.Stages.{early-never-six, refused-in-second}
+use Rattle.job_outcome.proofs.Stages.{early-never-six, early-never-sixteen, refused-in-second}
 
 module _ (j : Task) (l : Lent) where
   pub six-enough : early j l ≡ 0 → late j ≡ 6 → refusal j l ≡ 6
@@ -21,6 +21,12 @@ module _ (j : Task) (l : Lent) where
 
   pub six-needed : refusal j l ≡ 6 → (early j l ≡ 0) × (late j ≡ 6)
   six-needed e = refused-in-second j l 6 (early-never-six j l) e
+
+  pub sixteen-enough : early j l ≡ 0 → late j ≡ 16 → refusal j l ≡ 16
+  sixteen-enough quiet e = sym (or-else-none (early j l) (late j) quiet) ∙ e
+
+  pub sixteen-needed : refusal j l ≡ 16 → (early j l ≡ 0) × (late j ≡ 16)
+  sixteen-needed e = refused-in-second j l 16 (early-never-sixteen j l) e
 
 -- the fit of each type
 pub translation-never : (ws : List ℕ) → refusalOf (fitOf 1 ws) ≡ 0

@@ -92,7 +92,7 @@ module _ (j : Task) (l : Lent) where
   handed = modelRows (j .settings) (j .types) (j .models) (j .prior)
 
   abbrev room : List Row
-  room = roomRows (sizesOf j l)
+  room = roomRows (sizesOf j l) (j .settings)
 
   abbrev shutter : List Row
   shutter = row shutterClosed (closed (j .settings .frame)) ∷ []
@@ -109,6 +109,9 @@ module _ (j : Task) (l : Lent) where
 
   pub early-never-twelve : early j l ≡ 12 → ⊥
   early-never-twelve = early-never 12 (omega arith) tt tt tt tt tt
+
+  pub early-never-sixteen : early j l ≡ 16 → ⊥
+  early-never-sixteen = early-never 16 (omega arith) tt tt tt tt tt
 
   -- a number that no early row has is the second stage's
   pub refused-in-second : (k : ℕ) → (early j l ≡ k → ⊥) → refusal j l ≡ k → (early j l ≡ 0) × (late j ≡ k)

@@ -19,6 +19,7 @@ use Rattle.quantize.proofs.Accepted.{row-first-twice}
 use Rattle.quantize.proofs.OnGrid.{OnGrid, quantized-on-grid}
 use Rattle.job_model.specs.Modelled.{own, stored}
 use Rattle.job_model.proofs.FitOfType.{type-asked-for}
+use Rattle.job_model.proofs.Refusals.{fit-accepted}
 use Rattle.job_task.specs.Task.{Task}
 use Rattle.job_task.specs.Rows.{headerBytes}
 use Rattle.job_task.proofs.Ready.{Sound}
@@ -50,7 +51,7 @@ module _ (j : Task) (s : Sound j) (fits : late j ≡ 0) where
   place-le = omega (arith, s .range .some-reference, s .range .last-reference)
 
   pub type-is : typeOf (fitIn j) ≡ kind
-  type-is = type-asked-for kind (fitWords j) (s .range .some-type) (s .range .last-type) fits
+  type-is = type-asked-for kind (fitWords j) (s .range .some-type) (s .range .last-type) (fit-accepted (j .settings) (words j) fits)
 
   pub some-model : typeOf (fitIn j) ≡ 0 → ⊥
   some-model e = omega (arith, type-is, s .range .some-type)

@@ -1,3 +1,4 @@
 pub mod Outcome
 pub mod Demand3
 pub mod Done
+pub mod Untrimmed

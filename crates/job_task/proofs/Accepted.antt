@@ -9,7 +9,7 @@ use borrow.Author.Tests.{ltb-false, eqb-false}
 use lib.Dec.{ltb, eqb}
 use lib.IntN.{ℤ}
 use lib.ListN.{length}
-use Rattle.laws.specs.Refusal.{judge}
+use Rattle.laws.specs.Refusal.{judge, either}
 use Rattle.laws.proofs.Refusal.{neither, length-is, quiet, or-else-quiet}
 use Rattle.plane.specs.Inner.{Small}
 use Rattle.class.specs.Class.{lastClass, classOver}
@@ -36,7 +36,7 @@ module _ (z : Sizes) (s : Settings) (classes types : List ℕ) (models prior : L
     pub sizes : judge (sizeRows z (length classes) (length types) (length models) (length prior)) ≡ 0
     pub codes : judge (codeRows s classes types) ≡ 0
     pub handed : judge (modelRows s types models prior) ≡ 0
-    pub room : judge (roomRows z) ≡ 0
+    pub room : judge (roomRows z s) ≡ 0
     pub shutter : closedRefusal (s .frame) ≡ 0
 
   pub all-quiet : refusalBefore z s classes types models prior ≡ 0 → AllQuiet
@@ -45,7 +45,7 @@ module _ (z : Sizes) (s : Settings) (classes types : List ℕ) (models prior : L
       let a = or-else-quiet (judge (sizeRows z (length classes) (length types) (length models) (length prior))) _ e in
       let b = or-else-quiet (judge (codeRows s classes types)) _ (a .1) in
       let c = or-else-quiet (judge (modelRows s types models prior)) _ (b .1) in
-      let d = or-else-quiet (judge (roomRows z)) (closedRefusal (s .frame)) (c .1) in
+      let d = or-else-quiet (judge (roomRows z s)) (closedRefusal (s .frame)) (c .1) in
       record { sizes = a .0; codes = b .0; handed = c .0; room = d .0; shutter = d .1 }
 
   pub quiet-all : AllQuiet → refusalBefore z s classes types models prior ≡ 0
@@ -92,7 +92,8 @@ codes s classes types e =
     let q = quiet (codeRows s classes types) tt e in
     let four = neither (classOver lastClass classes) _ (q .0) in
     let kind = neither (noType (s .«gm_type»)) _ (four .1) in
-    let over = neither (typesOver types) (ltb 1 (s .flag)) (kind .1) in
+    let over = neither (typesOver types) (either (ltb 1 (s .flag)) (ltb 1 (s .trim))) (kind .1) in
+    let flags = neither (ltb 1 (s .flag)) (ltb 1 (s .trim)) (over .1) in
     let asked = neither (eqb (s .«gm_type») 0) (ltb 3 (s .«gm_type»)) (kind .0) in
     let some : s .«gm_type» ≡ 0 → ⊥ = eqb-false (s .«gm_type») 0 (asked .0) in
     let five = neither (eqb (s .reference) 0) (ltb 7 (s .reference)) (q .1 .0) in
@@ -105,7 +106,8 @@ codes s classes types e =
         last-type = ltb-false 3 (s .«gm_type») (asked .1);
         some-reference = omega arith;
         last-reference = ltb-false 7 (s .reference) (five .1);
-        flagged = ltb-false 1 (s .flag) (over .1);
+        flagged = ltb-false 1 (s .flag) (flags .0);
+        trimming = ltb-false 1 (s .trim) (flags .1);
         low = omega (arith, ltb-false 7 (s .start) (q .1 .1 .0));
       };
     }
@@ -129,7 +131,8 @@ module _ (j : Task) (l : Lent) where
       let c = codes (j .settings) (j .classes) (j .types) (q .codes) in
       let m = quiet (modelRows (j .settings) (j .types) (j .models) (j .prior)) tt (q .handed) in
       let needed : ℕ = blockBytes * blocksOf form2 (sampleCount (j .width) (j .height)) in
-      let three = neither (search.tooShort (j .width) (j .height) (length (l .inputHalf)) (length (l .refHalf)) (length (l .words))) _ (quiet (roomRows z) tt (q .room) .0) in
+      let last = quiet (roomRows z (j .settings)) tt (q .room) in
+      let three = neither (search.tooShort (j .width) (j .height) (length (l .inputHalf)) (length (l .refHalf)) (length (l .words))) _ (last .0) in
       let room = neither (ltb (length (l .blocks)) needed) (ltb (length (l .header)) headerBytes) (three .1) in
       let found : search.refusal (searchTask j) (searchLent l) ≡ 0 = search-accepts (searchTask j) (searchLent l) (n .large) (n .planes) (c .classed) (three .0) in
       record {
@@ -145,6 +148,7 @@ module _ (j : Task) (l : Lent) where
           known = c .known;
           right = m .0;
           within = m .1 .0;
+          enough = last .1 .0;
           used = in-use (j .settings .frame) (q .shutter);
         };
         searched = found;

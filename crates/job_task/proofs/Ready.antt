@@ -13,7 +13,7 @@ use Rattle.form2.specs.Block.{form2}
 use Rattle.frame_number.specs.Shutter.{closed}
 use Rattle.job_task.specs.Task.{Task, Lent, searchTask, searchLent}
 use Rattle.job_task.specs.Inner.{InRange}
-use Rattle.job_task.specs.Rows.{otherTypes, otherNumbers, priorNumbers, headerBytes}
+use Rattle.job_task.specs.Rows.{otherTypes, otherNumbers, priorNumbers, headerBytes, tooFewToTrim}
 
 -- what goes in
 pub record Sound (j : Task) : Type 0 where
@@ -28,6 +28,7 @@ pub record Sound (j : Task) : Type 0 where
   pub known : typesOver (j .types) ≡ false
   pub right : modelsWrong (j .types) (j .settings .flag) (j .models) ≡ false
   pub within : priorsOut (j .prior) ≡ false
+  pub enough : tooFewToTrim (j .settings) (sampleCount (j .width) (j .height)) ≡ false
   pub used : closed (j .settings .frame) ≡ false
 
 -- and what is lent

@@ -1,4 +1,4 @@
--- The rows of the table of refusals that a job meets before its search, in the table's order: 1, 2, 4, 5, 14, 7, 8, 3, 17. docs/RULES.md, 'When a call says no'.
+-- The rows of the table of refusals that a job meets before its search, in the table's order: 1, 2, 4, 5, 14, 7, 8, 3, 15, 17. docs/RULES.md, 'When a call says no'.
 -- Assumes nothing.
 use Prim.Native.Nat.{ℕ, _*_}
 use mathlib.Core.Bool.{Bool, not}
@@ -6,11 +6,12 @@ use mathlib.Core.List.{List, [], _∷_}
 use lib.Dec.{ltb, eqb}
 use lib.IntN.{ℤ}
 use lib.ListN.{length}
-use Rattle.laws.specs.Refusal.{Row, row, judge, orElse, either}
+use Rattle.laws.specs.Refusal.{Row, row, judge, orElse, either, both}
 use Rattle.search.specs.Search.{sampleCount}
 use Rattle.class.specs.Class.{lastClass, classOver}
 use Rattle.search.specs.Refusal.{tooLarge, wrongLength, tooShort}
 use Rattle.fit.specs.Fitted.{noType}
+use Rattle.trim.specs.Trim.{tooFew}
 use Rattle.models.specs.Models.{typesOver, modelsWrong, priorsOut, startOver}
 use Rattle.layout.specs.Form.{blockBytes, blocksOf}
 use Rattle.form2.specs.Block.{form2}
@@ -41,9 +42,11 @@ wrongLengths z classes types models prior =
     either (wrongLength (z .width) (z .height) (z .input) (z .reference) classes)
     (either (not (eqb types otherTypes)) (either (not (eqb models otherNumbers)) (not (eqb prior priorNumbers))))
 
--- row 4: a class over 4; the type asked for 0 or over 3; another's type over 3; the flag over 1
+-- row 4: a class over 4; the type asked for 0 or over 3; another's type over 3; the flag over 1; the trim code over 1
 abbrev pub badCodes : Settings → List ℕ → List ℕ → Bool
-badCodes s classes types = either (classOver lastClass classes) (either (noType (s .«gm_type»)) (either (typesOver types) (ltb 1 (s .flag))))
+badCodes s classes types =
+    either (classOver lastClass classes)
+    (either (noType (s .«gm_type»)) (either (typesOver types) (either (ltb 1 (s .flag)) (ltb 1 (s .trim)))))
 
 -- row 5: a reference outside 1 to 7
 abbrev pub noReference : ℕ → Bool
@@ -54,6 +57,13 @@ abbrev pub tooLittle : Sizes → Bool
 tooLittle z =
     either (tooShort (z .width) (z .height) (z .«input_half») (z .«ref_half») (z .words))
     (either (ltb (z .blocks) (blockBytes * blocksOf form2 (sampleCount (z .width) (z .height)))) (ltb (z .header) headerBytes))
+
+-- row 15: a job that trims has fewer samples than its type's least
+abbrev pub trims : Settings → Bool
+trims s = eqb (s .trim) 1
+
+abbrev pub tooFewToTrim : Settings → ℕ → Bool
+tooFewToTrim s samples = both (trims s) (tooFew (s .«gm_type») samples)
 
 -- ---- the rows, in groups
 
@@ -76,8 +86,11 @@ modelRows s types models prior =
     ∷ row 8 (priorsOut prior)
     ∷ []
 
-abbrev pub roomRows : Sizes → List Row
-roomRows z = row 3 (tooLittle z) ∷ []
+abbrev pub roomRows : Sizes → Settings → List Row
+roomRows z s =
+    row 3 (tooLittle z)
+    ∷ row 15 (tooFewToTrim s (sampleCount (z .width) (z .height)))
+    ∷ []
 
 -- the first of these rows that holds, 0 for none
 unfoldable pub refusalBefore : Sizes → Settings → List ℕ → List ℕ → List ℤ → List ℤ → ℕ
@@ -85,7 +98,7 @@ refusalBefore z s classes types models prior =
     orElse (judge (sizeRows z (length classes) (length types) (length models) (length prior)))
     (orElse (judge (codeRows s classes types))
     (orElse (judge (modelRows s types models prior))
-    (orElse (judge (roomRows z))
+    (orElse (judge (roomRows z s))
     (closedRefusal (s .frame)))))
 
 -- of a job: refused before its search

@@ -1,7 +1,7 @@
 // What a job is handed, and the rows of the table of refusals that it meets before its search: 1, 2,
-// 4, 5, 14, 7, 8, 3, 17, in the table's order (docs/RULES.md, 'Job', 'When a call says no'). In go the settings,
-// how long planes and lent buffers are, and the lists that are looked into; out comes the first row
-// that holds, 0 for none. The rows are judged in groups; a group is a function.
+// 4, 5, 14, 7, 8, 3, 15, 17, in the table's order (docs/RULES.md, 'Job', 'When a call says no'). In go the
+// settings, how long planes and lent buffers are, and the lists that are looked into; out comes the first
+// row that holds, 0 for none. The rows are judged in groups; a group is a function.
 use class::LAST_CLASS;
 use forms::FORM2;
 use header::MOST_BYTES;
@@ -12,7 +12,8 @@ ghost use Prim.Native.Nat.{_*_, _≤_};
 ghost use lib.ListN.{length};
 ghost use Rattle.laws.specs.Refusal.{judge};
 ghost use Rattle.plane.specs.Inner.{Small};
-ghost use Rattle.job_task.specs.Rows.{wrongLengths, badCodes, noReference, tooLittle, sizeRows, codeRows, modelRows, roomRows, refusalBefore};
+ghost use Rattle.search.specs.Search.{sampleCount};
+ghost use Rattle.job_task.specs.Rows.{wrongLengths, badCodes, noReference, tooLittle, tooFewToTrim, sizeRows, codeRows, modelRows, roomRows, refusalBefore};
 
 const BLOCK: usize = 16;
 
@@ -42,14 +43,18 @@ const PRIOR_OUT: u32 = 8;
 
 const TOO_LITTLE: u32 = 3;
 
+const TOO_FEW: u32 = 15;
+
 // The frame number of the blocks, the type to fit, the reference that the model is for, the flag of
-// high precision, and the bit of the header's first byte at which writing begins.
+// high precision, whether the job trims (1, otherwise 0), and the bit of the header's first byte at
+// which writing begins.
 #[repr(C)]
 pub struct Settings {
     pub frame: u16,
     pub gm_type: u8,
     pub reference: u8,
     pub flag: u8,
+    pub trim: u8,
     pub start: usize,
 }
 
@@ -103,7 +108,10 @@ fn bad_codes(settings: Settings, classes: &[u8], types: &[u8]) -> bool
     if models::types_over(types) {
         return true;
     }
-    1 < settings.flag
+    if 1 < settings.flag {
+        return true;
+    }
+    1 < settings.trim
 }
 
 fn no_reference(reference: u8) -> bool
@@ -133,6 +141,17 @@ fn too_little(sizes: Sizes) -> bool
         return true;
     }
     sizes.header < MOST_BYTES
+}
+
+fn too_few_to_trim(sizes: Sizes, settings: Settings) -> bool
+    requires { ⌜ Small (sizes .width) (sizes .height) ⌝ }
+    ensures { λ b. ⌜ b ≡ tooFewToTrim settings (sampleCount (sizes .width) (sizes .height)) ⌝ }
+{
+    if settings.trim != 1 {
+        return false;
+    }
+    let samples = sizes.height / BLOCK * (sizes.width / BLOCK);
+    samples < trim::least_of(settings.gm_type)
 }
 
 fn sizes_refusal(sizes: Sizes, classes: usize, types: usize, models: usize, prior: usize) -> u32
@@ -175,12 +194,15 @@ fn models_refusal(settings: Settings, types: &[u8], models: &[i32], prior: &[i32
     0
 }
 
-fn room_refusal(sizes: Sizes) -> u32
+fn room_refusal(sizes: Sizes, settings: Settings) -> u32
     requires { ⌜ Small (sizes .width) (sizes .height) ⌝ }
-    ensures { λ r. ⌜ r ≡ judge (roomRows sizes) ⌝ }
+    ensures { λ r. ⌜ r ≡ judge (roomRows sizes settings) ⌝ }
 {
     if too_little(sizes) {
         return TOO_LITTLE;
+    }
+    if too_few_to_trim(sizes, settings) {
+        return TOO_FEW;
     }
     0
 }
@@ -207,7 +229,7 @@ pub fn refusal_of(
     if handed != 0 {
         return handed;
     }
-    let room = room_refusal(sizes);
+    let room = room_refusal(sizes, settings);
     if room != 0 {
         return room;
     }

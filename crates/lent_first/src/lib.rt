@@ -5,9 +5,12 @@
 use fit_numbers::FitAnswer;
 use lent_fit::Params;
 use lent_fit::ToQuantize;
+use lent_trim::ToTrim;
 use quantize::Quantized;
 use sample::MotionSample;
 use score::Score;
+use trim::TrimmedModel;
+use trim_numbers::TrimmedAnswer;
 ghost use Prim.Native.Nat.{_≤_};
 ghost use mathlib.Core.Path.{_≡_};
 ghost use lib.ListN.{length, take};
@@ -15,6 +18,8 @@ ghost use Rattle.fit.specs.Fitted.{fitAnswer, translationFrom, rotZoomFrom, aff
 ghost use Rattle.fit_numbers.specs.Numbers.{numbersOf, fittedOf};
 ghost use Rattle.score.specs.Score.{continuousModel, scored};
 ghost use Rattle.quantize.specs.Quantize.{quantizedFrom};
+ghost use Rattle.trim.specs.Trim.{trimmedFrom, trimmedModelFrom};
+ghost use Rattle.trim_numbers.specs.Answer.{answerOf};
 ghost use Rattle.lent_fit.specs.Samples.{itself};
 
 pub fn translation_of_first(samples: [MotionSample; 4097], n: usize) -> FitAnswer
@@ -50,4 +55,22 @@ pub fn score_of_first(samples: [MotionSample; 4097], n: usize, model: Params) ->
     ensures { λ r. ⌜ r ≡ scored itself (continuousModel (model .numbers)) (take n samples) ⌝ }
 {
     lent_fit::belt_mean_sq_residual_samples(&samples[..n], model)
+}
+
+pub fn trimmed_of_first(samples: [MotionSample; 4097], n: usize, kind: u8) -> TrimmedAnswer
+    requires { ⌜ n ≤ 4097 ⌝ }
+    ensures { λ r. ⌜ r ≡ answerOf (trimmedFrom itself kind (take n samples)) ⌝ }
+{
+    lent_trim::belt_fit_trimmed_samples(&samples[..n], kind)
+}
+
+pub fn trimmed_model_of_first(
+    samples: [MotionSample; 4097],
+    n: usize,
+    codes: ToTrim,
+) -> TrimmedModel
+    requires { ⌜ n ≤ 4097 ⌝ }
+    ensures { λ r. ⌜ r ≡ trimmedModelFrom itself (codes .kind) (codes .flag) (take n samples) ⌝ }
+{
+    lent_trim::belt_quantize_trimmed_samples(&samples[..n], codes)
 }

@@ -163,17 +163,17 @@ abbrev pub R : RattleType
 R = P.the-row
 
 -- a sample's machine values
-abbrev machs : MotionSample → List Val
+abbrev pub machs : MotionSample → List Val
 machs = LL.vals P.the-type P′.the-laws
 
 abbrev pub word : Ty
 word = tyInt w64
 
-abbrev slice : Ty
+abbrev pub slice : Ty
 slice = sliceTy (tyRef (named 0) imm (pointee (R .written)))
 
 -- what stands for a sample past the end
-abbrev none : MotionSample
+abbrev pub none : MotionSample
 none = record { x = nought; y = nought; u = nought; v = nought }
 
 -- a declared type's layout

@@ -2,44 +2,36 @@
 -- Assumes nothing.
 use Prim.Native.Nat.{ℕ}
 use mathlib.Core.List.{List, map}
-use mathlib.Core.Path.{_≡_, ap, _∙_}
+use mathlib.Core.Path.{_≡_}
 use lib.IntN.{ℤ}
-use lib.ListN.{length, length-map}
-use Rattle.laws.specs.Binary64.{nought}
+use lib.ListN.{length-map}
 use Rattle.laws.specs.Call.{answered}
 use Rattle.sample.specs.Sample.{sampleOf}
 use Rattle.fit.specs.declared.Fitted.{Fitted}
-use Rattle.fit.specs.Sums.{Summing, sumsOf, plus}
+use Rattle.fit.specs.Sums.{Summing}
 use Rattle.fit.specs.Fitted.{typeOf, translationBy, rotZoomBy, affineBy, translationFrom, rotZoomFrom, affineFrom, translationFit, rotZoomFit, affineFit}
-use Rattle.fit.proofs.SameSamples.{fold-map}
+use Rattle.fit.proofs.SameSamples.{fold-map, by-samples}
 use Rattle.score.specs.Score.{continuousModel, scoreStep, scored, meanSqResidual}
 use Rattle.quantize.specs.Quantize.{linearOf, refitBy, refittedFrom, paramsOf, paramsFrom, quantizeRefusal, quantizedAs, refusedModel, quantizedFrom, quantizedModel}
 use Rattle.lent_fit.specs.Samples.{itself}
 
 module _ (ws : List ℕ) where
-  sums-of-words : sumsOf itself (map sampleOf ws) ≡ sumsOf sampleOf ws
-  sums-of-words = λ i term. fold-map (plus term) sampleOf ws nought i
-
-  -- whatever the sums over so many samples make
-  by-words : {B : Type 0} (g : Summing → ℕ → B) → g (sumsOf itself (map sampleOf ws)) (length (map sampleOf ws)) ≡ g (sumsOf sampleOf ws) (length ws)
-  by-words g = ap (g (sumsOf itself (map sampleOf ws))) (length-map ws sampleOf) ∙ ap (λ (sum : Summing). g sum (length ws)) sums-of-words
-
   pub translation-of-words : translationFrom itself (map sampleOf ws) ≡ translationFit ws
   unfolding translationFrom
-  translation-of-words = by-words translationBy
+  translation-of-words = by-samples sampleOf ws translationBy
 
   pub rotzoom-of-words : rotZoomFrom itself (map sampleOf ws) ≡ rotZoomFit ws
   unfolding rotZoomFrom
-  rotzoom-of-words = by-words rotZoomBy
+  rotzoom-of-words = by-samples sampleOf ws rotZoomBy
 
   pub affine-of-words : affineFrom itself (map sampleOf ws) ≡ affineFit ws
   unfolding affineFrom
-  affine-of-words = by-words affineBy
+  affine-of-words = by-samples sampleOf ws affineBy
 
   pub quantized-of-words : (f : Fitted) (flag : ℕ) → quantizedFrom itself f flag (map sampleOf ws) ≡ quantizedModel f flag ws
   unfolding paramsFrom refittedFrom
   quantized-of-words f flag =
-      by-words (λ (sum : Summing) (n : ℕ). answered refusedModel (quantizeRefusal f flag n) (quantizedAs 0 (paramsOf (typeOf f) flag (linearOf f flag) (refitBy (linearOf f flag) sum n))))
+      by-samples sampleOf ws (λ (sum : Summing) (n : ℕ). answered refusedModel (quantizeRefusal f flag n) (quantizedAs 0 (paramsOf (typeOf f) flag (linearOf f flag) (refitBy (linearOf f flag) sum n))))
 
   pub score-of-words : (p : List ℤ) → scored itself (continuousModel p) (map sampleOf ws) ≡ meanSqResidual p ws
   score-of-words p = rw (length-map ws sampleOf, fold-map (scoreStep (continuousModel p)) sampleOf ws)

@@ -5,3 +5,4 @@ pub mod OnGrid
 pub mod NearestSlots
 pub mod Accepted
 pub mod SameSamples
+pub mod Walked

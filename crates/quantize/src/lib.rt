@@ -127,7 +127,7 @@ fn continuous_linear(l: Linear) -> ContinuousModel
     }
 }
 
-fn refit_step(m: ContinuousModel, t: TranslationSums, s: MotionSample) -> TranslationSums
+pub fn refit_step(m: ContinuousModel, t: TranslationSums, s: MotionSample) -> TranslationSums
     ensures { λ r. ⌜ r ≡ refitStep m t s ⌝ }
 {
     TranslationSums {

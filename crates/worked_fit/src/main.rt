@@ -1,14 +1,16 @@
-// Replays the oracle's lists of fits, systems, grid numbers, words in several orders and samples of any
-// numbers, then tries the refusals.
+// Replays the oracle's lists of fits, systems, grid numbers, words in several orders, samples of any
+// numbers and fits after trimming, then tries the refusals.
 ghost use Prim.Native.Nat.{_≤_};
 use fit::Fitted;
 use fit_numbers::FitAnswer;
 use lent_fit::Params;
 use lent_fit::ToQuantize;
+use lent_trim::ToTrim;
 use libc::STDOUT_FILENO;
 use sample::MotionSample;
 use solve::Outcome;
 use solve::System;
+use trim::Trimmed;
 
 // The bits that the lists have for every not-a-number.
 const NOT_A_NUMBER: u64 = 0x7ff8_0000_0000_0000;
@@ -25,6 +27,8 @@ const SYSTEMS: u8 = 1;
 const ORDERS: u8 = 2;
 
 const SAMPLES: u8 = 3;
+
+const TRIMMED: u8 = 5;
 
 // One sample more than a list may have.
 const OVER: usize = 4097;
@@ -223,6 +227,51 @@ fn replay_orders(list: i32, flag: u8) -> bool {
     replay_order(list, flag, &mut words)
 }
 
+// A fit after trimming: its refusal, or the samples that it used and the values.
+fn same_trimmed(t: Trimmed, refusal: u32, used: u32, w: Values) -> bool {
+    let fitted = t.fitted;
+    if t.used != used {
+        return false;
+    }
+    if refusal != 0 {
+        return fit::refusal_of(fitted) == refusal;
+    }
+    same_model(fitted, w)
+}
+
+fn trimmed_holds(list: i32, words: &[u32]) -> bool {
+    let gm_type = (replay::next_word(list) % 256) as u8;
+    let flag = (replay::next_word(list) % 256) as u8;
+    let fit_refusal = replay::next_word(list);
+    let fit_used = replay::next_word(list);
+    let values = next_values(list, gm_type);
+    let refusal = replay::next_word(list);
+    let used = replay::next_word(list);
+    let wanted = next_params(list);
+    let fitted = trim::fit_trimmed(gm_type, words);
+    let model = trim::quantize_trimmed(gm_type, flag, words);
+    let params = model.params;
+    same_trimmed(fitted, fit_refusal, fit_used, values)
+        && model.refusal == refusal
+        && model.used == used
+        && same_params(params, wanted)
+}
+
+// The words of a case, up to one more than a list may have.
+fn replay_trimmed_words(list: i32, words: &mut [u32]) -> bool {
+    let count = replay::next_word(list) as usize;
+    if count > words.len() {
+        return false;
+    }
+    copy(&mut words[..count], list);
+    trimmed_holds(list, &words[..count])
+}
+
+fn replay_trimmed(list: i32) -> bool {
+    let mut words = [0u32; OVER];
+    replay_trimmed_words(list, &mut words)
+}
+
 fn next_sample(list: i32) -> MotionSample {
     let x = next_float(list);
     let y = next_float(list);
@@ -252,10 +301,8 @@ fn next_samples(list: i32, written: usize) -> [MotionSample; 4097] {
     samples
 }
 
-fn same_numbers(answer: FitAnswer, w: Values) -> bool {
-    let n = answer.numbers;
-    answer.refusal == 0
-        && same_float(n[0], w.m0)
+fn same_numbers(n: [f64; 6], w: Values) -> bool {
+    same_float(n[0], w.m0)
         && same_float(n[1], w.m1)
         && same_float(n[2], w.m2)
         && same_float(n[3], w.m3)
@@ -316,7 +363,56 @@ fn replay_first(
         flag,
         numbers,
     };
-    same_numbers(answer, values) && same_quantized_first(model, samples, count, params, score)
+    answer.refusal == 0
+        && same_numbers(numbers, values)
+        && same_quantized_first(model, samples, count, params, score)
+}
+
+// The same after trimming: a refusal, the samples used and zeros or the values; then of the quantized
+// model.
+fn replay_trimmed_first(
+    list: i32,
+    gm_type: u8,
+    flag: u8,
+    samples: [MotionSample; 4097],
+    count: usize,
+) -> bool
+    requires { ⌜ count ≤ 4097 ⌝ }
+{
+    let fit_refusal = replay::next_word(list);
+    let fit_used = replay::next_word(list);
+    let values = next_values(list, gm_type);
+    let refusal = replay::next_word(list);
+    let used = replay::next_word(list);
+    let wanted = next_params(list);
+    let answer = lent_first::trimmed_of_first(samples, count, gm_type);
+    let codes = ToTrim {
+        kind: gm_type,
+        flag,
+    };
+    let model = lent_first::trimmed_model_of_first(samples, count, codes);
+    let numbers = answer.numbers;
+    let params = model.params;
+    answer.refusal == fit_refusal
+        && answer.used == fit_used
+        && same_numbers(numbers, values)
+        && model.refusal == refusal
+        && model.used == used
+        && same_params(params, wanted)
+}
+
+fn replay_both(
+    list: i32,
+    gm_type: u8,
+    flag: u8,
+    samples: [MotionSample; 4097],
+    count: usize,
+) -> bool
+    requires { ⌜ count ≤ 4097 ⌝ }
+{
+    let plain = replay_first(list, gm_type, flag, samples, count);
+    let trimmed = replay_trimmed_first(list, gm_type, flag, samples, count);
+    plain && trimmed
 }
 
 fn replay_samples(list: i32, flag: u8) -> bool {
@@ -326,9 +422,9 @@ fn replay_samples(list: i32, flag: u8) -> bool {
     if count > OVER {
         return false;
     }
-    let translation = replay_first(list, fit::TRANSLATION, flag, samples, count);
-    let rotzoom = replay_first(list, fit::ROTZOOM, flag, samples, count);
-    let affine = replay_first(list, fit::AFFINE, flag, samples, count);
+    let translation = replay_both(list, fit::TRANSLATION, flag, samples, count);
+    let rotzoom = replay_both(list, fit::ROTZOOM, flag, samples, count);
+    let affine = replay_both(list, fit::AFFINE, flag, samples, count);
     translation && rotzoom && affine
 }
 
@@ -389,6 +485,9 @@ fn replay_one(list: i32, which: u8, flag: u8) -> bool {
     }
     if which == SAMPLES {
         return replay_samples(list, flag);
+    }
+    if which == TRIMMED {
+        return replay_trimmed(list);
     }
     replay_grid_number(list)
 }
@@ -468,6 +567,13 @@ fn try_refusals(words: &[u32], few: &[u32]) {
     io::write_all(STDOUT_FILENO, b"refusals: 9 tried\n");
 }
 
+fn trimmed_refusal(kind: u8, flag: u8, samples: [MotionSample; 4097], count: usize) -> u32
+    requires { ⌜ count ≤ 4097 ⌝ }
+{
+    let model = lent_first::trimmed_model_of_first(samples, count, ToTrim { kind, flag });
+    model.refusal
+}
+
 fn first_refusal(kind: u8, flag: u8, samples: [MotionSample; 4097], count: usize) -> u32
     requires { ⌜ count ≤ 4097 ⌝ }
 {
@@ -499,7 +605,23 @@ fn try_refusals_of_samples(samples: [MotionSample; 4097]) {
     let numbers = [0, 0, 65536, 0, 0, 65536];
     let scored = lent_first::score_of_first(samples, 4097, Params { numbers });
     refused(scored.refusal == 1, b"4097 samples, score");
-    io::write_all(STDOUT_FILENO, b"refusals of samples: 5 tried\n");
+    refused(
+        trimmed_refusal(0, 2, samples, 4097) == 1,
+        b"4097 samples to trim, type 0, flag 2",
+    );
+    refused(
+        trimmed_refusal(1, 2, samples, 3) == 4,
+        b"3 samples to trim, flag 2",
+    );
+    refused(
+        trimmed_refusal(4, 0, samples, 3) == 4,
+        b"3 samples to trim, type 4",
+    );
+    refused(
+        trimmed_refusal(1, 0, samples, 3) == 15,
+        b"3 samples to trim",
+    );
+    io::write_all(STDOUT_FILENO, b"refusals of samples: 9 tried\n");
 }
 
 fn main() {
@@ -507,6 +629,7 @@ fn main() {
     replay_list(SYSTEMS, b"systems", b"systems.bin");
     replay_list(ORDERS, b"orders", b"orders.bin");
     replay_list(SAMPLES, b"samples", b"samples.bin");
+    replay_list(TRIMMED, b"trimmed", b"trimmed.bin");
     replay_list(4, b"grid numbers", b"grid_numbers.bin");
     let words = [0u32; 4097];
     let few = [0u32; 8];

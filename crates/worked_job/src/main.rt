@@ -17,8 +17,8 @@ const UNTOUCHED_BYTE: u8 = 165;
 // The bits that the list has for every not-a-number.
 const NOT_A_NUMBER: u64 = 0x7ff8_0000_0000_0000;
 
-// The picture of a case: the input plane is on its own (0), the reference mapped (1), or the planes
-// are exchanged (2). A mapped pel comes from row r * (64 + zoom) / 64 + shift, and so for its column.
+// The picture of a case: the input plane is on its own (0), the reference mapped (1), the planes are
+// exchanged (2), or the mapped reference stands in the list (3). A mapped pel comes from row r * (64 + zoom) / 64 + shift, and so for its column.
 struct Picture {
     seed: u32,
     mask: u32,
@@ -151,7 +151,21 @@ fn map_plane(p: Picture, first: &[u16], plane: &mut [u16]) {
     }
 }
 
-fn make_planes(p: Picture, input: &mut [u16], reference: &mut [u16]) {
+// Pels as the list has them.
+fn next_pels(list: i32, plane: &mut [u16]) {
+    let mut i = 0;
+    while i < plane.len() {
+        plane[i] = (replay::next_word(list) % 65536) as u16;
+        i += 1;
+    }
+}
+
+fn make_planes(list: i32, p: Picture, input: &mut [u16], reference: &mut [u16]) {
+    if p.kind == 3 {
+        next_pels(list, &mut *reference);
+        map_plane(p, reference, &mut *input);
+        return;
+    }
     if p.kind == 1 {
         fill_plane(p.seed, p.mask, &mut *reference);
         map_plane(p, reference, &mut *input);
@@ -181,6 +195,7 @@ fn next_settings(list: i32) -> Settings {
         gm_type: byte_of(replay::next_word(list)),
         reference: byte_of(replay::next_word(list)),
         flag: byte_of(replay::next_word(list)),
+        trim: byte_of(replay::next_word(list)),
         start: size(list),
     }
 }
@@ -481,7 +496,12 @@ fn replay_one(list: i32, input: &mut [u16], reference: &mut [u16]) -> bool {
     let p = next_picture(list);
     let input_pels = least(area(p.width, p.height), input.len());
     let ref_pels = least(area(p.width, p.height), reference.len());
-    make_planes(p, &mut input[0..input_pels], &mut reference[0..ref_pels]);
+    make_planes(
+        list,
+        p,
+        &mut input[0..input_pels],
+        &mut reference[0..ref_pels],
+    );
     run_case(list, p, input, reference)
 }
 
@@ -517,6 +537,7 @@ struct Small {
     gm_type: u8,
     reference: u8,
     flag: u8,
+    trim: u8,
     start: usize,
     class: u8,
     other_type: u8,
@@ -537,6 +558,7 @@ fn right() -> Small {
         gm_type: 1,
         reference: 1,
         flag: 0,
+        trim: 0,
         start: 0,
         class: 0,
         other_type: 0,
@@ -578,42 +600,48 @@ fn with_code(s: Small, fault: u32) -> Small {
     if fault == 8 {
         t.flag = 2;
     }
+    if fault == 9 {
+        t.trim = 2;
+    }
     t
 }
 
 fn with_fault(s: Small, fault: u32) -> Small {
     let mut t = with_code(s, fault);
-    if fault == 9 {
+    if fault == 10 {
         t.reference = 0;
     }
-    if fault == 10 {
+    if fault == 11 {
         t.reference = 8;
     }
-    if fault == 11 {
+    if fault == 12 {
         t.start = 8;
     }
-    if fault == 12 {
+    if fault == 13 {
         t.number = 65537;
     }
-    if fault == 13 {
+    if fault == 14 {
         t.place = 8193;
     }
-    if fault == 14 {
+    if fault == 15 {
         t.half_room = 63;
     }
-    if fault == 15 {
+    if fault == 16 {
         t.word_room = 0;
     }
-    if fault == 16 {
+    if fault == 17 {
         t.block_room = 511;
     }
-    if fault == 17 {
+    if fault == 18 {
         t.header_room = 124;
     }
-    if fault == 18 {
+    if fault == 19 {
+        t.trim = 1;
+    }
+    if fault == 20 {
         t.frame = 0;
     }
-    if fault == 19 {
+    if fault == 21 {
         t.gm_type = 2;
     }
     t
@@ -626,25 +654,28 @@ fn row_of(fault: u32) -> u32 {
     if fault < 4 {
         return 2;
     }
-    if fault < 9 {
+    if fault < 10 {
         return 4;
     }
-    if fault < 11 {
+    if fault < 12 {
         return 5;
     }
-    if fault == 11 {
+    if fault == 12 {
         return 14;
     }
-    if fault == 12 {
+    if fault == 13 {
         return 7;
     }
-    if fault == 13 {
+    if fault == 14 {
         return 8;
     }
-    if fault < 18 {
+    if fault < 19 {
         return 3;
     }
-    if fault == 18 {
+    if fault == 19 {
+        return 15;
+    }
+    if fault == 20 {
         return 17;
     }
     6
@@ -685,6 +716,7 @@ fn small_job(
         gm_type: s.gm_type,
         reference: s.reference,
         flag: s.flag,
+        trim: s.trim,
         start: s.start,
     };
     let classes = [s.class; 1];
@@ -865,12 +897,12 @@ fn refusal_failed(first: u32, second: u32) -> u64
 }
 
 fn failed_with(first: u32) -> u64
-    requires { ⌜ first < 20 ⌝ }
-    ensures { λ r. ⌜ r ≤ 20 ⌝ }
+    requires { ⌜ first < 22 ⌝ }
+    ensures { λ r. ⌜ r ≤ 22 ⌝ }
 {
     let mut failed = 0u64;
     let mut second = first;
-    while second < 20 {
+    while second < 22 {
         failed += refusal_failed(first, second);
         second += 1;
     }
@@ -880,7 +912,7 @@ fn failed_with(first: u32) -> u64
 fn failed_refusals() -> u64 {
     let mut failed = 0u64;
     let mut first = 1u32;
-    while first < 20 {
+    while first < 22 {
         failed += failed_with(first);
         first += 1;
     }
@@ -896,5 +928,5 @@ fn main() {
     let count = replay::next_word(list) as u64;
     replay::print_count(b"job", count, failures(list, count));
     libc::close(list);
-    replay::print_count(b"refusal", 190, failed_refusals());
+    replay::print_count(b"refusal", 231, failed_refusals());
 }

@@ -152,6 +152,34 @@ pub fn words(random: &mut Random) -> Vec<u32> {
     (0..count).map(word).collect()
 }
 
+/// Words to trim: those above, or a field that moves as one, more or less evenly, with some words that move on their own.
+pub fn loose_words(random: &mut Random) -> Vec<u32> {
+    if random.one_in(4) {
+        return words(random);
+    }
+    let count = match random.below(20) {
+        0 => MOST_SAMPLES,
+        1..=8 => 3 + random.below(8),
+        _ => 3 + random.below(120),
+    };
+    let across = 1 + random.below(63);
+    let slopes: [i64; 6] = std::array::from_fn(|_| random.between(-4, 4));
+    let (loose, uneven) = (random.pick(&[0, 1, 3, 8]), random.pick(&[0, 1, 4, 12]));
+    let word = |place: usize| {
+        let (row, column) = ((place / across % 64) as i64, (place % across) as i64);
+        let free = random.below(32) < loose;
+        let mut motion = |at: usize| match free {
+            true => random.below(512) as i64,
+            false => {
+                let even = 223 + 8 * slopes[at] + slopes[at + 1] * column / 4 + slopes[at + 2] * row / 4;
+                (even + random.between(-uneven, uneven)).clamp(0, 446)
+            }
+        };
+        (row << 26 | column << 20 | motion(0) << 11 | motion(3) << 2) as u32
+    };
+    (0..count).map(word).collect()
+}
+
 /// Words whose sums of x·x and x·y are equal, so that an affine fit has two pivots of one magnitude to choose from:
 /// a block left of the diagonal, one right of it, as often as makes up for it, and blocks on the diagonal.
 fn words_of_a_tie(random: &mut Random) -> Vec<u32> {
@@ -206,6 +234,26 @@ pub fn samples(random: &mut Random) -> Vec<[f64; 4]> {
     made
 }
 
+/// Samples to trim: those above, or those of words to trim, of any size, some with a number whose square or whose
+/// square's sum is infinite, vanishes or isn't a number.
+pub fn loose_samples(random: &mut Random) -> Vec<[f64; 4]> {
+    if random.one_in(3) {
+        return samples(random);
+    }
+    let size = random.pick(&[1.0, 1.1, 1.1, 0.3, 1.0 / 97.0, 1e-160, 1e60, 1e140]);
+    let words = loose_words(random);
+    let mut made: Vec<_> = words.iter().map(|&word| oracle::sample_of(word).map(|number| size * number)).collect();
+    let extreme =
+        [1e150, -1e150, 1e154, -1.4e154, 1e155, 1e200, f64::MAX, f64::INFINITY, f64::NAN, 5e-324, -2e-308, 1e-170];
+    if !made.is_empty() && random.one_in(3) {
+        for _ in 0..1 + random.below(3) {
+            let (place, number) = (random.below(made.len()), random.below(4));
+            made[place][number] = random.pick(&extreme);
+        }
+    }
+    made
+}
+
 /// A number that sums and products treat in a way of their own.
 fn odd(random: &mut Random) -> f64 {
     let special = [
@@ -254,6 +302,26 @@ pub fn float(random: &mut Random) -> f64 {
         4 => 1.0 + small / 65_536.0 / 64.0,
         _ => small / 65_536.0,
     }
+}
+
+/// A binary64 to take the root of: any bits, a subnormal, a power of two, a square, a sum of two squares, or one of their
+/// neighbours, of either sign; or special.
+pub fn radicand(random: &mut Random) -> f64 {
+    let special = [0.0, -0.0, f64::INFINITY, f64::NEG_INFINITY, f64::NAN, f64::MAX, f64::MIN_POSITIVE];
+    let digits = random.below(54) as u32;
+    let root = (random.bits() >> 11 >> (53 - digits)) as f64;
+    let x = match random.below(8) {
+        0 => return random.pick(&special),
+        1 => return f64::from_bits(random.bits()),
+        2 => f64::from_bits(random.bits() >> 12 >> random.below(52)),
+        3 => f64::from_bits((random.below(2047) as u64) << 52),
+        4 => root * root,
+        5 => (root + 0.5) * (root + 0.5),
+        6 => root * root + float(random) * float(random),
+        _ => f64::from_bits(random.bits() >> 1),
+    };
+    let near = f64::from_bits(x.to_bits().wrapping_add_signed(random.between(-2, 2)));
+    if random.one_in(16) { -near } else { near }
 }
 
 /// Any i32, with a share of small ones, ends, and halves of the grid's steps.

@@ -6,7 +6,7 @@ use belt::{
     Buffers, Fitted, Frame, Kind as FrameKind, Lent, Model, MotionSample, Refusal, Report, Settings, StoredModel, Task,
 };
 use oracle::blocks::{self, BLOCK, Form, ONE, TWO};
-use oracle::{Models, practice};
+use oracle::{Models, SINGULAR, TOO_FEW, practice};
 use std::fmt::{Debug, Write};
 
 /// An input that is being made, in words for the one that shows a difference.
@@ -29,18 +29,22 @@ pub struct Kind {
     pub compare: fn(&mut Case) -> Result<(), String>,
 }
 
-pub const KINDS: [Kind; 23] = [
+pub const KINDS: [Kind; 29] = [
     Kind { name: "search", share: 4, compare: search },
     Kind { name: "fit translation", share: 4, compare: |case| fit(case, 1) },
     Kind { name: "fit rotation-zoom", share: 4, compare: |case| fit(case, 2) },
     Kind { name: "fit affine", share: 4, compare: |case| fit(case, 3) },
     Kind { name: "quantized model", share: 6, compare: quantized_model },
+    Kind { name: "trimmed fit", share: 8, compare: trimmed_fit },
+    Kind { name: "trimmed model", share: 8, compare: trimmed_model },
     Kind { name: "score", share: 4, compare: score },
     Kind { name: "samples, translation", share: 4, compare: |case| fit_samples(case, 1) },
     Kind { name: "samples, rotation-zoom", share: 6, compare: |case| fit_samples(case, 2) },
     Kind { name: "samples, affine", share: 6, compare: |case| fit_samples(case, 3) },
     Kind { name: "samples, quantized model", share: 6, compare: quantized_samples },
     Kind { name: "samples, score", share: 4, compare: score_samples },
+    Kind { name: "samples, trimmed fit", share: 8, compare: trimmed_fit_samples },
+    Kind { name: "samples, trimmed model", share: 8, compare: trimmed_model_samples },
     Kind { name: "quantize_global_param", share: 8, compare: grid },
     Kind { name: "header written", share: 8, compare: header_written },
     Kind { name: "header read", share: 6, compare: header_read },
@@ -48,11 +52,13 @@ pub const KINDS: [Kind; 23] = [
     Kind { name: "key frame", share: 4, compare: key_frame },
     Kind { name: "price list", share: 1, compare: price_list },
     Kind { name: "price of a frame", share: 4, compare: frame_price },
-    Kind { name: "job", share: 6, compare: job },
+    Kind { name: "job", share: 6, compare: |case| job(case, 0) },
+    Kind { name: "job that trims", share: 6, compare: |case| job(case, 1) },
     Kind { name: "blocks of form 2, by docs/RULES.md", share: 4, compare: stored_frame },
     Kind { name: "blocks of form 1, by docs/RULES.md", share: 4, compare: old_frame },
     Kind { name: "shear, by clause 7.11.3.6", share: 6, compare: shear },
     Kind { name: "practice belt, by docs/RULES.md", share: 4, compare: practice },
+    Kind { name: "roots, by the processor's", share: 4, compare: roots },
 ];
 
 /// The sides of practice belts that are likely to differ.
@@ -74,9 +80,10 @@ fn same_list<T: PartialEq + Debug>(what: &str, library: &[T], rust: &[T]) -> Res
     }
 }
 
-/// The bits of a number, all not-a-numbers being equal.
+/// The bits of a number, all not-a-numbers being equal. Chosen among bits: a compiler may take one not-a-number for
+/// another.
 fn bits(value: f64) -> u64 {
-    oracle::canonical(value).to_bits()
+    if value.is_nan() { 0x7FF8_0000_0000_0000 } else { value.to_bits() }
 }
 
 fn samples(words: &[u32]) -> Vec<[f64; 4]> {
@@ -90,7 +97,6 @@ fn row<T>(answer: Result<T, Refusal>) -> Result<T, u32> {
 
 /// The rows that the Rust's own refusals stand for.
 const TOO_SHORT: u32 = 3;
-const SINGULAR: u32 = 6;
 const ENDS_FIRST: u32 = 9;
 /// Those that only the rules have.
 const OFF_GRID: u32 = 7;
@@ -194,6 +200,32 @@ fn fit(case: &mut Case, kind: u8) -> Result<(), String> {
     same("bits of the numbers", ours, theirs.ok_or(SINGULAR))
 }
 
+fn trimmed_fit(case: &mut Case) -> Result<(), String> {
+    let words = inputs::loose_words(&mut case.random);
+    let kind = 1 + case.random.below(3) as u8;
+    case.note("type", kind);
+    case.note("words", &words);
+    let ours = row(belt::fit_trimmed(kind, &words));
+    case.accepted = ours.is_ok();
+    let ours = ours.map(|trimmed| (trimmed.fitted.gm_type, trimmed.fitted.numbers.map(bits), trimmed.used));
+    let theirs = oracle::trimmed_or_row(kind, false, &samples(&words));
+    let theirs = theirs.map(|trimmed| (kind, carried(kind, trimmed.model), trimmed.used));
+    same("bits of the numbers, samples used", ours, theirs)
+}
+
+fn trimmed_model(case: &mut Case) -> Result<(), String> {
+    let words = inputs::loose_words(&mut case.random);
+    let (kind, flag) = (1 + case.random.below(3) as u8, case.random.below(2) as u8);
+    case.note("type, flag", (kind, flag));
+    case.note("words", &words);
+    let ours = row(belt::quantize_trimmed(kind, flag, &words));
+    case.accepted = ours.is_ok();
+    let ours = ours.map(|trimmed| (trimmed.model, trimmed.used));
+    let theirs = oracle::trimmed_or_row(kind, flag == 1, &samples(&words));
+    let theirs = theirs.map(|trimmed| (Model(trimmed.params), trimmed.used));
+    same("model, samples used", ours, theirs)
+}
+
 /// Samples with the layout of the library.
 fn lent(samples: &[[f64; 4]]) -> Vec<MotionSample> {
     samples.iter().map(|&[x, y, u, v]| MotionSample { x, y, u, v }).collect()
@@ -266,6 +298,32 @@ fn score_samples(case: &mut Case) -> Result<(), String> {
     let params = to_score(case);
     let ours = belt::mean_sq_residual_samples(&Model(params), &lent(&samples)).map(bits);
     same("bits of the score", ours, Ok(bits(oracle::score(&params, &samples))))
+}
+
+fn trimmed_fit_samples(case: &mut Case) -> Result<(), String> {
+    let samples = inputs::loose_samples(&mut case.random);
+    let kind = 1 + case.random.below(3) as u8;
+    case.note("type", kind);
+    case.note("samples", &samples);
+    let ours = row(belt::fit_trimmed_samples(kind, &lent(&samples)));
+    case.accepted = ours.is_ok();
+    let ours = ours.map(|trimmed| (trimmed.fitted.gm_type, trimmed.fitted.numbers.map(bits), trimmed.used));
+    let theirs = oracle::trimmed_or_row(kind, false, &samples);
+    let theirs = theirs.map(|trimmed| (kind, carried(kind, trimmed.model), trimmed.used));
+    same("bits of the numbers, samples used", ours, theirs)
+}
+
+fn trimmed_model_samples(case: &mut Case) -> Result<(), String> {
+    let samples = inputs::loose_samples(&mut case.random);
+    let (kind, flag) = (1 + case.random.below(3) as u8, case.random.below(2) as u8);
+    case.note("type, flag", (kind, flag));
+    case.note("samples", &samples);
+    let ours = row(belt::quantize_trimmed_samples(kind, flag, &lent(&samples)));
+    case.accepted = ours.is_ok();
+    let ours = ours.map(|trimmed| (trimmed.model, trimmed.used));
+    let theirs = oracle::trimmed_or_row(kind, flag == 1, &samples);
+    let theirs = theirs.map(|trimmed| (Model(trimmed.params), trimmed.used));
+    same("model, samples used", ours, theirs)
 }
 
 fn score(case: &mut Case) -> Result<(), String> {
@@ -495,14 +553,22 @@ fn frame_number(random: &mut Random) -> u16 {
 
 /// The composition of the Rust's answers: what a job reports and leaves.
 fn job_of_the_rust(pair: &Pair, settings: Settings, header: &Header, left: &mut Buffers) -> Result<Report, u32> {
-    let Settings { frame, gm_type, reference, flag, start } = settings;
+    let Settings { frame, gm_type, reference, flag, trim, start } = settings;
+    if trim == 1 && oracle::sample_count(pair.width, pair.height) < oracle::least_samples(gm_type) {
+        return Err(TOO_FEW);
+    }
     if frame == blocks::CLOSED {
         return Err(CLOSED);
     }
     let words = searched(pair, left);
     let samples = samples(&words);
-    let fitted = oracle::fit(gm_type, &samples).ok_or(SINGULAR)?;
-    let model = oracle::quantize_model(&fitted, gm_type, flag == 1, &samples);
+    let model = match trim {
+        1 => oracle::trimmed_or_row(gm_type, flag == 1, &samples)?.params,
+        _ => {
+            let fitted = oracle::fit(gm_type, &samples).ok_or(SINGULAR)?;
+            oracle::quantize_model(&fitted, gm_type, flag == 1, &samples)
+        }
+    };
     let score = oracle::score(&model, &samples);
     let place = usize::from(reference) - 1;
     let mut full = Header { flag, ..*header };
@@ -516,7 +582,7 @@ fn job_of_the_rust(pair: &Pair, settings: Settings, header: &Header, left: &mut 
     Ok(Report { types: full.types, models: full.params.map(StoredModel), score, bits, samples: words.len() })
 }
 
-fn job(case: &mut Case) -> Result<(), String> {
+fn job(case: &mut Case, trim: u8) -> Result<(), String> {
     let pair = pair(case);
     let header = header(case);
     let random = &mut case.random;
@@ -525,6 +591,7 @@ fn job(case: &mut Case) -> Result<(), String> {
         gm_type: 1 + random.below(3) as u8,
         reference: 1 + random.below(7) as u8,
         flag: header.flag,
+        trim,
         start: start(random),
     };
     let mut ours = buffers(random, pair.width, pair.height);
@@ -719,6 +786,15 @@ fn shear(case: &mut Case) -> Result<(), String> {
     let ours =
         belt::setup_shear(kind, &model).map(|shear| (shear.valid, [shear.alpha, shear.beta, shear.gamma, shear.delta]));
     same("shear", ours.ok(), oracle::shear(&model))
+}
+
+/// Roots of numbers of every kind, against the processor's.
+fn roots(case: &mut Case) -> Result<(), String> {
+    for _ in 0..200 {
+        let x = inputs::radicand(&mut case.random);
+        same(&format!("root of {x:?}, bits {:016X}", x.to_bits()), bits(belt::root(x)), bits(x.sqrt()))?;
+    }
+    Ok(())
 }
 
 /// A practice belt in guarded buffers, against a writing of the rule.

@@ -1,14 +1,16 @@
 //! The lists for `worked_fit`: fits, quantized models and scores of lists of words; systems for `solve_linear`;
-//! grid numbers; lists of words in several orders; lists of samples of any numbers. The arguments are the five files to write.
+//! grid numbers; lists of words in several orders; lists of samples of any numbers; fits after trimming. The arguments are
+//! the six files to write.
 //! A list of words is remade from a seed: each word of the generator, its bits outside a mask cleared, with fixed bits set.
 //! Of a list of samples some are written out, and come round again up to its count.
 
+use oracle::SINGULAR;
 use oracle::list::{Lcg, List, MOST_SAMPLES, tilted_words};
 use std::{env, io};
 
 const SEED: u32 = 6;
 const TOO_MANY: u32 = 1;
-const SINGULAR: u32 = 6;
+const BAD_CODE: u32 = 4;
 
 /// Counts that every shape of list is tried with, and how many random ones besides.
 const COUNTS: [usize; 16] = [0, 1, 2, 3, 4, 5, 6, 7, 8, 9, 16, 33, 125, 500, 1000, MOST_SAMPLES];
@@ -53,13 +55,15 @@ const SHAPES: [(u32, u32); 18] = [
 
 fn main() -> io::Result<()> {
     let mut paths = env::args().skip(1);
-    let mut path =
-        || paths.next().expect("the arguments are the files of fits, systems, grid numbers, orders and samples");
+    let mut path = || {
+        paths.next().expect("the arguments are the files of fits, systems, grid numbers, orders, samples and trimming")
+    };
     fits().write(path())?;
     systems().write(path())?;
     grid_numbers().write(path())?;
     orders().write(path())?;
-    samples().write(path())
+    samples().write(path())?;
+    trimmed().write(path())
 }
 
 fn fits() -> List {
@@ -132,6 +136,104 @@ fn orders() -> List {
     list
 }
 
+/// Words of the first row of blocks, with motions u in eighths and none down.
+fn across(eighths: &[i32]) -> Vec<u32> {
+    let word = |(place, &u): (usize, &i32)| (place as u32) << 20 | 223 << 11 | ((223 + u) as u32) << 2;
+    eighths.iter().enumerate().map(word).collect()
+}
+
+/// Fits after trimming. For each: the words, a type and a flag, at times no such codes; the refusal of the fit and the
+/// samples that it used, and the values that the type carries; the refusal of the quantized model, the samples, the model.
+fn trimmed() -> List {
+    let lcg = &mut Lcg(SEED);
+    let mut cases: Vec<(Vec<u32>, u8, u8)> = Vec::new();
+    // a residual is dropped; too few would stay; exactly three medians; exactly 1.0, and just above it
+    for eighths in [
+        &[0, 0, 0, 0, 80][..],
+        &[0, 0, 0, 80, -40],
+        &[0, 0, 0, 80],
+        &[8, -8, 0, 0, 0, 0, 0, 0],
+        &[9, -9, 0, 0, 0, 0, 0, 0],
+        &[-27, 52, 15, 21, 7, -2],
+    ] {
+        cases.extend([0, 1].map(|flag| (across(eighths), 1, flag)));
+    }
+    // the samples that stay lie in one row: a second fit that is refused
+    let mut lined = across(&[0; 10]);
+    lined
+        .extend([423, 23, 423, 23].into_iter().zip(3..).map(|(u, column)| 1 << 26 | column << 20 | 223 << 11 | u << 2));
+    cases.extend([1, 2, 3].map(|kind| (lined.clone(), kind, 1)));
+    for kind in 1..=3 {
+        let least = oracle::least_samples(kind);
+        // one sample less than the least, the least, and one place
+        cases.push((across(&vec![0; least - 1]), kind, 1));
+        cases.push((across(&vec![5; least]), kind, 1));
+        cases.push((vec![across(&[3])[0]; least], kind, 1));
+        for count in (least..least + 9).chain([16, 25, 60, 125]) {
+            for loose in [0, 3, 9] {
+                cases.push((loose_words(lcg, count, loose), kind, lcg.below(2) as u8));
+            }
+        }
+        cases.push((loose_words(lcg, MOST_SAMPLES, 7), kind, 1));
+        cases.push((Lcg(SEED).words(60), kind, 0));
+    }
+    // rows 1, 4 and 15, also two at once
+    let many = vec![across(&[0])[0]; MOST_SAMPLES + 1];
+    cases.extend([(many.clone(), 1, 0), (many, 0, 2), (Vec::new(), 0, 0), (Vec::new(), 4, 1), (Vec::new(), 1, 2)]);
+    cases.extend([1, 2, 3].map(|kind| (Vec::new(), kind, 0)));
+    let mut list = List::default();
+    list.push(cases.len() as u32);
+    for (words, kind, flag) in &cases {
+        push_trimmed(&mut list, words, *kind, *flag);
+    }
+    list
+}
+
+/// Words of a field that moves as one, in places that rise, but for `loose` of each 32, which move on their own.
+fn loose_words(lcg: &mut Lcg, count: usize, loose: u16) -> Vec<u32> {
+    let across = (count as f64).sqrt().ceil() as usize;
+    let slopes: [i32; 6] = std::array::from_fn(|_| i32::from(lcg.below(9)) - 4);
+    let word = |place: usize| {
+        let (row, column) = ((place / across) as i32, (place % across) as i32);
+        let free = lcg.below(32) < loose;
+        let mut motion = |at: usize| match free {
+            true => u32::from(lcg.below(447)),
+            false => {
+                let even = 8 * slopes[at] + slopes[at + 1] * column / 4 + slopes[at + 2] * row / 4;
+                (223 + even + i32::from(lcg.below(3)) - 1).clamp(0, 446) as u32
+            }
+        };
+        (row as u32) << 26 | (column as u32) << 20 | motion(0) << 11 | motion(3) << 2
+    };
+    (0..count).map(word).collect()
+}
+
+fn push_trimmed(list: &mut List, words: &[u32], kind: u8, flag: u8) {
+    list.push(words.len() as u32);
+    words.iter().for_each(|&word| list.push(word));
+    list.push(u32::from(kind));
+    list.push(u32::from(flag));
+    push_after_trimming(list, kind, flag, &words.iter().map(|&word| oracle::sample_of(word)).collect::<Vec<_>>());
+}
+
+/// The fit after trimming and its quantized model: of each the refusal, the samples used and the numbers.
+fn push_after_trimming(list: &mut List, kind: u8, flag: u8, samples: &[[f64; 4]]) {
+    let answer = |flag: u8| match samples.len() {
+        count if count > MOST_SAMPLES => Err(TOO_MANY),
+        _ if !(1..=3).contains(&kind) || flag > 1 => Err(BAD_CODE),
+        _ => oracle::trimmed_or_row(kind, flag == 1, samples),
+    };
+    // the values that the replay reads for a code: two for no type and a translation, four, six
+    let carried = [2, 2, 4, 6, 6][usize::from(kind)];
+    let (fit, model) = (answer(0), answer(flag));
+    list.push(fit.map_or_else(|refusal| refusal, |_| 0));
+    list.push(fit.map_or(0, |trimmed| trimmed.used as u32));
+    fit.map_or([0.0; 6], |trimmed| trimmed.model)[..carried].iter().for_each(|&value| list.push_float(value));
+    list.push(model.map_or_else(|refusal| refusal, |_| 0));
+    list.push(model.map_or(0, |trimmed| trimmed.used as u32));
+    model.map_or([0; 6], |trimmed| trimmed.params).iter().for_each(|&param| list.push_signed(param));
+}
+
 /// Numbers that sums and products treat in a way of their own.
 const ODD: [f64; 14] = [
     f64::NAN,
@@ -187,6 +289,19 @@ fn samples() -> List {
             cases.push((corners, made.collect()));
         }
     }
+    // a residual that is large, one whose square is infinite, one that is not-a-number, and too few with one such
+    for (count, u) in [(4, 1e150), (4, 1e200), (4, f64::NAN), (3, f64::NAN)] {
+        let mut made = vec![[0.0; 4]; count];
+        made[0][2] = u;
+        cases.push((count, made));
+    }
+    // samples that lie on a model but for a few, which the trim drops, about the least lists
+    for count in (4..=12).chain([16, 25, 60]) {
+        for loose in [0, 3, 9] {
+            let words = loose_words(lcg, count, loose);
+            cases.push((count, words.iter().map(|&word| oracle::sample_of(word).map(|number| 1.1 * number)).collect()));
+        }
+    }
     let mut list = List::default();
     list.push(cases.len() as u32);
     for (case, (count, written)) in cases.iter().enumerate() {
@@ -199,6 +314,7 @@ fn samples() -> List {
                 0..=MOST_SAMPLES => push_fit(&mut list, kind, case % 2 == 1, &samples),
                 _ => push_refusal(&mut list, [2, 4, 6][usize::from(kind) - 1], TOO_MANY),
             }
+            push_after_trimming(&mut list, kind, (case % 2) as u8, &samples);
         }
     }
     list

@@ -1,8 +1,8 @@
 //! The list for `worked_job`: jobs, each answered by the composition of the Rust's own functions. The argument is the
 //! file to write. Frame pairs are remade from a seed; models, prior and answers are stored.
 //!
-//! A count, then for each case: seed, mask, width, height, kind, four numbers of the picture; frame number, type,
-//! reference, flag, start; six types and 36 numbers; the prior's 42; then the report (refusal, samples, seven types, 42
+//! A count, then for each case: seed, mask, width, height, kind, four numbers of the picture, of kind 3 the pels of its
+//! reference; frame number, type, reference, flag, trim, start; six types and 36 numbers; the prior's 42; then the report (refusal, samples, seven types, 42
 //! numbers, score in two words, bits), the blocks' length in words and their words, the header's length in bytes and
 //! its bytes among `UNTOUCHED` bits, zeros up to a whole word.
 
@@ -15,7 +15,12 @@ const SEED: u32 = 7;
 /// The byte that a replay's header buffer is full of.
 const UNTOUCHED: u8 = 165;
 
-/// How the input plane comes from the reference: 0 on its own, 1 mapped, 2 mapped with the two planes exchanged.
+/// Refusals of a job that the composition meets.
+const SINGULAR: u32 = 6;
+const TOO_FEW: u32 = 15;
+
+/// How the input plane comes from the reference: 0 on its own, 1 mapped, 2 mapped with the two planes exchanged, 3 mapped
+/// from a bowl.
 struct Picture {
     seed: u32,
     mask: u16,
@@ -31,7 +36,7 @@ impl Picture {
     /// Input and reference.
     fn planes(&self) -> (Vec<u16>, Vec<u16>) {
         let mut lcg = Lcg(self.seed);
-        let first = lcg.plane(self.width, self.height, self.mask);
+        let first = if self.kind == 3 { self.bowl() } else { lcg.plane(self.width, self.height, self.mask) };
         if self.kind == 0 {
             let second = lcg.plane(self.width, self.height, self.mask);
             return (first, second);
@@ -43,7 +48,44 @@ impl Picture {
             .flat_map(|r| (0..self.width).map(move |c| (r, c)))
             .map(|(r, c)| first[at(r, 0, self.height) * self.width + at(c, 1, self.width)])
             .collect();
-        if self.kind == 1 { (mapped, first) } else { (first, mapped) }
+        if self.kind == 2 { (first, mapped) } else { (mapped, first) }
+    }
+
+    /// Smooth, and nowhere the same along a line: every block's place can be found.
+    fn bowl(&self) -> Vec<u16> {
+        let square = |at: usize, middle: i32| (at as i32 - middle).pow(2);
+        let pel = |i: usize| (square(i / self.width, 31) + 2 * square(i % self.width, 29)) as u16;
+        (0..self.width * self.height).map(pel).collect()
+    }
+}
+
+/// What a job asks beside its picture.
+struct Asked {
+    frame: u16,
+    kind: u8,
+    reference: usize,
+    high: bool,
+    trims: bool,
+    start: usize,
+    types: [u8; 7],
+    params: Models,
+    prior: Models,
+}
+
+impl Asked {
+    fn random(kind: u8, trims: bool, lcg: &mut Lcg) -> Self {
+        let frame = lcg.step().max(1);
+        let reference = 1 + usize::from(lcg.below(7));
+        let high = lcg.below(2) == 1;
+        let start = usize::from(lcg.below(8));
+        let (types, params) = models(high, lcg);
+        Self { frame, kind, reference, high, trims, start, types, params, prior: prior(lcg) }
+    }
+
+    /// All other models and the prior at the identity.
+    fn plain(kind: u8, trims: bool) -> Self {
+        let (types, params, prior) = ([0; 7], [IDENTITY; 7], [IDENTITY; 7]);
+        Self { frame: 5, kind, reference: 7, high: true, trims, start: 5, types, params, prior }
     }
 }
 
@@ -52,11 +94,13 @@ fn main() -> io::Result<()> {
     let mut lcg = Lcg(SEED);
     let mut list = List::default();
     let pictures = pictures(&mut lcg);
-    list.push(3 * pictures.len() as u32);
-    for picture in &pictures {
-        for kind in 1..=3 {
-            push_case(&mut list, picture, kind, &mut lcg);
+    let bowl = bowl();
+    list.push(6 * (pictures.len() + 1) as u32);
+    for trims in [false, true] {
+        for picture in &pictures {
+            (1..=3).for_each(|kind| push_case(&mut list, picture, Asked::random(kind, trims, &mut lcg)));
         }
+        (1..=3).for_each(|kind| push_case(&mut list, &bowl, Asked::plain(kind, trims)));
     }
     list.write(path)
 }
@@ -80,19 +124,22 @@ fn pictures(lcg: &mut Lcg) -> Vec<Picture> {
         .collect()
 }
 
-fn push_case(list: &mut List, picture: &Picture, kind: u8, lcg: &mut Lcg) {
-    let frame = lcg.step();
-    let reference = 1 + usize::from(lcg.below(7));
-    let high = lcg.below(2) == 1;
-    let start = usize::from(lcg.below(8));
-    let (mut types, mut params) = models(high, lcg);
-    let prior = prior(lcg);
+/// A bowl that is drawn together by a sixteenth.
+fn bowl() -> Picture {
+    Picture { seed: 0, mask: 0, width: 64, height: 64, kind: 3, zoom: [4; 2], shift: [0; 2] }
+}
 
+fn push_case(list: &mut List, picture: &Picture, asked: Asked) {
+    let Asked { frame, kind, reference, high, trims, start, mut types, mut params, prior } = asked;
     for word in [picture.seed, u32::from(picture.mask), picture.width as u32, picture.height as u32, picture.kind] {
         list.push(word);
     }
     picture.zoom.iter().chain(&picture.shift).for_each(|&n| list.push(n));
-    for word in [u32::from(frame), u32::from(kind), reference as u32, u32::from(high), start as u32] {
+    let (input, plane) = picture.planes();
+    if picture.kind == 3 {
+        plane.iter().for_each(|&pel| list.push(u32::from(pel)));
+    }
+    for word in [u32::from(frame), u32::from(kind), reference as u32, u32::from(high), u32::from(trims), start as u32] {
         list.push(word);
     }
     let others = (0..7).filter(|&i| i != reference - 1);
@@ -100,18 +147,19 @@ fn push_case(list: &mut List, picture: &Picture, kind: u8, lcg: &mut Lcg) {
     others.for_each(|i| params[i].iter().for_each(|&p| list.push_signed(p)));
     prior.iter().flatten().for_each(|&p| list.push_signed(p));
 
-    let (input, plane) = picture.planes();
     let count = oracle::sample_count(picture.width, picture.height);
     let classes: Vec<u8> = (0..count).map(|i| (i % 5) as u8).collect();
     let words =
         if count == 0 { Vec::new() } else { oracle::sample_words(&input, &plane, picture.width, picture.height) };
     let samples: Vec<[f64; 4]> = words.iter().map(|&word| oracle::sample_of(word)).collect();
-    let Some(fitted) = oracle::fit(kind, &samples) else {
-        list.push(6);
-        (0..1 + 7 + 42 + 2 + 1 + 1 + 1).for_each(|_| list.push(0));
-        return;
+    let quantized = match own_model(kind, high, trims, &samples) {
+        Ok(quantized) => quantized,
+        Err(refusal) => {
+            list.push(refusal);
+            (0..1 + 7 + 42 + 2 + 1 + 1 + 1).for_each(|_| list.push(0));
+            return;
+        }
     };
-    let quantized = oracle::quantize_model(&fitted, kind, high, &samples);
     let mut stored = quantized;
     if kind == 1 {
         stored.swap(0, 1);
@@ -132,6 +180,18 @@ fn push_case(list: &mut List, picture: &Picture, kind: u8, lcg: &mut Lcg) {
     push_bytes(list, &blocks);
     list.push(header.len() as u32);
     push_bytes(list, &header);
+}
+
+/// The fit of a job on the grid, after trimming or of all samples.
+fn own_model(kind: u8, high: bool, trims: bool, samples: &[[f64; 4]]) -> Result<[i32; 6], u32> {
+    if trims && samples.len() < oracle::least_samples(kind) {
+        return Err(TOO_FEW);
+    }
+    let model = match trims {
+        true => oracle::trimmed(kind, high, samples).map(|trimmed| trimmed.params),
+        false => oracle::fit(kind, samples).map(|fitted| oracle::quantize_model(&fitted, kind, high, samples)),
+    };
+    model.ok_or(SINGULAR)
 }
 
 /// Bytes as words, zeros up to a whole one.

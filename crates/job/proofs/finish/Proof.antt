@@ -5,6 +5,9 @@ use Rattle.job.proofs.Ending.{finish-refused, finish-written}
 use Rattle.job.proofs.finish.Statement.{statement}
 use Rattle.job.proofs.finish.Tie as tie
 
+models-of-requires : tie.Need-models-of-requires
+models-of-requires c κs = c .before .before .before .before .before .pre
+
 returns : tie.Need-returns
 returns c =
     let a = c .before .before .before .before .before .before .before .before .before .args in
@@ -19,4 +22,4 @@ returns-2 c =
     (c .before .before .before .before .before .before .before .if1 .left) (c .before .before .before .before .write-out .ensures)
 
 pub finish-spec : {M : Type 1} → statement M
-finish-spec = tie.close (tie.spec (search needs) (search needs) returns (search needs) (search needs) (search needs) returns-2)
+finish-spec = tie.close (tie.spec models-of-requires (search needs) returns (search needs) (search needs) (search needs) returns-2)

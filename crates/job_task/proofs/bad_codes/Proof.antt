@@ -37,14 +37,27 @@ returns-4 c =
 
 returns-5 : tie.Need-returns-5
 returns-5 c =
-    let b = c .before .before .before .before .before .before .before in
-    let t = c .before .before .before .before .before .before .before .before .before .before .before .args .settings .«gm_type» in
+    let b = c .before .before .before .before .before .before .before .before in
+    let s = b .before .before .before .before .args .settings in
     rw (
       (sym (b .before .some-over .ensures) ∙ b .if1 .left),
-      ne-eqb t 0 (c .before .before .before .before .before .if2 .left),
-      le-ltb 3 t (c .before .before .before .if3 .left),
-      (sym (c .before .before .types-over .ensures) ∙ c .before .if4 .left),
+      ne-eqb (s .«gm_type») 0 (c .before .before .before .before .before .before .if2 .left),
+      le-ltb 3 (s .«gm_type») (c .before .before .before .before .if3 .left),
+      (sym (c .before .before .before .types-over .ensures) ∙ c .before .before .if4 .left),
+      lt-ltb 1 (s .flag) (c .if5 .taken),
+    )
+
+returns-6 : tie.Need-returns-6
+returns-6 c =
+    let b = c .before .before .before .before .before .before .before .before .before in
+    let s = b .before .before .before .before .args .settings in
+    rw (
+      (sym (b .before .some-over .ensures) ∙ b .if1 .left),
+      ne-eqb (s .«gm_type») 0 (c .before .before .before .before .before .before .before .if2 .left),
+      le-ltb 3 (s .«gm_type») (c .before .before .before .before .before .if3 .left),
+      (sym (c .before .before .before .before .types-over .ensures) ∙ c .before .before .before .if4 .left),
+      le-ltb 1 (s .flag) (c .before .if5 .left),
     )
 
 pub bad-codes-spec : {M : Type 1} → statement M
-bad-codes-spec = tie.close (tie.spec (search needs) returns returns-2 returns-3 (search needs) returns-4 returns-5)
+bad-codes-spec = tie.close (tie.spec (search needs) returns returns-2 returns-3 (search needs) returns-4 returns-5 returns-6)

@@ -1,0 +1,3 @@
+pub mod Median
+pub mod Inner
+pub mod Same

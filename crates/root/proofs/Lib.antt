@@ -1,0 +1,10 @@
+pub mod Squares
+pub mod Halves
+pub mod Scaling
+pub mod Patterns
+pub mod Ends
+pub mod Normalised
+pub mod Rounded
+pub mod Signs
+pub mod Rising
+pub mod Worked

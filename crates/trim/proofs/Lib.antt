@@ -1,0 +1,9 @@
+pub mod Passing
+pub mod Indices
+pub mod Unpacked
+pub mod Mapped
+pub mod NoSign
+pub mod Under
+pub mod Answers
+pub mod FirstFit
+pub mod LastFit

@@ -1,0 +1,37 @@
+-- `trim::store`: the four numbers from 4 i on, where there is room.
+-- Assumes nothing.
+use borrow.Author.Needs.{needs}
+use borrow.Author.Tests.{lt-ltb, le-ltb}
+use Rattle.trim.specs.Inner.{stored}
+use Rattle.trim.proofs.store.Statement.{statement}
+use Rattle.trim.proofs.store.Tie as tie
+
+returns : tie.Need-returns
+unfolding stored
+returns c = rw (lt-ltb _ _ (c .if1 .taken))
+
+returns-2 : tie.Need-returns-2
+unfolding stored
+returns-2 c = rw (le-ltb _ _ (c .if1 .left))
+
+pub store-spec : {M : Type 1} → statement M
+store-spec =
+    tie.close
+    (tie.spec
+    (search needs)
+    (search needs)
+    (search needs)
+    (search needs)
+    (search needs)
+    (search needs)
+    (search needs)
+    (search needs)
+    (search needs)
+    (search needs)
+    (search needs)
+    (search needs)
+    (search needs)
+    (search needs)
+    (search needs)
+    returns
+    returns-2)

@@ -1,0 +1,527 @@
+// A fit after trimming: the fit of all samples, how far each sample lies from it, the samples that
+// stay, and the fit of those if they are enough (`candidate_for`, encoder/global_motion.rs;
+// docs/RULES.md, 'Trimming', rows 1, 4, 6, 15 and 16). A call unpacks its samples into numbers of its
+// own, so sample words and lent samples share one code. Nothing is moved: a sample is passed over where
+// its root is above a limit. Before the first fit every root is 0.0 and so is the limit.
+
+use fit::AffineSums;
+use fit::Fitted;
+use fit::NO_SUCH_CODE;
+use fit::ROTZOOM;
+use fit::RotZoomSums;
+use fit::TRANSLATION;
+use fit::TranslationSums;
+use quantize::Quantized;
+use quantize::Refitting;
+use sample::MOST_SAMPLES;
+use sample::MotionSample;
+use score::ContinuousModel;
+ghost use mathlib.Core.Path.{_≡_};
+ghost use mathlib.Core.List.{map};
+ghost use Prim.Native.Nat.{_≤_, _<_};
+ghost use lib.ListN.{length, take};
+ghost use Rattle.laws.specs.Buffer.{onto};
+ghost use Rattle.laws.specs.Loops.{fold};
+ghost use Rattle.sample.specs.Word.{mostSamples};
+ghost use Rattle.sample.specs.Sample.{sampleOf};
+ghost use Rattle.median.specs.Inner.{Findable};
+ghost use Rattle.median.specs.Median.{allFinite};
+ghost use Rattle.fit.specs.Sums.{reading, sumsOf, translationTotals, rotZoomTotals, affineTotals};
+ghost use Rattle.fit.specs.Fitted.{fitFrom};
+ghost use Rattle.quantize.specs.Quantize.{quantizedFrom};
+ghost use Rattle.quantize.specs.Inner.{refitStep};
+ghost use Rattle.trim.specs.Trim.{leastOf, continuousFit, residualsFrom, cutoff, fewRefusal, trimmedFrom, trimmedModelFrom};
+ghost use Rattle.trim.specs.Inner.{itself, mostNumbers, sampleAt, upTo, samplesIn, stored, under, refusedCut, cutOf};
+ghost use Rattle.trim.specs.Inner.{listRefusal, modelRefusal, refusedModel, modelAs, Under, Untrimmed, Rooted, Cuts};
+
+// Rows of the rules' table.
+pub const TOO_SHORT: u32 = 15;
+
+pub const NOT_FINITE: u32 = 16;
+
+// The fewest samples of each type.
+const LEAST_TRANSLATION: usize = 4;
+
+const LEAST_ROTZOOM: usize = 6;
+
+const LEAST_AFFINE: usize = 8;
+
+// The pattern of infinity.
+const INFINITE: u64 = 0x7ff0_0000_0000_0000;
+
+// The last fit made, or a refusal, and how many samples it used.
+pub struct Trimmed {
+    pub fitted: Fitted,
+    pub used: u32,
+}
+
+// A row of the table of refusals (0: none), how many samples the last fit used, and its model on the
+// grid, x first.
+#[repr(C)]
+pub struct TrimmedModel {
+    pub refusal: u32,
+    pub used: u32,
+    pub params: [i32; 6],
+}
+
+// The same as `Trimmed`, and the limit that the roots of the used samples are under.
+pub struct Cut {
+    pub fitted: Fitted,
+    pub used: u32,
+    pub limit: f64,
+}
+
+// ---- samples in the call's own memory
+
+// Sample i takes its place among the numbers. There is room for 4,096.
+pub fn store(numbers: &mut [f64; 16384], i: usize, s: MotionSample)
+    ensures { λ _. ⌜ now (numbers .exit) ≡ stored (now (numbers .entry)) i s ⌝ }
+{
+    if i < MOST_SAMPLES {
+        numbers[4 * i] = s.x;
+        numbers[4 * i + 1] = s.y;
+        numbers[4 * i + 2] = s.u;
+        numbers[4 * i + 3] = s.v;
+    }
+}
+
+fn sample_at(numbers: &[f64; 16384], i: usize) -> MotionSample
+    requires { ⌜ i < mostSamples ⌝ }
+    ensures { λ r. ⌜ r ≡ sampleAt (now (numbers .entry)) i ⌝ }
+{
+    MotionSample {
+        x: numbers[4 * i],
+        y: numbers[4 * i + 1],
+        u: numbers[4 * i + 2],
+        v: numbers[4 * i + 3],
+    }
+}
+
+// A list that is too long isn't unpacked: the call refuses it.
+fn unpack(words: &[u32], numbers: &mut [f64; 16384])
+    requires { ⌜ length (now numbers) ≡ mostNumbers ⌝ }
+    ensures { λ _. ⌜ (length (now (words .entry)) ≤ mostSamples → samplesIn (now (numbers .exit)) (length (now (words .entry))) ≡ map sampleOf (now (words .entry))) ⌝ }
+{
+    if words.len() > MOST_SAMPLES {
+        return;
+    }
+    let centres = sample::centres();
+    let mut i = 0usize;
+    while i < words.len() {
+        store(numbers, i, sample::sample_by(&centres, words[i]));
+        i += 1;
+    }
+}
+
+// ---- residuals
+
+fn continuous_fit(fitted: Fitted) -> ContinuousModel
+    ensures { λ r. ⌜ r ≡ continuousFit fitted ⌝ }
+{
+    match fitted {
+        Fitted::Refused(_) => ContinuousModel {
+            m0: 0.0,
+            m1: 0.0,
+            m2: 1.0,
+            m3: 0.0,
+            m4: 0.0,
+            m5: 1.0,
+        },
+        Fitted::Translation { m0, m1 } => ContinuousModel {
+            m0,
+            m1,
+            m2: 1.0,
+            m3: 0.0,
+            m4: 0.0,
+            m5: 1.0,
+        },
+        Fitted::RotZoom { m0, m1, m2, m3 } => ContinuousModel {
+            m0,
+            m1,
+            m2,
+            m3,
+            m4: -m3,
+            m5: m2,
+        },
+        Fitted::Affine {
+            m0,
+            m1,
+            m2,
+            m3,
+            m4,
+            m5,
+        } => ContinuousModel {
+            m0,
+            m1,
+            m2,
+            m3,
+            m4,
+            m5,
+        },
+    }
+}
+
+// How far each sample lies from a fit: the root of its squared residual.
+fn residuals(fitted: Fitted, numbers: &[f64; 16384], n: usize, roots: &mut [f64])
+    requires { ⌜ (n ≤ mostSamples) × (n ≤ length (now roots)) ⌝ }
+    ensures { λ _. ⌜ now (roots .exit) ≡ onto (residualsFrom (sampleAt (now (numbers .entry))) fitted (upTo n)) (now (roots .entry)) ⌝ }
+{
+    let m = continuous_fit(fitted);
+    let mut i = 0usize;
+    while i < n {
+        roots[i] = root::root(score::residual(m, sample_at(numbers, i)));
+        i += 1;
+    }
+}
+
+// ---- the samples under a limit
+
+fn count_under(roots: &[f64], n: usize, limit: f64) -> usize
+    requires { ⌜ n ≤ length (now roots) ⌝ }
+    ensures { λ r. ⌜ r ≡ length (under (now (roots .entry)) limit n) ⌝ }
+{
+    let mut count = 0usize;
+    let mut i = 0usize;
+    while i < n {
+        if limit >= roots[i] {
+            count += 1;
+        }
+        i += 1;
+    }
+    count
+}
+
+fn translation_under(numbers: &[f64; 16384], roots: &[f64], n: usize, limit: f64) -> TranslationSums
+    requires { ⌜ (n ≤ mostSamples) × (n ≤ length (now roots)) ⌝ }
+    ensures { λ r. ⌜ r ≡ translationTotals (sumsOf (sampleAt (now (numbers .entry))) (under (now (roots .entry)) limit n)) ⌝ }
+{
+    let mut t = fit::translation_begin();
+    let mut i = 0usize;
+    while i < n {
+        if roots[i] <= limit {
+            t = fit::translation_step(t, sample_at(numbers, i));
+        }
+        i += 1;
+    }
+    t
+}
+
+fn rotzoom_under(numbers: &[f64; 16384], roots: &[f64], n: usize, limit: f64) -> RotZoomSums
+    requires { ⌜ (n ≤ mostSamples) × (n ≤ length (now roots)) ⌝ }
+    ensures { λ r. ⌜ r ≡ rotZoomTotals (sumsOf (sampleAt (now (numbers .entry))) (under (now (roots .entry)) limit n)) ⌝ }
+{
+    let mut t = fit::rotzoom_begin();
+    let mut i = 0usize;
+    while i < n {
+        if roots[i] <= limit {
+            t = fit::rotzoom_step(t, sample_at(numbers, i));
+        }
+        i += 1;
+    }
+    t
+}
+
+fn affine_under(numbers: &[f64; 16384], roots: &[f64], n: usize, limit: f64) -> AffineSums
+    requires { ⌜ (n ≤ mostSamples) × (n ≤ length (now roots)) ⌝ }
+    ensures { λ r. ⌜ r ≡ affineTotals (sumsOf (sampleAt (now (numbers .entry))) (under (now (roots .entry)) limit n)) ⌝ }
+{
+    let mut t = fit::affine_begin();
+    let mut i = 0usize;
+    while i < n {
+        if roots[i] <= limit {
+            t = fit::affine_step(t, sample_at(numbers, i));
+        }
+        i += 1;
+    }
+    t
+}
+
+// The fit of a type over the samples under a limit, which are so many.
+fn fit_under(
+    gm_type: u8,
+    numbers: &[f64; 16384],
+    roots: &[f64],
+    n: usize,
+    limit: f64,
+    used: usize,
+) -> Fitted
+    requires { ⌜ Under (now roots) limit n used ⌝ }
+    ensures { λ r. ⌜ r ≡ fitFrom (sampleAt (now (numbers .entry))) «gm_type» (under (now (roots .entry)) limit n) ⌝ }
+{
+    if gm_type == TRANSLATION {
+        return fit::translation_ends(translation_under(numbers, roots, n, limit), used);
+    }
+    if gm_type == ROTZOOM {
+        return fit::rotzoom_ends(rotzoom_under(numbers, roots, n, limit), used);
+    }
+    fit::affine_ends(affine_under(numbers, roots, n, limit), used)
+}
+
+// The sums of the refit against a linear part, over the samples under a limit.
+fn left_under(
+    m: ContinuousModel,
+    begun: TranslationSums,
+    numbers: &[f64; 16384],
+    roots: &[f64],
+    n: usize,
+    limit: f64,
+) -> TranslationSums
+    requires { ⌜ (n ≤ mostSamples) × (n ≤ length (now roots)) ⌝ }
+    ensures { λ r. ⌜ r ≡ fold (reading (refitStep m) (sampleAt (now (numbers .entry)))) (under (now (roots .entry)) limit n) begun ⌝ }
+{
+    let mut t = begun;
+    let mut i = 0usize;
+    while i < n {
+        if roots[i] <= limit {
+            t = quantize::refit_step(m, t, sample_at(numbers, i));
+        }
+        i += 1;
+    }
+    t
+}
+
+// A fitted model on the grid, its translation fitted again over the samples under a limit.
+fn refit_under(
+    fitted: Fitted,
+    flag: u8,
+    numbers: &[f64; 16384],
+    roots: &[f64],
+    n: usize,
+    limit: f64,
+    used: usize,
+) -> Quantized
+    requires { ⌜ Under (now roots) limit n used ⌝ }
+    ensures { λ r. ⌜ r ≡ quantizedFrom (sampleAt (now (numbers .entry))) fitted flag (under (now (roots .entry)) limit n) ⌝ }
+{
+    let begun = quantize::refit_begin(fitted, flag);
+    let linear = begun.linear;
+    let m = begun.m;
+    let sums = left_under(m, begun.sums, numbers, roots, n, limit);
+    quantize::refit_ends(
+        Refitting {
+            fitted,
+            flag,
+            linear,
+            m,
+            sums,
+        },
+        used,
+    )
+}
+
+// ---- the trim
+
+pub fn least_of(gm_type: u8) -> usize
+    ensures { λ r. ⌜ r ≡ leastOf «gm_type» ⌝ }
+{
+    if gm_type == TRANSLATION {
+        return LEAST_TRANSLATION;
+    }
+    if gm_type == ROTZOOM {
+        return LEAST_ROTZOOM;
+    }
+    LEAST_AFFINE
+}
+
+fn all_finite(roots: &[f64], n: usize) -> bool
+    requires { ⌜ n ≤ length (now roots) ⌝ }
+    ensures { λ r. ⌜ r ≡ allFinite (take n (now (roots .entry))) ⌝ }
+{
+    median::all_finite(&roots[..n])
+}
+
+// The greater of three medians and 1.0.
+fn cutoff_of(roots: &[f64], n: usize) -> f64
+    requires { ⌜ n ≤ length (now roots) ⌝ }
+    requires { ⌜ Findable (take n (now roots)) ⌝ }
+    ensures { λ r. ⌜ r ≡ cutoff (take n (now (roots .entry))) ⌝ }
+{
+    let three = 3.0 * median::median(&roots[..n]);
+    if three < 1.0 {
+        return 1.0;
+    }
+    three
+}
+
+fn refused_cut(number: u32) -> Cut
+    ensures { λ r. ⌜ r ≡ refusedCut number ⌝ }
+{
+    Cut {
+        fitted: Fitted::Refused(number),
+        used: 0,
+        limit: 0.0,
+    }
+}
+
+// A fit of so many samples under a limit, or its refusal.
+fn cut_of(fitted: Fitted, used: usize, limit: f64) -> Cut
+    requires { ⌜ used ≤ mostSamples ⌝ }
+    ensures { λ r. ⌜ r ≡ cutOf fitted used limit ⌝ }
+{
+    let own = fit::refusal_of(fitted);
+    if own != 0 {
+        return refused_cut(own);
+    }
+    Cut {
+        fitted,
+        used: used as u32,
+        limit,
+    }
+}
+
+// The fit of the samples that stay; where they are too few the first fit stands, with all samples under
+// infinity.
+fn second(gm_type: u8, first: Fitted, numbers: &[f64; 16384], roots: &[f64], n: usize) -> Cut
+    requires { ⌜ Rooted (now numbers) «gm_type» n (now roots) first ⌝ }
+    ensures { λ r. ⌜ Cuts (now (numbers .entry)) «gm_type» n (now (roots .entry)) r ⌝ }
+{
+    if !all_finite(roots, n) {
+        return refused_cut(NOT_FINITE);
+    }
+    let limit = cutoff_of(roots, n);
+    let kept = count_under(roots, n, limit);
+    if kept < least_of(gm_type) {
+        return cut_of(first, n, f64::from_bits(INFINITE));
+    }
+    cut_of(
+        fit_under(gm_type, numbers, roots, n, limit, kept),
+        kept,
+        limit,
+    )
+}
+
+fn trim(gm_type: u8, numbers: &[f64; 16384], n: usize, roots: &mut [f64]) -> Cut
+    requires { ⌜ Untrimmed «gm_type» n (now roots) ⌝ }
+    ensures { λ r. ⌜ Cuts (now (numbers .entry)) «gm_type» n (now (roots .exit)) r ⌝ }
+{
+    let first = fit_under(gm_type, numbers, roots, n, 0.0, n);
+    let number = fit::refusal_of(first);
+    if number != 0 {
+        return refused_cut(number);
+    }
+    residuals(first, numbers, n, roots);
+    second(gm_type, first, numbers, roots, n)
+}
+
+// ---- the calls
+
+// Row 15: fewer samples than the least of the type.
+fn few_refusal(gm_type: u8, samples: usize) -> u32
+    ensures { λ r. ⌜ r ≡ fewRefusal «gm_type» samples ⌝ }
+{
+    if samples < least_of(gm_type) {
+        return TOO_SHORT;
+    }
+    0
+}
+
+fn list_refusal(gm_type: u8, samples: usize) -> u32
+    ensures { λ r. ⌜ r ≡ listRefusal «gm_type» samples ⌝ }
+{
+    let first = fit::fit_refusal(gm_type, samples);
+    if first != 0 {
+        return first;
+    }
+    few_refusal(gm_type, samples)
+}
+
+fn model_refusal(gm_type: u8, flag: u8, samples: usize) -> u32
+    ensures { λ r. ⌜ r ≡ modelRefusal «gm_type» flag samples ⌝ }
+{
+    let first = fit::fit_refusal(gm_type, samples);
+    if first != 0 {
+        return first;
+    }
+    if flag > 1 {
+        return NO_SUCH_CODE;
+    }
+    few_refusal(gm_type, samples)
+}
+
+// Over the first n samples of the numbers.
+pub fn trimmed_fit(gm_type: u8, numbers: &[f64; 16384], n: usize) -> Trimmed
+    ensures { λ r. ⌜ r ≡ trimmedFrom itself «gm_type» (samplesIn (now (numbers .entry)) n) ⌝ }
+{
+    let refusal = list_refusal(gm_type, n);
+    if refusal != 0 {
+        return Trimmed {
+            fitted: Fitted::Refused(refusal),
+            used: 0,
+        };
+    }
+    let mut roots = [0.0f64; 4096];
+    let cut = trim(gm_type, numbers, n, &mut roots);
+    let fitted = cut.fitted;
+    Trimmed {
+        fitted,
+        used: cut.used,
+    }
+}
+
+fn refused_model(number: u32) -> TrimmedModel
+    ensures { λ r. ⌜ r ≡ refusedModel number ⌝ }
+{
+    let params = [0i32; 6];
+    TrimmedModel {
+        refusal: number,
+        used: 0,
+        params,
+    }
+}
+
+// The last fit on the grid, the translation fitted again over the samples that it used.
+fn on_grid(
+    fitted: Fitted,
+    flag: u8,
+    numbers: &[f64; 16384],
+    roots: &[f64],
+    n: usize,
+    limit: f64,
+    used: u32,
+) -> TrimmedModel
+    requires { ⌜ Under (now roots) limit n used ⌝ }
+    ensures { λ r. ⌜ r ≡ modelAs used (quantizedFrom (sampleAt (now (numbers .entry))) fitted flag (under (now (roots .entry)) limit n)) ⌝ }
+{
+    let quantized = refit_under(fitted, flag, numbers, roots, n, limit, used as usize);
+    let params = quantized.params;
+    TrimmedModel {
+        refusal: 0,
+        used,
+        params,
+    }
+}
+
+pub fn trimmed_model(gm_type: u8, flag: u8, numbers: &[f64; 16384], n: usize) -> TrimmedModel
+    ensures { λ r. ⌜ r ≡ trimmedModelFrom itself «gm_type» flag (samplesIn (now (numbers .entry)) n) ⌝ }
+{
+    let refusal = model_refusal(gm_type, flag, n);
+    if refusal != 0 {
+        return refused_model(refusal);
+    }
+    let mut roots = [0.0f64; 4096];
+    let cut = trim(gm_type, numbers, n, &mut roots);
+    let fitted = cut.fitted;
+    let number = fit::refusal_of(fitted);
+    if number != 0 {
+        return refused_model(number);
+    }
+    on_grid(fitted, flag, numbers, &roots, n, cut.limit, cut.used)
+}
+
+// The fit of a type code over sample words, after trimming.
+pub fn fit_trimmed(gm_type: u8, words: &[u32]) -> Trimmed
+    ensures { λ r. ⌜ r ≡ trimmedFrom sampleOf «gm_type» (now (words .entry)) ⌝ }
+{
+    let mut numbers = [0.0f64; 16384];
+    unpack(words, &mut numbers);
+    trimmed_fit(gm_type, &numbers, words.len())
+}
+
+// The same on the grid, x first.
+pub fn quantize_trimmed(gm_type: u8, flag: u8, words: &[u32]) -> TrimmedModel
+    ensures { λ r. ⌜ r ≡ trimmedModelFrom sampleOf «gm_type» flag (now (words .entry)) ⌝ }
+{
+    let mut numbers = [0.0f64; 16384];
+    unpack(words, &mut numbers);
+    trimmed_model(gm_type, flag, &numbers, words.len())
+}
