@@ -150,24 +150,6 @@ fn true_motion(gm_type: u8) -> [i32; 6] {
     [30720, -30720, ONE, -4096, 4096, ONE]
 }
 
-fn identity_at(slot: usize) -> i32 {
-    if slot == 2 {
-        return 65536;
-    }
-    if slot == 5 {
-        return 65536;
-    }
-    0
-}
-
-fn fill_identity(numbers: &mut [i32]) {
-    let mut i = 0;
-    while i < numbers.len() {
-        numbers[i] = identity_at(i % 6);
-        i += 1;
-    }
-}
-
 // ---- what is printed
 
 fn print(text: &[u8]) {
@@ -428,8 +410,8 @@ fn show(gm_type: u8) {
     let mut prior = [0i32; 42];
     let mut models = [0i32; 36];
     fill_frames(gm_type, &mut input, &mut reference);
-    fill_identity(&mut prior);
-    fill_identity(&mut models);
+    replay::fill_identity(&mut prior);
+    replay::fill_identity(&mut models);
     print_count(b"type ", gm_type as usize);
     run(gm_type, &input, &reference, &prior, &models);
 }

@@ -31,7 +31,8 @@ module _ (ws : List ℕ) where
   pub quantized-of-words : (f : Fitted) (flag : ℕ) → quantizedFrom itself f flag (map sampleOf ws) ≡ quantizedModel f flag ws
   unfolding paramsFrom refittedFrom
   quantized-of-words f flag =
-      by-samples sampleOf ws (λ (sum : Summing) (n : ℕ). answered refusedModel (quantizeRefusal f flag n) (quantizedAs 0 (paramsOf (typeOf f) flag (linearOf f flag) (refitBy (linearOf f flag) sum n))))
+      by-samples sampleOf ws (λ (sum : Summing) (n : ℕ). answered refusedModel (quantizeRefusal f flag n)
+      (quantizedAs 0 (paramsOf (typeOf f) flag (linearOf f flag) (refitBy (linearOf f flag) sum n))))
 
   pub score-of-words : (p : List ℤ) → scored itself (continuousModel p) (map sampleOf ws) ≡ meanSqResidual p ws
   score-of-words p = rw (length-map ws sampleOf, fold-map (scoreStep (continuousModel p)) sampleOf ws)

@@ -7,7 +7,7 @@ ghost use lib.IntN.{natAbs};
 ghost use lib.ListN.{length};
 ghost use Rattle.laws.specs.Buffer.{onto};
 ghost use Rattle.laws.specs.Placed.{placed};
-ghost use Rattle.plane.specs.Plane.{listing};
+ghost use Rattle.laws.specs.Parts.{listing};
 ghost use Rattle.plane.specs.Clamp.{offset};
 ghost use Rattle.plane.specs.Inner.{Small};
 ghost use Rattle.practice.specs.Generator.{stepped, next, upperHalf};

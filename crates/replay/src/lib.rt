@@ -1,5 +1,5 @@
 // What the programs that replay a stored list of questions and answers share: big-endian words from
-// a list, guarded buffers of pels, and the lines that they print.
+// a list, guarded buffers of pels, what a call is handed, and the lines that they print.
 ghost use mathlib.Core.Path.{_≡_};
 ghost use Prim.Native.Nat.{_+_, _*_, _≤_};
 ghost use mir.Syntax.{w32};
@@ -79,6 +79,39 @@ fn sum_of_pels(pels: &[u16]) -> u32 {
 pub fn plane_holds(pels: &[u16], written: usize, sum: u32) -> bool {
     let end = least(written, pels.len());
     sum_of_pels(&pels[0..end]) == sum && untouched(&pels[end..])
+}
+
+// ---- what a call is handed
+
+// Pels as the list has them.
+pub fn next_pels(list: i32, plane: &mut [u16]) {
+    let mut i = 0;
+    while i < plane.len() {
+        plane[i] = (next_word(list) % 65536) as u16;
+        i += 1;
+    }
+}
+
+// The classes 0 to 4 in turn.
+pub fn fill_classes(classes: &mut [u8]) {
+    let mut i = 0;
+    while i < classes.len() {
+        classes[i] = (i % 5) as u8;
+        i += 1;
+    }
+}
+
+fn identity_at(slot: usize) -> i32 {
+    if slot == 2 || slot == 5 { 65536 } else { 0 }
+}
+
+// Identity models, six numbers each.
+pub fn fill_identity(numbers: &mut [i32]) {
+    let mut i = 0;
+    while i < numbers.len() {
+        numbers[i] = identity_at(i % 6);
+        i += 1;
+    }
 }
 
 // ---- lines

@@ -151,18 +151,9 @@ fn map_plane(p: Picture, first: &[u16], plane: &mut [u16]) {
     }
 }
 
-// Pels as the list has them.
-fn next_pels(list: i32, plane: &mut [u16]) {
-    let mut i = 0;
-    while i < plane.len() {
-        plane[i] = (replay::next_word(list) % 65536) as u16;
-        i += 1;
-    }
-}
-
 fn make_planes(list: i32, p: Picture, input: &mut [u16], reference: &mut [u16]) {
     if p.kind == 3 {
-        next_pels(list, &mut *reference);
+        replay::next_pels(list, &mut *reference);
         map_plane(p, reference, &mut *input);
         return;
     }
@@ -177,14 +168,6 @@ fn make_planes(list: i32, p: Picture, input: &mut [u16], reference: &mut [u16]) 
         return;
     }
     fill_plane(state, p.mask, &mut *reference);
-}
-
-fn fill_classes(classes: &mut [u8]) {
-    let mut i = 0;
-    while i < classes.len() {
-        classes[i] = (i % 5) as u8;
-        i += 1;
-    }
 }
 
 // ---- what a case asks
@@ -459,7 +442,7 @@ fn answer_holds(
     let mut words = [UNTOUCHED_WORD; 150];
     let mut blocks = [UNTOUCHED_BYTE; 1100];
     let mut header = [UNTOUCHED_BYTE; 140];
-    fill_classes(&mut classes);
+    replay::fill_classes(&mut classes);
     let r = asked(
         p,
         settings,
@@ -681,24 +664,6 @@ fn row_of(fault: u32) -> u32 {
     6
 }
 
-fn identity_at(slot: usize) -> i32 {
-    if slot == 2 {
-        return 65536;
-    }
-    if slot == 5 {
-        return 65536;
-    }
-    0
-}
-
-fn fill_identity(numbers: &mut [i32]) {
-    let mut i = 0;
-    while i < numbers.len() {
-        numbers[i] = identity_at(i % 6);
-        i += 1;
-    }
-}
-
 fn small_job(
     s: Small,
     plane: &[u16],
@@ -878,8 +843,8 @@ fn try_faults(first: u32, second: u32) -> bool {
     let types = [s.other_type; 6];
     let mut models = [0i32; 36];
     let mut prior = [0i32; 42];
-    fill_identity(&mut models);
-    fill_identity(&mut prior);
+    replay::fill_identity(&mut models);
+    replay::fill_identity(&mut prior);
     put(&mut models, 2, s.number);
     put(&mut prior, 3, s.place);
     refused_right(s, row_of(first), &types, &models, &prior)

@@ -1,11 +1,11 @@
--- `worked_search::fill_classes`: each store keeps the slice's length, and the counter rises to it. Assumes nothing.
+-- `replay::fill_classes`: each store keeps the slice's length, and the counter rises to it. Assumes nothing.
 use borrow.Author.Needs.{needs}
 use Prim.Native.Nat.{_≤_, _-_}
 use mathlib.Core.Path.{_≡_, refl}
 use native.Mathlib.Omega.{arith}
 use lib.ListN.{length, length-set}
-use Rattle.worked_search.proofs.fill_classes.Statement.{statement}
-use Rattle.worked_search.proofs.fill_classes.Tie as tie
+use Rattle.replay.proofs.fill_classes.Statement.{statement}
+use Rattle.replay.proofs.fill_classes.Tie as tie
 
 abbrev Inv-loop : tie.InvT-loop
 Inv-loop classes₀ i₀ classes i = (i ≤ length classes₀) × (length classes ≡ length classes₀)
