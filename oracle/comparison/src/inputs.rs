@@ -182,10 +182,15 @@ pub fn loose_words(random: &mut Random) -> Vec<u32> {
 
 /// Words to elect a type of: those above, or a field of a type's motion about some middle, more or less even, with a few
 /// words that are a little off. The measure of each is drawn small and large, so that energy, gate, ratio and gain come
-/// out on either side.
+/// out on either side; some have the floor's own energy.
 pub fn words_to_elect(random: &mut Random) -> Vec<u32> {
     if random.one_in(4) {
         return loose_words(random);
+    }
+    if random.one_in(12) {
+        // half a pel each: the energy is the floor itself
+        let (v, u) = random.pick(&[(227, 223), (219, 223), (223, 227), (223, 219)]);
+        return (0..4 + random.below(9) as u32).map(|column| column << 20 | v << 11 | u << 2).collect();
     }
     let count = if random.one_in(40) { MOST_SAMPLES } else { 3 + random.below(60) };
     let across = 1 + random.below(12);
