@@ -120,11 +120,11 @@ module _ (j : Task) (l : Lent) where
   pub electing-never-fifteen : elects (j .settings) ≡ true → early j l ≡ 15 → ⊥
   electing-never-fifteen e = early-never-by 15 (omega arith) tt tt tt (λ q. three-alone (tooLittle (sizesOf j l)) (sym (room-is e) ∙ q)) tt
     where
-      three-alone : (b : Bool) → choose b 3 0 ≡ 15 → ⊥
+      three-alone : (b : Bool) → _≡_ {A = ℕ} (choose b 3 0) 15 → ⊥
       three-alone true q = omega (arith, q)
       three-alone false q = omega (arith, q)
 
-      room-is : elects (j .settings) ≡ true → judge room ≡ choose (tooLittle (sizesOf j l)) 3 0
+      room-is : elects (j .settings) ≡ true → _≡_ {A = ℕ} (judge room) (choose (tooLittle (sizesOf j l)) 3 0)
       room-is e = rw e
 
   -- a number that no early row has is the second stage's
