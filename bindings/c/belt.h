@@ -233,7 +233,8 @@ struct belt_fit_answer belt_fit_affine(const uint32_t *words, size_t word_count)
    it is enough.
    In: the type, 1 to 3, and up to 4,096 sample words: at least 4, 6 or 8 by type. Out: the last fit made, and how many
    samples it used; or that fit on the grid of a flag, x first, its translation fitted again to those samples.
-   Refuse: 1, 4, 15, 6, 16, and 6 of the second fit. With sample words 16 never arises. */
+   Refuse: 1, 4, 15, 6, 16, and 6 of the second fit. With sample words no 16 is known
+   (docs/DECISIONS.md, 'The job', says why none is expected). */
 struct belt_trimmed belt_fit_trimmed(uint8_t type, const uint32_t *words, size_t word_count);
 struct belt_trimmed_model belt_quantize_trimmed(uint8_t type, uint8_t flag, const uint32_t *words, size_t word_count);
 

@@ -415,8 +415,8 @@ pub struct TrimmedModel {
 ///
 /// # Errors
 ///
-/// [`Refusal::TooLarge`], [`Refusal::NoSuchCode`], [`Refusal::TooFew`], [`Refusal::Singular`] of either fit. With words
-/// [`Refusal::NotFinite`] never arises.
+/// [`Refusal::TooLarge`], [`Refusal::NoSuchCode`], [`Refusal::TooFew`], [`Refusal::Singular`] of either fit,
+/// [`Refusal::NotFinite`], of which no case with words is known (`docs/DECISIONS.md`, 'The job').
 ///
 /// ```
 /// // four blocks at rest and one that moves by ten pels
