@@ -1,5 +1,4 @@
 pub mod Counts
-pub mod Terms
 pub mod Table
 pub mod Fits
 pub mod Refit

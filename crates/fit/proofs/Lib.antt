@@ -1,4 +1,7 @@
 pub mod Sums
+pub mod Terms
+pub mod Exact
+pub mod Whole
 pub mod Types
 pub mod Refusals
 pub mod Accepted

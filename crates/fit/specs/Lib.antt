@@ -1,3 +1,4 @@
 pub mod Sums
 pub mod Fitted
+pub mod Table
 pub mod Inner

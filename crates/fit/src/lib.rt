@@ -1,6 +1,6 @@
 // The three fits of motion models: a slice of sample words goes in, a fitted model or a refusal comes
 // out. Sums, elimination and back-substitution in binary64, one rounding an operation, samples first
-// to last: `fit_translation`, `fit_rotzoom`, `fit_affine` (encoder/global_motion.rs); docs/RULES.md,
+// to last; the sums of words are exact, and so are taken in whole numbers: `fit_translation`, `fit_rotzoom`, `fit_affine` (encoder/global_motion.rs); docs/RULES.md,
 // 'Records' (Model), 'Fits and score', rows 1, 4 and 6. A walk over samples themselves begins with the
 // `begin` of its fit, takes its `step` for each sample and ends with its `ends`.
 
@@ -10,15 +10,18 @@ use solve::Outcome;
 use solve::Solution;
 use solve::Solutions;
 use solve::System;
+use tally::Fields;
 ghost use mathlib.Core.Path.{_≡_};
-ghost use Prim.Native.Nat.{_≤_};
+ghost use Prim.Native.Nat.{_+_, _≤_};
 ghost use lib.IntN.{pos};
 ghost use lib.ListN.{length};
 ghost use lib.Ieee.{binary64, ofInt};
 ghost use Rattle.sample.specs.Word.{mostSamples};
+ghost use Rattle.laws.specs.Stands.{wholeLimit};
+ghost use Rattle.tally.specs.Inner.{mostCount, SmallFields};
 ghost use Rattle.solve.specs.Solution.{solution};
 ghost use Rattle.fit.specs.Sums.{noSums, countAs, translationTotals, rotZoomTotals, affineTotals, translationSums, rotZoomSums, affineSums};
-ghost use Rattle.fit.specs.Inner.{translationStep, rotZoomStep, affineStep, taken};
+ghost use Rattle.fit.specs.Inner.{translationStep, rotZoomStep, affineStep, taken, wholeOver, centreSum, motionSum, productSum, momentSum, rotZoomOver, affineOver};
 ghost use Rattle.fit.specs.Fitted.{refusalOf, typeOf, rotZoomSystem, affineU, rotZoomModel, affineModel, translationOf, rotZoomOf, affineOf};
 ghost use Rattle.fit.specs.Fitted.{translationFit, rotZoomFit, affineFit, fitOf, listRefusal, typeRefusal, fitRefusal, fitAnswer, fitted};
 
@@ -225,42 +228,123 @@ pub fn affine_step(t: AffineSums, s: MotionSample) -> AffineSums
     }
 }
 
+// A whole number over a power of two, exact.
+fn whole_over(above: u64, below: u64, unit: f64) -> f64
+    requires { ⌜ above + below ≤ wholeLimit ⌝ }
+    ensures { λ r. ⌜ r ≡ wholeOver above below unit ⌝ }
+{
+    (above as i64 - below as i64) as f64 / unit
+}
+
+// The sums over n words from sums of their fields: of x or y, in halves.
+fn centre_sum(places: u32, n: u32) -> f64
+    requires { ⌜ places ≤ mostCount ⌝ }
+    requires { ⌜ n ≤ mostSamples ⌝ }
+    ensures { λ r. ⌜ r ≡ centreSum places n ⌝ }
+{
+    whole_over(32 * places as u64 + 15 * n as u64, 0, 2.0)
+}
+
+// Of u or v, in eighths.
+fn motion_sum(motions: u32, n: u32) -> f64
+    requires { ⌜ motions ≤ mostCount ⌝ }
+    requires { ⌜ n ≤ mostSamples ⌝ }
+    ensures { λ r. ⌜ r ≡ motionSum motions n ⌝ }
+{
+    whole_over(motions as u64, 223 * n as u64, 8.0)
+}
+
+// Of a product of x and y, in quarters.
+fn product_sum(products: u32, a: u32, b: u32, n: u32) -> f64
+    requires { ⌜ products ≤ mostCount ⌝ }
+    requires { ⌜ a ≤ mostCount ⌝ }
+    requires { ⌜ b ≤ mostCount ⌝ }
+    requires { ⌜ n ≤ mostSamples ⌝ }
+    ensures { λ r. ⌜ r ≡ productSum products a b n ⌝ }
+{
+    whole_over(
+        1024 * products as u64 + (480 * a as u64 + 480 * b as u64) + 225 * n as u64,
+        0,
+        4.0,
+    )
+}
+
+// Of x or y times u or v, in sixteenths.
+fn moment_sum(products: u32, places: u32, motions: u32, n: u32) -> f64
+    requires { ⌜ products ≤ mostCount ⌝ }
+    requires { ⌜ places ≤ mostCount ⌝ }
+    requires { ⌜ motions ≤ mostCount ⌝ }
+    requires { ⌜ n ≤ mostSamples ⌝ }
+    ensures { λ r. ⌜ r ≡ momentSum products places motions n ⌝ }
+{
+    let above = 32 * products as u64 + 15 * motions as u64;
+    let below = 7136 * places as u64 + 3345 * n as u64;
+    whole_over(above, below, 16.0)
+}
+
+fn rotzoom_over(t: Fields, n: u32) -> RotZoomSums
+    requires { ⌜ SmallFields t ⌝ }
+    requires { ⌜ n ≤ mostSamples ⌝ }
+    ensures { λ r. ⌜ r ≡ rotZoomOver t n ⌝ }
+{
+    RotZoomSums {
+        sx: centre_sum(t.c, n),
+        sy: centre_sum(t.r, n),
+        q: product_sum(t.cc, t.c, t.c, n) + product_sum(t.rr, t.r, t.r, n),
+        p1: moment_sum(t.cu, t.c, t.u, n) + moment_sum(t.rv, t.r, t.v, n),
+        p2: moment_sum(t.ru, t.r, t.u, n) - moment_sum(t.cv, t.c, t.v, n),
+        su: motion_sum(t.u, n),
+        sv: motion_sum(t.v, n),
+    }
+}
+
+fn affine_over(t: Fields, n: u32) -> AffineSums
+    requires { ⌜ SmallFields t ⌝ }
+    requires { ⌜ n ≤ mostSamples ⌝ }
+    ensures { λ r. ⌜ r ≡ affineOver t n ⌝ }
+{
+    AffineSums {
+        sx: centre_sum(t.c, n),
+        sy: centre_sum(t.r, n),
+        sxx: product_sum(t.cc, t.c, t.c, n),
+        sxy: product_sum(t.cr, t.c, t.r, n),
+        syy: product_sum(t.rr, t.r, t.r, n),
+        sxu: moment_sum(t.cu, t.c, t.u, n),
+        syu: moment_sum(t.ru, t.r, t.u, n),
+        su: motion_sum(t.u, n),
+        sxv: moment_sum(t.cv, t.c, t.v, n),
+        syv: moment_sum(t.rv, t.r, t.v, n),
+        sv: motion_sum(t.v, n),
+    }
+}
+
+// The sums of a list of words, equal to those of its samples one by one.
 fn translation_sums(words: &[u32]) -> TranslationSums
+    requires { ⌜ length (now words) ≤ mostSamples ⌝ }
     ensures { λ r. ⌜ r ≡ translationSums (now (words .entry)) ⌝ }
 {
-    let mut t = translation_begin();
-    let mut i = 0usize;
-    while i < words.len() {
-        t = translation_step(t, sample::sample_of(words[i]));
-        i += 1;
+    let t = tally::motions_of(words);
+    let n = words.len() as u32;
+    TranslationSums {
+        su: motion_sum(t.u, n),
+        sv: motion_sum(t.v, n),
     }
-    t
 }
 
 fn rotzoom_sums(words: &[u32]) -> RotZoomSums
+    requires { ⌜ length (now words) ≤ mostSamples ⌝ }
     ensures { λ r. ⌜ r ≡ rotZoomSums (now (words .entry)) ⌝ }
 {
-    let mut t = rotzoom_begin();
-    let centres = sample::centres();
-    let mut i = 0usize;
-    while i < words.len() {
-        t = rotzoom_step(t, sample::sample_by(&centres, words[i]));
-        i += 1;
-    }
-    t
+    let t = tally::fields_of(words);
+    rotzoom_over(t, words.len() as u32)
 }
 
 fn affine_sums(words: &[u32]) -> AffineSums
+    requires { ⌜ length (now words) ≤ mostSamples ⌝ }
     ensures { λ r. ⌜ r ≡ affineSums (now (words .entry)) ⌝ }
 {
-    let mut t = affine_begin();
-    let centres = sample::centres();
-    let mut i = 0usize;
-    while i < words.len() {
-        t = affine_step(t, sample::sample_by(&centres, words[i]));
-        i += 1;
-    }
-    t
+    let t = tally::fields_of(words);
+    affine_over(t, words.len() as u32)
 }
 
 fn rotzoom_system(t: RotZoomSums, n: f64) -> System

@@ -22,7 +22,7 @@ use Rattle.median.proofs.Search.{patterns, each-ordered, patterns-order
 
 -- ---- one ordered list
 
-one-list : (xs ys : List Float) → Each Plain xs → Each Plain ys → patterns xs ≡ patterns ys → xs ≡ ys
+pub one-list : (xs ys : List Float) → Each Plain xs → Each Plain ys → patterns xs ≡ patterns ys → xs ≡ ys
 one-list [] [] p q e = refl
 one-list [] (y ∷ ys) p q e = absurd (let n : 0 ≡ suc (length (patterns ys)) = ap length e in omega arith)
 one-list (x ∷ xs) [] p q e = absurd (let n : suc (length (patterns xs)) ≡ 0 = ap length e in omega arith)

@@ -4,4 +4,5 @@ pub mod Search
 pub mod Counting
 pub mod AnyOrder
 pub mod PlainLists
+pub mod Through
 pub mod Worked

@@ -38,7 +38,7 @@ module _ (P : Float → Type 0) where
   each-ordered [] e = tt
   each-ordered (x ∷ xs) e = each-insert x (ordered xs) (e .0) (each-ordered xs (e .1))
 
-  each-at : (xs : List Float) (i : ℕ) (d : Float) → P d → Each P xs → P (getD xs i d)
+  pub each-at : (xs : List Float) (i : ℕ) (d : Float) → P d → Each P xs → P (getD xs i d)
   each-at [] i d p e = p
   each-at (x ∷ xs) zero d p e = e .0
   each-at (x ∷ xs) (suc i) d p e = each-at xs i d p (e .1)
@@ -71,7 +71,7 @@ all-under (x ∷ xs) e =
 
 -- ---- the search
 
-zero-below : 0 < infinite
+pub zero-below : 0 < infinite
 zero-below = omega arith
 
 -- the pattern at this place of the ordered list

@@ -117,8 +117,8 @@ module _ (numbers : List Float) (gmType n : ℕ) where
 
   -- ---- the trim
 
-  pub refused-cuts : (roots : List Float) (k : ℕ) → n ≤ length roots → (k ≡ 0 → ⊥) → refusal ≡ k → Cuts numbers gmType n roots (refusedCut k)
-  refused-cuts roots k room h e =
+  pub refused-cuts : (squares : List Float) (k : ℕ) → n ≤ length squares → (k ≡ 0 → ⊥) → refusal ≡ k → Cuts numbers gmType n squares (refusedCut k)
+  refused-cuts squares k room h e =
       record {
         long = room;
         answers = sym (ap (λ (r : ℕ). answered refusedAs r whole) e ∙ answered-refused refusedAs k whole h);
@@ -143,8 +143,8 @@ module _ (numbers : List Float) (gmType n : ℕ) where
         ap (λ (k : ℕ). orElse k (orElse (residualRefusal residuals) (refusalOf last))) fitted
         ∙ ap (λ (b : Bool). orElse (choose (not b) 16 0) (refusalOf last)) e
 
-    module _ (roots : List Float) (room : n ≤ length roots) (f : Fitted) (samples : ℕ) (limit : Float) (finite : allFinite residuals ≡ true) (is : f ≡ last) (counted : samples ≡ length used) (within : under roots limit n ≡ used) where
-      made : (k : ℕ) → refusalOf f ≡ k → Cuts numbers gmType n roots (answered refusedCut k (cutAs f samples limit))
+    module _ (squares : List Float) (room : n ≤ length squares) (f : Fitted) (samples : ℕ) (limit : Float) (finite : allFinite residuals ≡ true) (is : f ≡ last) (counted : samples ≡ length used) (within : under squares limit n ≡ used) where
+      made : (k : ℕ) → refusalOf f ≡ k → Cuts numbers gmType n squares (answered refusedCut k (cutAs f samples limit))
       made zero e =
           record {
             long = room;
@@ -156,11 +156,11 @@ module _ (numbers : List Float) (gmType n : ℕ) where
           }
       made (suc k) e =
           let no : (suc k ≡ 0 → ⊥) = λ z. absurd (omega arith) in
-          subst (λ (c : Cut). Cuts numbers gmType n roots c) (sym (answered-refused refusedCut (suc k) (cutAs f samples limit) no))
-          (refused-cuts roots (suc k) room no (last-decides finite ∙ sym (ap refusalOf is) ∙ e))
+          subst (λ (c : Cut). Cuts numbers gmType n squares c) (sym (answered-refused refusedCut (suc k) (cutAs f samples limit) no))
+          (refused-cuts squares (suc k) room no (last-decides finite ∙ sym (ap refusalOf is) ∙ e))
 
       -- the last fit, or its refusal
-      pub made-cuts : Cuts numbers gmType n roots (cutOf f samples limit)
+      pub made-cuts : Cuts numbers gmType n squares (cutOf f samples limit)
       made-cuts = made (refusalOf f) refl
 
   -- ---- the calls
@@ -184,7 +184,7 @@ module _ (numbers : List Float) (gmType n : ℕ) where
       ∙ ap (λ (k : ℕ). answered refusedAs k whole) (sym (or-else-refused (listRefusal gmType n) refusal h))
       ∙ answered-refused refusedAs (listRefusal gmType n) whole h)
 
-  module _ (roots : List Float) (c : Cut) (cuts : Cuts numbers gmType n roots c) where
+  module _ (squares : List Float) (c : Cut) (cuts : Cuts numbers gmType n squares c) where
     pub trimmed-accepted : listRefusal gmType n ≡ 0 → trimmedAs (c .fitted) (c .used) ≡ trimmedFrom itself gmType (samplesIn numbers n)
     trimmed-accepted e =
         cuts .answers
@@ -221,34 +221,34 @@ module _ (numbers : List Float) (gmType n : ℕ) where
         ∙ ap (λ (k : ℕ). answered refusedModel k wholeModel) (sym (or-else-refused (modelRefusal gmType flag n) refusal h))
         ∙ answered-refused refusedModel (modelRefusal gmType flag n) wholeModel h)
 
-    module _ (roots : List Float) (c : Cut) (cuts : Cuts numbers gmType n roots c) (listed : modelRefusal gmType flag n ≡ 0) where
+    module _ (squares : List Float) (c : Cut) (cuts : Cuts numbers gmType n squares c) (listed : modelRefusal gmType flag n ≡ 0) where
       -- by the cut's own number
       model-by : trimmedModelFrom itself gmType flag (samplesIn numbers n) ≡ answered refusedModel (refusalOf (c .fitted)) wholeModel
       model-by =
           model-mapped read gmType xs flag
           ∙ model-is
-          ∙ ap (λ (k : ℕ). answered refusedModel k wholeModel) (sym (or-else-none (modelRefusal gmType flag n) refusal listed) ∙ sym (cut-refusal roots c cuts))
+          ∙ ap (λ (k : ℕ). answered refusedModel k wholeModel) (sym (or-else-none (modelRefusal gmType flag n) refusal listed) ∙ sym (cut-refusal squares c cuts))
 
       pub model-cut-refused : (refusalOf (c .fitted) ≡ 0 → ⊥) → refusedModel (refusalOf (c .fitted)) ≡ trimmedModelFrom itself gmType flag (samplesIn numbers n)
       model-cut-refused h = sym (model-by ∙ answered-refused refusedModel (refusalOf (c .fitted)) wholeModel h)
 
       module _ (fitted : refusalOf (c .fitted) ≡ 0) where
         quiet-trim : refusal ≡ 0
-        quiet-trim = sym (cut-refusal roots c cuts) ∙ fitted
+        quiet-trim = sym (cut-refusal squares c cuts) ∙ fitted
 
         cut-is : trimmedAs (c .fitted) (c .used) ≡ whole
         cut-is = cuts .answers ∙ answered-accepted refusedAs refusal whole quiet-trim
 
-        within : under roots (c .limit) n ≡ used
+        within : under squares (c .limit) n ≡ used
         within = cuts .within quiet-trim
 
-        pub cut-counted : c .used ≡ length (under roots (c .limit) n)
+        pub cut-counted : c .used ≡ length (under squares (c .limit) n)
         cut-counted = ap (λ (t : Trimmed). t .used) cut-is ∙ ap (λ (l : List ℕ). length l) (sym within)
 
         few-used : length used ≤ mostSamples
         few-used =
-            let h : length (under roots (c .limit) n) ≤ n = under-few roots (c .limit) n in
-            let e : length (under roots (c .limit) n) ≡ length used = ap (λ (l : List ℕ). length l) within in
+            let h : length (under squares (c .limit) n) ≤ n = under-few squares (c .limit) n in
+            let e : length (under squares (c .limit) n) ≡ length used = ap (λ (l : List ℕ). length l) within in
             omega (arith, h, e, model-few gmType flag n listed)
 
         typed : typeOf last ≡ 0 → ⊥
@@ -262,9 +262,9 @@ module _ (numbers : List Float) (gmType n : ℕ) where
             answered-accepted quantizing.refusedModel (quantizeRefusal last flag (length used)) (quantizedAs 0 (paramsFrom read last flag used))
             (quantize-accepts last flag (length used) few-used typed (model-flag gmType flag n listed))
 
-        pub model-accepted : modelAs (c .used) (quantizedFrom read (c .fitted) flag (under roots (c .limit) n)) ≡ trimmedModelFrom itself gmType flag (samplesIn numbers n)
+        pub model-accepted : modelAs (c .used) (quantizedFrom read (c .fitted) flag (under squares (c .limit) n)) ≡ trimmedModelFrom itself gmType flag (samplesIn numbers n)
         model-accepted =
-            ap (λ (t : Trimmed). modelAs (t .used) (quantizedFrom read (t .fitted) flag (under roots (c .limit) n))) cut-is
+            ap (λ (t : Trimmed). modelAs (t .used) (quantizedFrom read (t .fitted) flag (under squares (c .limit) n))) cut-is
             ∙ ap (λ (l : List ℕ). modelAs (length used) (quantizedFrom read last flag l)) within
             ∙ ap (λ (q : Quantized). modelAs (length used) q) on-grid
             ∙ sym (answered-accepted refusedModel (refusalOf (c .fitted)) wholeModel fitted)

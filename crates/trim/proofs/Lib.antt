@@ -3,6 +3,7 @@ pub mod Indices
 pub mod Unpacked
 pub mod Mapped
 pub mod NoSign
+pub mod Roots
 pub mod Under
 pub mod Answers
 pub mod FirstFit

@@ -1,12 +1,14 @@
 -- The numbers of a call's samples in memory of its own, and what the functions below the public calls ask and answer; no public contract over words cites it.
 -- Assumes nothing.
 use Prim.Native.Nat.{ℕ, _+_, _*_, _≤_}
+use mathlib.Core.Bool.{true}
 use mathlib.Core.List.{List, map}
 use mathlib.Core.Path.{_≡_}
 use lib.Dec.{ltb}
 use lib.IntN.{pos}
 use lib.ListN.{length, getD, set, replicate}
-use lib.Ieee.{Float, nan, le}
+use lib.Dec.{T}
+use lib.Ieee.{Float, nan, binary64, fits, le}
 use Rattle.laws.specs.Parts.{listing}
 use Rattle.laws.specs.Buffer.{onto}
 use Rattle.laws.specs.Refusal.{choose, orElse}
@@ -14,13 +16,16 @@ use Rattle.laws.specs.Call.{answered}
 use Rattle.laws.specs.Binary64.{nought}
 use Rattle.sample.specs.declared.MotionSample.{MotionSample}
 use Rattle.sample.specs.Word.{mostSamples}
+use Rattle.root.specs.Root.{root}
+use Rattle.median.specs.Inner.{unsigned, Plain}
+use Rattle.score.specs.Score.{residualOf}
 use Rattle.fit.specs.declared.Fitted.{Fitted}
 use Rattle.fit.specs.declared.Fitted.the-variants.{Refused}
 use Rattle.fit.specs.Fitted.{refusalOf, fitRefusal}
 use Rattle.quantize.specs.declared.Quantized.{Quantized}
 use Rattle.trim.specs.declared.Cut.{Cut}
 use Rattle.trim.specs.declared.TrimmedModel.{TrimmedModel}
-use Rattle.trim.specs.Trim.{leastOf, passing, residualsFrom, firstFrom, usedFrom, lastFrom, fewRefusal, flagRefusal, trimRefusal, trimmedAs, trimmedModelAs}
+use Rattle.trim.specs.Trim.{leastOf, continuousFit, passing, firstFrom, usedFrom, lastFrom, fewRefusal, flagRefusal, trimRefusal, trimmedAs, trimmedModelAs}
 
 -- a list of samples is read as it stands
 abbrev pub itself : MotionSample → MotionSample
@@ -61,15 +66,31 @@ stored numbers i s = choose (ltb i mostSamples) (put numbers i s) numbers
 
 -- ---- samples under a limit
 
--- the i below n whose root is at most the limit
-abbrev pub under : List Float → Float → ℕ → List ℕ
-under roots limit n = passing (λ i. le (getD roots i nan) limit) (upTo n)
+-- how far a sample lies from a fit, squared: a residual before its root
+abbrev pub square : Fitted → MotionSample → Float
+square f s = residualOf (continuousFit f) s
 
--- so many are under the limit, of so many with a root
-pub record Under (roots : List Float) (limit : Float) (n : ℕ) (used : ℕ) : Type 0 where
+abbrev pub squaresFrom : {A : Type 0} → (A → MotionSample) → Fitted → List A → List Float
+squaresFrom read f xs = map (λ x. square f (read x)) xs
+
+-- a binary64 without sign
+pub record Bare (x : Float) : Type 0 where
+  pub held : T (fits binary64 x)
+  pub bare : unsigned x ≡ true
+
+-- a number is at most the limit exactly where its root is at most the cutoff
+pub record Limits (cutoff limit : Float) : Type 0 where
+  pub same : (x : Float) → Plain x → le x limit ≡ le (root x) cutoff
+
+-- the i below n whose square is at most the limit
+abbrev pub under : List Float → Float → ℕ → List ℕ
+under squares limit n = passing (λ i. le (getD squares i nan) limit) (upTo n)
+
+-- so many are under the limit, of so many with a square
+pub record Under (squares : List Float) (limit : Float) (n : ℕ) (used : ℕ) : Type 0 where
   pub few : n ≤ mostSamples
-  pub long : n ≤ length roots
-  pub counted : used ≡ length (under roots limit n)
+  pub long : n ≤ length squares
+  pub counted : used ≡ length (under squares limit n)
 
 -- ---- the trim
 
@@ -82,30 +103,30 @@ refusedCut k = cutAs (Refused k) 0 nought
 abbrev pub cutOf : Fitted → ℕ → Float → Cut
 cutOf f samples limit = answered refusedCut (refusalOf f) (cutAs f samples limit)
 
--- before the first fit: a list that rows 1, 4 and 15 let pass, and no root yet
-pub record Untrimmed (gmType n : ℕ) (roots : List Float) : Type 0 where
+-- before the first fit: a list that rows 1, 4 and 15 let pass, and no square yet
+pub record Untrimmed (gmType n : ℕ) (squares : List Float) : Type 0 where
   pub few : n ≤ mostSamples
   pub enough : leastOf gmType ≤ n
-  pub clear : roots ≡ replicate mostSamples nought
+  pub clear : squares ≡ replicate mostSamples nought
 
--- after it: the fit, and each sample's root in front of what was there
-pub record Rooted (numbers : List Float) (gmType n : ℕ) (roots : List Float) (first : Fitted) : Type 0 where
+-- after it: the fit, and each sample's square in front of what was there
+pub record Squared (numbers : List Float) (gmType n : ℕ) (squares : List Float) (first : Fitted) : Type 0 where
   pub few : n ≤ mostSamples
   pub enough : leastOf gmType ≤ n
   pub is : first ≡ firstFrom (sampleAt numbers) gmType (upTo n)
   pub fitted : refusalOf (firstFrom (sampleAt numbers) gmType (upTo n)) ≡ 0
   pub old : List Float
   pub long : length old ≡ mostSamples
-  pub rooted : roots ≡ onto (residualsFrom (sampleAt numbers) (firstFrom (sampleAt numbers) gmType (upTo n)) (upTo n)) old
+  pub squared : squares ≡ onto (squaresFrom (sampleAt numbers) (firstFrom (sampleAt numbers) gmType (upTo n)) (upTo n)) old
 
 -- the answer after rows 1, 4 and 15, and the limit that the last fit's samples are under
-pub record Cuts (numbers : List Float) (gmType n : ℕ) (roots : List Float) (c : Cut) : Type 0 where
-  pub long : n ≤ length roots
+pub record Cuts (numbers : List Float) (gmType n : ℕ) (squares : List Float) (c : Cut) : Type 0 where
+  pub long : n ≤ length squares
   pub answers :
       trimmedAs (c .fitted) (c .used)
       ≡ answered (λ k. trimmedAs (Refused k) 0) (trimRefusal (sampleAt numbers) gmType (upTo n))
       (trimmedAs (lastFrom (sampleAt numbers) gmType (upTo n)) (length (usedFrom (sampleAt numbers) gmType (upTo n))))
-  pub within : trimRefusal (sampleAt numbers) gmType (upTo n) ≡ 0 → under roots (c .limit) n ≡ usedFrom (sampleAt numbers) gmType (upTo n)
+  pub within : trimRefusal (sampleAt numbers) gmType (upTo n) ≡ 0 → under squares (c .limit) n ≡ usedFrom (sampleAt numbers) gmType (upTo n)
 
 -- ---- the calls
 

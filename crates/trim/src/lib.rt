@@ -2,7 +2,10 @@
 // stay, and the fit of those if they are enough (`candidate_for`, encoder/global_motion.rs;
 // docs/RULES.md, 'Trimming', rows 1, 4, 6, 15 and 16). A call unpacks its samples into numbers of its
 // own, so sample words and lent samples share one code. Nothing is moved: a sample is passed over where
-// its root is above a limit. Before the first fit every root is 0.0 and so is the limit.
+// its squared residual is above a limit. The root rises, so the residuals' median is the root of their
+// squares' median, and a residual is at most the cutoff where its square is at most the greatest number
+// whose root is: a call takes some sixty roots, however many samples there are. Before the first fit
+// every square is 0.0 and so is the limit.
 
 use fit::AffineSums;
 use fit::Fitted;
@@ -25,14 +28,15 @@ ghost use Rattle.laws.specs.Loops.{fold};
 ghost use Rattle.sample.specs.Word.{mostSamples};
 ghost use Rattle.sample.specs.Sample.{sampleOf};
 ghost use Rattle.median.specs.Inner.{Findable};
+ghost use Rattle.root.specs.Root.{root};
 ghost use Rattle.median.specs.Median.{allFinite};
 ghost use Rattle.fit.specs.Sums.{reading, sumsOf, translationTotals, rotZoomTotals, affineTotals};
 ghost use Rattle.fit.specs.Fitted.{fitFrom};
 ghost use Rattle.quantize.specs.Quantize.{quantizedFrom};
 ghost use Rattle.quantize.specs.Inner.{refitStep};
-ghost use Rattle.trim.specs.Trim.{leastOf, continuousFit, residualsFrom, cutoff, fewRefusal, trimmedFrom, trimmedModelFrom};
-ghost use Rattle.trim.specs.Inner.{itself, mostNumbers, sampleAt, upTo, samplesIn, stored, under, refusedCut, cutOf};
-ghost use Rattle.trim.specs.Inner.{listRefusal, modelRefusal, refusedModel, modelAs, Under, Untrimmed, Rooted, Cuts};
+ghost use Rattle.trim.specs.Trim.{leastOf, continuousFit, cutoff, fewRefusal, trimmedFrom, trimmedModelFrom};
+ghost use Rattle.trim.specs.Inner.{itself, mostNumbers, sampleAt, upTo, samplesIn, stored, squaresFrom, under, refusedCut, cutOf};
+ghost use Rattle.trim.specs.Inner.{listRefusal, modelRefusal, refusedModel, modelAs, Bare, Limits, Under, Untrimmed, Squared, Cuts};
 
 // Rows of the rules' table.
 pub const TOO_SHORT: u32 = 15;
@@ -64,7 +68,7 @@ pub struct TrimmedModel {
     pub params: [i32; 6],
 }
 
-// The same as `Trimmed`, and the limit that the roots of the used samples are under.
+// The same as `Trimmed`, and the limit that the used samples' squared residuals are under.
 pub struct Cut {
     pub fitted: Fitted,
     pub used: u32,
@@ -161,29 +165,29 @@ fn continuous_fit(fitted: Fitted) -> ContinuousModel
     }
 }
 
-// How far each sample lies from a fit: the root of its squared residual.
-fn residuals(fitted: Fitted, numbers: &[f64; 16384], n: usize, roots: &mut [f64])
-    requires { ⌜ (n ≤ mostSamples) × (n ≤ length (now roots)) ⌝ }
-    ensures { λ _. ⌜ now (roots .exit) ≡ onto (residualsFrom (sampleAt (now (numbers .entry))) fitted (upTo n)) (now (roots .entry)) ⌝ }
+// How far each sample lies from a fit, squared.
+fn residuals(fitted: Fitted, numbers: &[f64; 16384], n: usize, squares: &mut [f64])
+    requires { ⌜ (n ≤ mostSamples) × (n ≤ length (now squares)) ⌝ }
+    ensures { λ _. ⌜ now (squares .exit) ≡ onto (squaresFrom (sampleAt (now (numbers .entry))) fitted (upTo n)) (now (squares .entry)) ⌝ }
 {
     let m = continuous_fit(fitted);
     let mut i = 0usize;
     while i < n {
-        roots[i] = root::root(score::residual(m, sample_at(numbers, i)));
+        squares[i] = score::residual(m, sample_at(numbers, i));
         i += 1;
     }
 }
 
 // ---- the samples under a limit
 
-fn count_under(roots: &[f64], n: usize, limit: f64) -> usize
-    requires { ⌜ n ≤ length (now roots) ⌝ }
-    ensures { λ r. ⌜ r ≡ length (under (now (roots .entry)) limit n) ⌝ }
+fn count_under(squares: &[f64], n: usize, limit: f64) -> usize
+    requires { ⌜ n ≤ length (now squares) ⌝ }
+    ensures { λ r. ⌜ r ≡ length (under (now (squares .entry)) limit n) ⌝ }
 {
     let mut count = 0usize;
     let mut i = 0usize;
     while i < n {
-        if limit >= roots[i] {
+        if limit >= squares[i] {
             count += 1;
         }
         i += 1;
@@ -191,14 +195,19 @@ fn count_under(roots: &[f64], n: usize, limit: f64) -> usize
     count
 }
 
-fn translation_under(numbers: &[f64; 16384], roots: &[f64], n: usize, limit: f64) -> TranslationSums
-    requires { ⌜ (n ≤ mostSamples) × (n ≤ length (now roots)) ⌝ }
-    ensures { λ r. ⌜ r ≡ translationTotals (sumsOf (sampleAt (now (numbers .entry))) (under (now (roots .entry)) limit n)) ⌝ }
+fn translation_under(
+    numbers: &[f64; 16384],
+    squares: &[f64],
+    n: usize,
+    limit: f64,
+) -> TranslationSums
+    requires { ⌜ (n ≤ mostSamples) × (n ≤ length (now squares)) ⌝ }
+    ensures { λ r. ⌜ r ≡ translationTotals (sumsOf (sampleAt (now (numbers .entry))) (under (now (squares .entry)) limit n)) ⌝ }
 {
     let mut t = fit::translation_begin();
     let mut i = 0usize;
     while i < n {
-        if roots[i] <= limit {
+        if squares[i] <= limit {
             t = fit::translation_step(t, sample_at(numbers, i));
         }
         i += 1;
@@ -206,14 +215,14 @@ fn translation_under(numbers: &[f64; 16384], roots: &[f64], n: usize, limit: f64
     t
 }
 
-fn rotzoom_under(numbers: &[f64; 16384], roots: &[f64], n: usize, limit: f64) -> RotZoomSums
-    requires { ⌜ (n ≤ mostSamples) × (n ≤ length (now roots)) ⌝ }
-    ensures { λ r. ⌜ r ≡ rotZoomTotals (sumsOf (sampleAt (now (numbers .entry))) (under (now (roots .entry)) limit n)) ⌝ }
+fn rotzoom_under(numbers: &[f64; 16384], squares: &[f64], n: usize, limit: f64) -> RotZoomSums
+    requires { ⌜ (n ≤ mostSamples) × (n ≤ length (now squares)) ⌝ }
+    ensures { λ r. ⌜ r ≡ rotZoomTotals (sumsOf (sampleAt (now (numbers .entry))) (under (now (squares .entry)) limit n)) ⌝ }
 {
     let mut t = fit::rotzoom_begin();
     let mut i = 0usize;
     while i < n {
-        if roots[i] <= limit {
+        if squares[i] <= limit {
             t = fit::rotzoom_step(t, sample_at(numbers, i));
         }
         i += 1;
@@ -221,14 +230,14 @@ fn rotzoom_under(numbers: &[f64; 16384], roots: &[f64], n: usize, limit: f64) ->
     t
 }
 
-fn affine_under(numbers: &[f64; 16384], roots: &[f64], n: usize, limit: f64) -> AffineSums
-    requires { ⌜ (n ≤ mostSamples) × (n ≤ length (now roots)) ⌝ }
-    ensures { λ r. ⌜ r ≡ affineTotals (sumsOf (sampleAt (now (numbers .entry))) (under (now (roots .entry)) limit n)) ⌝ }
+fn affine_under(numbers: &[f64; 16384], squares: &[f64], n: usize, limit: f64) -> AffineSums
+    requires { ⌜ (n ≤ mostSamples) × (n ≤ length (now squares)) ⌝ }
+    ensures { λ r. ⌜ r ≡ affineTotals (sumsOf (sampleAt (now (numbers .entry))) (under (now (squares .entry)) limit n)) ⌝ }
 {
     let mut t = fit::affine_begin();
     let mut i = 0usize;
     while i < n {
-        if roots[i] <= limit {
+        if squares[i] <= limit {
             t = fit::affine_step(t, sample_at(numbers, i));
         }
         i += 1;
@@ -240,21 +249,21 @@ fn affine_under(numbers: &[f64; 16384], roots: &[f64], n: usize, limit: f64) -> 
 fn fit_under(
     gm_type: u8,
     numbers: &[f64; 16384],
-    roots: &[f64],
+    squares: &[f64],
     n: usize,
     limit: f64,
     used: usize,
 ) -> Fitted
-    requires { ⌜ Under (now roots) limit n used ⌝ }
-    ensures { λ r. ⌜ r ≡ fitFrom (sampleAt (now (numbers .entry))) «gm_type» (under (now (roots .entry)) limit n) ⌝ }
+    requires { ⌜ Under (now squares) limit n used ⌝ }
+    ensures { λ r. ⌜ r ≡ fitFrom (sampleAt (now (numbers .entry))) «gm_type» (under (now (squares .entry)) limit n) ⌝ }
 {
     if gm_type == TRANSLATION {
-        return fit::translation_ends(translation_under(numbers, roots, n, limit), used);
+        return fit::translation_ends(translation_under(numbers, squares, n, limit), used);
     }
     if gm_type == ROTZOOM {
-        return fit::rotzoom_ends(rotzoom_under(numbers, roots, n, limit), used);
+        return fit::rotzoom_ends(rotzoom_under(numbers, squares, n, limit), used);
     }
-    fit::affine_ends(affine_under(numbers, roots, n, limit), used)
+    fit::affine_ends(affine_under(numbers, squares, n, limit), used)
 }
 
 // The sums of the refit against a linear part, over the samples under a limit.
@@ -262,17 +271,17 @@ fn left_under(
     m: ContinuousModel,
     begun: TranslationSums,
     numbers: &[f64; 16384],
-    roots: &[f64],
+    squares: &[f64],
     n: usize,
     limit: f64,
 ) -> TranslationSums
-    requires { ⌜ (n ≤ mostSamples) × (n ≤ length (now roots)) ⌝ }
-    ensures { λ r. ⌜ r ≡ fold (reading (refitStep m) (sampleAt (now (numbers .entry)))) (under (now (roots .entry)) limit n) begun ⌝ }
+    requires { ⌜ (n ≤ mostSamples) × (n ≤ length (now squares)) ⌝ }
+    ensures { λ r. ⌜ r ≡ fold (reading (refitStep m) (sampleAt (now (numbers .entry)))) (under (now (squares .entry)) limit n) begun ⌝ }
 {
     let mut t = begun;
     let mut i = 0usize;
     while i < n {
-        if roots[i] <= limit {
+        if squares[i] <= limit {
             t = quantize::refit_step(m, t, sample_at(numbers, i));
         }
         i += 1;
@@ -285,18 +294,18 @@ fn refit_under(
     fitted: Fitted,
     flag: u8,
     numbers: &[f64; 16384],
-    roots: &[f64],
+    squares: &[f64],
     n: usize,
     limit: f64,
     used: usize,
 ) -> Quantized
-    requires { ⌜ Under (now roots) limit n used ⌝ }
-    ensures { λ r. ⌜ r ≡ quantizedFrom (sampleAt (now (numbers .entry))) fitted flag (under (now (roots .entry)) limit n) ⌝ }
+    requires { ⌜ Under (now squares) limit n used ⌝ }
+    ensures { λ r. ⌜ r ≡ quantizedFrom (sampleAt (now (numbers .entry))) fitted flag (under (now (squares .entry)) limit n) ⌝ }
 {
     let begun = quantize::refit_begin(fitted, flag);
     let linear = begun.linear;
     let m = begun.m;
-    let sums = left_under(m, begun.sums, numbers, roots, n, limit);
+    let sums = left_under(m, begun.sums, numbers, squares, n, limit);
     quantize::refit_ends(
         Refitting {
             fitted,
@@ -323,24 +332,55 @@ pub fn least_of(gm_type: u8) -> usize
     LEAST_AFFINE
 }
 
-fn all_finite(roots: &[f64], n: usize) -> bool
-    requires { ⌜ n ≤ length (now roots) ⌝ }
-    ensures { λ r. ⌜ r ≡ allFinite (take n (now (roots .entry))) ⌝ }
+fn all_finite(squares: &[f64], n: usize) -> bool
+    requires { ⌜ n ≤ length (now squares) ⌝ }
+    ensures { λ r. ⌜ r ≡ allFinite (take n (now (squares .entry))) ⌝ }
 {
-    median::all_finite(&roots[..n])
+    median::all_finite(&squares[..n])
 }
 
-// The greater of three medians and 1.0.
-fn cutoff_of(roots: &[f64], n: usize) -> f64
-    requires { ⌜ n ≤ length (now roots) ⌝ }
-    requires { ⌜ Findable (take n (now roots)) ⌝ }
-    ensures { λ r. ⌜ r ≡ cutoff (take n (now (roots .entry))) ⌝ }
+// The greater of three medians and 1.0; the median is that of the roots.
+fn cutoff_of(squares: &[f64], n: usize) -> f64
+    requires { ⌜ n ≤ length (now squares) ⌝ }
+    requires { ⌜ Findable (take n (now squares)) ⌝ }
+    ensures { λ r. ⌜ r ≡ cutoff (map root (take n (now (squares .entry)))) ⌝ }
 {
-    let three = 3.0 * median::median(&roots[..n]);
+    let three = 3.0 * root::root(median::median(&squares[..n]));
     if three < 1.0 {
         return 1.0;
     }
     three
+}
+
+// The greatest finite number whose root is at most the cutoff, by bisecting the patterns: the root of
+// each below lo is, and of none from hi on. Minus infinity where there is none.
+fn square_limit(cutoff: f64) -> f64
+    requires { ⌜ Bare cutoff ⌝ }
+    ensures { λ r. ⌜ Limits cutoff r ⌝ }
+{
+    let mut lo = 0u64;
+    let mut hi = INFINITE;
+    while lo < hi {
+        let mid = lo + (hi - lo) / 2;
+        if root::root(f64::from_bits(mid)) <= cutoff {
+            lo = mid + 1;
+        } else {
+            hi = mid;
+        }
+    }
+    if lo == 0 {
+        return -f64::from_bits(INFINITE);
+    }
+    f64::from_bits(lo - 1)
+}
+
+// A residual is at most the cutoff where its square is at most this.
+fn limit_of(squares: &[f64], n: usize) -> f64
+    requires { ⌜ n ≤ length (now squares) ⌝ }
+    requires { ⌜ Findable (take n (now squares)) ⌝ }
+    ensures { λ r. ⌜ Limits (cutoff (map root (take n (now (squares .entry))))) r ⌝ }
+{
+    square_limit(cutoff_of(squares, n))
 }
 
 fn refused_cut(number: u32) -> Cut
@@ -371,36 +411,36 @@ fn cut_of(fitted: Fitted, used: usize, limit: f64) -> Cut
 
 // The fit of the samples that stay; where they are too few the first fit stands, with all samples under
 // infinity.
-fn second(gm_type: u8, first: Fitted, numbers: &[f64; 16384], roots: &[f64], n: usize) -> Cut
-    requires { ⌜ Rooted (now numbers) «gm_type» n (now roots) first ⌝ }
-    ensures { λ r. ⌜ Cuts (now (numbers .entry)) «gm_type» n (now (roots .entry)) r ⌝ }
+fn second(gm_type: u8, first: Fitted, numbers: &[f64; 16384], squares: &[f64], n: usize) -> Cut
+    requires { ⌜ Squared (now numbers) «gm_type» n (now squares) first ⌝ }
+    ensures { λ r. ⌜ Cuts (now (numbers .entry)) «gm_type» n (now (squares .entry)) r ⌝ }
 {
-    if !all_finite(roots, n) {
+    if !all_finite(squares, n) {
         return refused_cut(NOT_FINITE);
     }
-    let limit = cutoff_of(roots, n);
-    let kept = count_under(roots, n, limit);
+    let limit = limit_of(squares, n);
+    let kept = count_under(squares, n, limit);
     if kept < least_of(gm_type) {
         return cut_of(first, n, f64::from_bits(INFINITE));
     }
     cut_of(
-        fit_under(gm_type, numbers, roots, n, limit, kept),
+        fit_under(gm_type, numbers, squares, n, limit, kept),
         kept,
         limit,
     )
 }
 
-fn trim(gm_type: u8, numbers: &[f64; 16384], n: usize, roots: &mut [f64]) -> Cut
-    requires { ⌜ Untrimmed «gm_type» n (now roots) ⌝ }
-    ensures { λ r. ⌜ Cuts (now (numbers .entry)) «gm_type» n (now (roots .exit)) r ⌝ }
+fn trim(gm_type: u8, numbers: &[f64; 16384], n: usize, squares: &mut [f64]) -> Cut
+    requires { ⌜ Untrimmed «gm_type» n (now squares) ⌝ }
+    ensures { λ r. ⌜ Cuts (now (numbers .entry)) «gm_type» n (now (squares .exit)) r ⌝ }
 {
-    let first = fit_under(gm_type, numbers, roots, n, 0.0, n);
+    let first = fit_under(gm_type, numbers, squares, n, 0.0, n);
     let number = fit::refusal_of(first);
     if number != 0 {
         return refused_cut(number);
     }
-    residuals(first, numbers, n, roots);
-    second(gm_type, first, numbers, roots, n)
+    residuals(first, numbers, n, squares);
+    second(gm_type, first, numbers, squares, n)
 }
 
 // ---- the calls
@@ -449,8 +489,8 @@ pub fn trimmed_fit(gm_type: u8, numbers: &[f64; 16384], n: usize) -> Trimmed
             used: 0,
         };
     }
-    let mut roots = [0.0f64; 4096];
-    let cut = trim(gm_type, numbers, n, &mut roots);
+    let mut squares = [0.0f64; 4096];
+    let cut = trim(gm_type, numbers, n, &mut squares);
     let fitted = cut.fitted;
     Trimmed {
         fitted,
@@ -474,15 +514,15 @@ fn on_grid(
     fitted: Fitted,
     flag: u8,
     numbers: &[f64; 16384],
-    roots: &[f64],
+    squares: &[f64],
     n: usize,
     limit: f64,
     used: u32,
 ) -> TrimmedModel
-    requires { ⌜ Under (now roots) limit n used ⌝ }
-    ensures { λ r. ⌜ r ≡ modelAs used (quantizedFrom (sampleAt (now (numbers .entry))) fitted flag (under (now (roots .entry)) limit n)) ⌝ }
+    requires { ⌜ Under (now squares) limit n used ⌝ }
+    ensures { λ r. ⌜ r ≡ modelAs used (quantizedFrom (sampleAt (now (numbers .entry))) fitted flag (under (now (squares .entry)) limit n)) ⌝ }
 {
-    let quantized = refit_under(fitted, flag, numbers, roots, n, limit, used as usize);
+    let quantized = refit_under(fitted, flag, numbers, squares, n, limit, used as usize);
     let params = quantized.params;
     TrimmedModel {
         refusal: 0,
@@ -498,14 +538,14 @@ pub fn trimmed_model(gm_type: u8, flag: u8, numbers: &[f64; 16384], n: usize) ->
     if refusal != 0 {
         return refused_model(refusal);
     }
-    let mut roots = [0.0f64; 4096];
-    let cut = trim(gm_type, numbers, n, &mut roots);
+    let mut squares = [0.0f64; 4096];
+    let cut = trim(gm_type, numbers, n, &mut squares);
     let fitted = cut.fitted;
     let number = fit::refusal_of(fitted);
     if number != 0 {
         return refused_model(number);
     }
-    on_grid(fitted, flag, numbers, &roots, n, cut.limit, cut.used)
+    on_grid(fitted, flag, numbers, &squares, n, cut.limit, cut.used)
 }
 
 // The fit of a type code over sample words, after trimming.

@@ -1,4 +1,4 @@
--- `trim::all_finite`: the first n roots are lent.
+-- `trim::all_finite`: the first n squares are lent.
 -- Assumes nothing.
 use borrow.Author.Needs.{needs}
 use mathlib.Core.Path.{sym}
@@ -9,7 +9,7 @@ use Rattle.trim.proofs.all_finite.Tie as tie
 slice-aggregate-all-finite : tie.Need-slice-aggregate-all-finite
 slice-aggregate-all-finite c =
     let s = c .before .before in
-    sym (length-take-le (s .args .n) (s .args .roots .now) (s .pre))
+    sym (length-take-le (s .args .n) (s .args .squares .now) (s .pre))
 
 returns : tie.Need-returns
 returns c = c .all-finite .ensures

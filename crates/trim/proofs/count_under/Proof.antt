@@ -1,4 +1,4 @@
--- `trim::count_under`: what is left to count, from here as from the first root.
+-- `trim::count_under`: what is left to count, from here as from the first square.
 -- Assumes nothing.
 use borrow.Author.Needs.{needs}
 use Prim.Native.Nat.{_-_, _≤_}
@@ -14,11 +14,11 @@ use Rattle.trim.proofs.count_under.Statement.{statement}
 use Rattle.trim.proofs.count_under.Tie as tie
 
 abbrev Inv-loop : tie.InvT-loop
-Inv-loop roots n limit count₀ i₀ count i =
-    (i ≤ n) × (count ≤ i) × (fold (countStep roots limit) (drop i (upTo n)) count ≡ fold (countStep roots limit) (upTo n) 0)
+Inv-loop squares n limit count₀ i₀ count i =
+    (i ≤ n) × (count ≤ i) × (fold (countStep squares limit) (drop i (upTo n)) count ≡ fold (countStep squares limit) (upTo n) 0)
 
 abbrev μ-loop : tie.MeasureT-loop
-μ-loop roots n limit count₀ i₀ count i = n - i
+μ-loop squares n limit count₀ i₀ count i = n - i
 
 loop-holds : tie.Need-loop-holds Inv-loop μ-loop
 loop-holds c = (omega arith, omega arith, refl)
@@ -29,14 +29,14 @@ loop-again c =
     let l = c .before .before .before .loop in
     let inside = c .before .before .loop-test .taken in
     ⊎-elim
-    (λ w. (omega arith, rw (w .1) (omega arith), index-again (countStep (a .roots .now) (a .limit)) inside (count-taken (a .roots .now) (a .limit) (l .i) (l .count) (c .if1 .count) (w .0 .taken) (w .1)) (l .inv .2)))
-    (λ w. (omega arith, rw (w .1) (omega arith), index-again (countStep (a .roots .now) (a .limit)) inside (count-passed (a .roots .now) (a .limit) (l .i) (l .count) (c .if1 .count) (w .0 .left) (w .1)) (l .inv .2)))
+    (λ w. (omega arith, rw (w .1) (omega arith), index-again (countStep (a .squares .now) (a .limit)) inside (count-taken (a .squares .now) (a .limit) (l .i) (l .count) (c .if1 .count) (w .0 .taken) (w .1)) (l .inv .2)))
+    (λ w. (omega arith, rw (w .1) (omega arith), index-again (countStep (a .squares .now) (a .limit)) inside (count-passed (a .squares .now) (a .limit) (l .i) (l .count) (c .if1 .count) (w .0 .left) (w .1)) (l .inv .2)))
     (c .if1 .came)
 
 returns : tie.Need-returns Inv-loop μ-loop
 returns c =
     let a = c .before .before .args in
-    index-done (countStep (a .roots .now) (a .limit)) (c .loop-test .left) (c .before .loop .inv .2) ∙ under-count (a .roots .now) (a .limit) (a .n)
+    index-done (countStep (a .squares .now) (a .limit)) (c .loop-test .left) (c .before .loop .inv .2) ∙ under-count (a .squares .now) (a .limit) (a .n)
 
 pub count-under-spec : {M : Type 1} → statement M
 count-under-spec =

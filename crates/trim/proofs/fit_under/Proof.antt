@@ -18,14 +18,14 @@ use Rattle.trim.proofs.fit_under.Statement.{statement}
 use Rattle.trim.proofs.fit_under.Tie as tie
 
 -- the answer of a fit's end, by the sums and the count
-ended : {S : Type 0} (of : S → Float → Fitted) (roots : List Float) (limit : Float) (n used : ℕ) (t s : S) (r : Fitted)
-    → Under roots limit n used → t ≡ s → r ≡ fitAnswer used (of t (countAs used)) → r ≡ of s (countAs (length (under roots limit n)))
-ended {S} of roots limit n used t s r u e h =
-    let few : length (under roots limit n) ≤ mostSamples = omega (arith, under-few roots limit n, u .few) in
+ended : {S : Type 0} (of : S → Float → Fitted) (squares : List Float) (limit : Float) (n used : ℕ) (t s : S) (r : Fitted)
+    → Under squares limit n used → t ≡ s → r ≡ fitAnswer used (of t (countAs used)) → r ≡ of s (countAs (length (under squares limit n)))
+ended {S} of squares limit n used t s r u e h =
+    let few : length (under squares limit n) ≤ mostSamples = omega (arith, under-few squares limit n, u .few) in
     h
     ∙ ap (λ (x : S). fitAnswer used (of x (countAs used))) e
     ∙ ap (λ (k : ℕ). fitAnswer k (of s (countAs k))) (u .counted)
-    ∙ fit-answers (length (under roots limit n)) (of s (countAs (length (under roots limit n)))) few
+    ∙ fit-answers (length (under squares limit n)) (of s (countAs (length (under squares limit n)))) few
 
 returns : tie.Need-returns
 unfolding translationFrom
@@ -33,7 +33,7 @@ returns c =
     let s = c .before .before .before .before in
     let a = s .args in
     rw (eq-eqb _ _ (c .before .before .if1 .taken))
-    (ended translationOf (a .roots .now) (a .limit) (a .n) (a .used) (c .before .translation-under .result) (translationTotals (sumsOf (sampleAt (a .numbers .now)) (under (a .roots .now) (a .limit) (a .n)))) (c .translation-ends .result) (s .pre) (c .before .translation-under .ensures) (c .translation-ends .ensures))
+    (ended translationOf (a .squares .now) (a .limit) (a .n) (a .used) (c .before .translation-under .result) (translationTotals (sumsOf (sampleAt (a .numbers .now)) (under (a .squares .now) (a .limit) (a .n)))) (c .translation-ends .result) (s .pre) (c .before .translation-under .ensures) (c .translation-ends .ensures))
 
 returns-2 : tie.Need-returns-2
 unfolding rotZoomFrom
@@ -41,7 +41,7 @@ returns-2 c =
     let s = c .before .before .before .before .before in
     let a = s .args in
     rw (ne-eqb _ _ (c .before .before .before .if1 .left), eq-eqb _ _ (c .before .before .if2 .taken))
-    (ended rotZoomOf (a .roots .now) (a .limit) (a .n) (a .used) (c .before .rotzoom-under .result) (rotZoomTotals (sumsOf (sampleAt (a .numbers .now)) (under (a .roots .now) (a .limit) (a .n)))) (c .rotzoom-ends .result) (s .pre) (c .before .rotzoom-under .ensures) (c .rotzoom-ends .ensures))
+    (ended rotZoomOf (a .squares .now) (a .limit) (a .n) (a .used) (c .before .rotzoom-under .result) (rotZoomTotals (sumsOf (sampleAt (a .numbers .now)) (under (a .squares .now) (a .limit) (a .n)))) (c .rotzoom-ends .result) (s .pre) (c .before .rotzoom-under .ensures) (c .rotzoom-ends .ensures))
 
 returns-3 : tie.Need-returns-3
 unfolding affineFrom
@@ -49,7 +49,7 @@ returns-3 c =
     let s = c .before .before .before .before .before in
     let a = s .args in
     rw (ne-eqb _ _ (c .before .before .before .if1 .left), ne-eqb _ _ (c .before .before .if2 .left))
-    (ended affineOf (a .roots .now) (a .limit) (a .n) (a .used) (c .before .affine-under .result) (affineTotals (sumsOf (sampleAt (a .numbers .now)) (under (a .roots .now) (a .limit) (a .n)))) (c .affine-ends .result) (s .pre) (c .before .affine-under .ensures) (c .affine-ends .ensures))
+    (ended affineOf (a .squares .now) (a .limit) (a .n) (a .used) (c .before .affine-under .result) (affineTotals (sumsOf (sampleAt (a .numbers .now)) (under (a .squares .now) (a .limit) (a .n)))) (c .affine-ends .result) (s .pre) (c .before .affine-under .ensures) (c .affine-ends .ensures))
 
 pub fit-under-spec : {M : Type 1} → statement M
 fit-under-spec =

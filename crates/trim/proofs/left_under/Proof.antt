@@ -14,11 +14,11 @@ use Rattle.trim.proofs.left_under.Statement.{statement}
 use Rattle.trim.proofs.left_under.Tie as tie
 
 abbrev Inv-loop : tie.InvT-loop
-Inv-loop m numbers roots n limit t₀ i₀ t i =
-    fold (underStep (refitStep m) numbers roots limit) (drop i (upTo n)) t ≡ fold (underStep (refitStep m) numbers roots limit) (upTo n) t₀
+Inv-loop m numbers squares n limit t₀ i₀ t i =
+    fold (underStep (refitStep m) numbers squares limit) (drop i (upTo n)) t ≡ fold (underStep (refitStep m) numbers squares limit) (upTo n) t₀
 
 abbrev μ-loop : tie.MeasureT-loop
-μ-loop m numbers roots n limit t₀ i₀ t i = n - i
+μ-loop m numbers squares n limit t₀ i₀ t i = n - i
 
 loop-holds : tie.Need-loop-holds Inv-loop μ-loop
 loop-holds c = refl
@@ -27,18 +27,18 @@ loop-again : tie.Need-loop-again Inv-loop μ-loop
 loop-again c =
     let a = c .before .before .before .before .before .args in
     let l = c .before .before .before .loop in
-    index-again (underStep (refitStep (a .m)) (a .numbers .now) (a .roots .now) (a .limit)) (c .before .before .loop-test .taken)
+    index-again (underStep (refitStep (a .m)) (a .numbers .now) (a .squares .now) (a .limit)) (c .before .before .loop-test .taken)
     (⊎-elim
-    (λ w. turn-taken (refitStep (a .m)) (a .numbers .now) (a .roots .now) (a .limit) (l .i) (l .t) (c .if1 .t) (w .0 .taken) (w .3 ∙ w .2 .ensures ∙ ap (refitStep (a .m) (l .t)) (w .1 .ensures)))
-    (λ w. turn-passed (refitStep (a .m)) (a .numbers .now) (a .roots .now) (a .limit) (l .i) (l .t) (c .if1 .t) (w .0 .left) (w .1))
+    (λ w. turn-taken (refitStep (a .m)) (a .numbers .now) (a .squares .now) (a .limit) (l .i) (l .t) (c .if1 .t) (w .0 .taken) (w .3 ∙ w .2 .ensures ∙ ap (refitStep (a .m) (l .t)) (w .1 .ensures)))
+    (λ w. turn-passed (refitStep (a .m)) (a .numbers .now) (a .squares .now) (a .limit) (l .i) (l .t) (c .if1 .t) (w .0 .left) (w .1))
     (c .if1 .came))
     (l .inv)
 
 returns : tie.Need-returns Inv-loop μ-loop
 returns c =
     let a = c .before .before .before .args in
-    index-done (underStep (refitStep (a .m)) (a .numbers .now) (a .roots .now) (a .limit)) (c .loop-test .left) (c .before .loop .inv)
-    ∙ under-fold (refitStep (a .m)) (a .numbers .now) (a .roots .now) (a .limit) (a .n) (a .begun)
+    index-done (underStep (refitStep (a .m)) (a .numbers .now) (a .squares .now) (a .limit)) (c .loop-test .left) (c .before .loop .inv)
+    ∙ under-fold (refitStep (a .m)) (a .numbers .now) (a .squares .now) (a .limit) (a .n) (a .begun)
 
 pub left-under-spec : {M : Type 1} → statement M
 left-under-spec =

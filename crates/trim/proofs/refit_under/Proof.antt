@@ -21,7 +21,7 @@ refittingOf f flag t s = record { fitted = f; flag = flag; linear = t .linear; m
 returns : tie.Need-returns
 returns c =
     let a = c .before .before .before .before .before .before .args in
-    let kept = under (a .roots .now) (a .limit) (a .n) in
+    let kept = under (a .squares .now) (a .limit) (a .n) in
     let read = sampleAt (a .numbers .now) in
     let begun = c .before .before .before .before .refit-begin .result in
     c .refit-ends .ensures

@@ -1,4 +1,4 @@
--- `trim::residuals`: each turn writes the next sample's root.
+-- `trim::residuals`: each turn writes the next sample's square.
 -- Assumes nothing.
 use borrow.Author.Needs.{needs}
 use Prim.Native.Nat.{ℕ, _-_, _≤_}
@@ -10,38 +10,36 @@ use lib.Ieee.{Float}
 use Rattle.laws.specs.Buffer.{onto}
 use Rattle.laws.specs.Parts.{listing}
 use Rattle.laws.proofs.Filling.{fill-front}
-use Rattle.root.specs.Root.{root}
 use Rattle.score.specs.declared.ContinuousModel.{ContinuousModel}
 use Rattle.score.specs.Score.{residualOf}
-use Rattle.trim.specs.Trim.{residual}
-use Rattle.trim.specs.Inner.{sampleAt}
+use Rattle.trim.specs.Inner.{sampleAt, square}
 use Rattle.trim.proofs.Indices.{map-listing}
 use Rattle.trim.proofs.residuals.Statement.{statement}
 use Rattle.trim.proofs.residuals.Tie as tie
 
--- the root of sample k
-abbrev rootBy : ContinuousModel → List Float → ℕ → Float
-rootBy m numbers k = root (residualOf m (sampleAt numbers k))
+-- the square of sample k
+abbrev squareBy : ContinuousModel → List Float → ℕ → Float
+squareBy m numbers k = residualOf m (sampleAt numbers k)
 
 abbrev Inv-loop : tie.InvT-loop
-Inv-loop numbers n roots₀ m i₀ roots i =
-    (i ≤ n) × (roots ≡ onto (listing (rootBy m numbers) i) roots₀) × (length roots ≡ length roots₀)
+Inv-loop numbers n squares₀ m i₀ squares i =
+    (i ≤ n) × (squares ≡ onto (listing (squareBy m numbers) i) squares₀) × (length squares ≡ length squares₀)
 
 abbrev μ-loop : tie.MeasureT-loop
-μ-loop numbers n roots₀ m i₀ roots i = n - i
+μ-loop numbers n squares₀ m i₀ squares i = n - i
 
 loop-holds : tie.Need-loop-holds Inv-loop μ-loop
 loop-holds c = (omega arith, refl, refl)
 
 loop-again : tie.Need-loop-again Inv-loop μ-loop
 loop-again c =
-    let s = c .before .before .before .before .before .before .before in
+    let s = c .before .before .before .before .before .before in
     let a = s .args in
-    let l = c .before .before .before .before .loop in
-    let m = c .before .before .before .before .before .continuous-fit .result in (
+    let l = c .before .before .before .loop in
+    let m = c .before .before .before .before .continuous-fit .result in (
       search needs,
-      fill-front (rootBy m (a .numbers .now)) (l .i) (a .roots .now) (search needs) (l .inv .1)
-          (c .root .ensures ∙ ap root (c .before .residual .ensures ∙ ap (residualOf m) (c .before .before .sample-at .ensures))),
+      fill-front (squareBy m (a .numbers .now)) (l .i) (a .squares .now) (search needs) (l .inv .1)
+          (c .residual .ensures ∙ ap (residualOf m) (c .before .sample-at .ensures)),
       search needs,
     )
 
@@ -51,9 +49,9 @@ returns c =
     let l = c .before .loop in
     let m = c .before .before .continuous-fit in
     l .inv .1
-    ∙ ap (λ (k : ℕ). onto (listing (rootBy (m .result) (a .numbers .now)) k) (a .roots .now)) (let e : l .i ≡ a .n = omega arith in e)
-    ∙ ap (λ (model : ContinuousModel). onto (listing (rootBy model (a .numbers .now)) (a .n)) (a .roots .now)) (m .ensures)
-    ∙ ap (λ (rs : List Float). onto rs (a .roots .now)) (sym (map-listing (λ (k : ℕ). residual (a .fitted) (sampleAt (a .numbers .now) k)) (λ k. k) (a .n)))
+    ∙ ap (λ (k : ℕ). onto (listing (squareBy (m .result) (a .numbers .now)) k) (a .squares .now)) (let e : l .i ≡ a .n = omega arith in e)
+    ∙ ap (λ (model : ContinuousModel). onto (listing (squareBy model (a .numbers .now)) (a .n)) (a .squares .now)) (m .ensures)
+    ∙ ap (λ (rs : List Float). onto rs (a .squares .now)) (sym (map-listing (λ (k : ℕ). square (a .fitted) (sampleAt (a .numbers .now) k)) (λ k. k) (a .n)))
 
 pub residuals-spec : {M : Type 1} → statement M
 residuals-spec =
@@ -63,7 +61,6 @@ residuals-spec =
     μ-loop
     (search needs)
     loop-holds
-    (search needs)
     (search needs)
     (search needs)
     (search needs)

@@ -1,4 +1,4 @@
--- `trim::rotzoom_under`: what is left to add, from here as from the first sample; where the root is above the limit nothing is added.
+-- `trim::rotzoom_under`: what is left to add, from here as from the first sample; where the square is above the limit nothing is added.
 -- Assumes nothing.
 use borrow.Author.Needs.{needs}
 use Prim.Native.Nat.{_-_}
@@ -16,11 +16,11 @@ use Rattle.trim.proofs.rotzoom_under.Statement.{statement}
 use Rattle.trim.proofs.rotzoom_under.Tie as tie
 
 abbrev Inv-loop : tie.InvT-loop
-Inv-loop numbers roots n limit t₀ i₀ t i =
-    fold (underStep rotZoomStep numbers roots limit) (drop i (upTo n)) t ≡ fold (underStep rotZoomStep numbers roots limit) (upTo n) t₀
+Inv-loop numbers squares n limit t₀ i₀ t i =
+    fold (underStep rotZoomStep numbers squares limit) (drop i (upTo n)) t ≡ fold (underStep rotZoomStep numbers squares limit) (upTo n) t₀
 
 abbrev μ-loop : tie.MeasureT-loop
-μ-loop numbers roots n limit t₀ i₀ t i = n - i
+μ-loop numbers squares n limit t₀ i₀ t i = n - i
 
 loop-holds : tie.Need-loop-holds Inv-loop μ-loop
 loop-holds c = refl
@@ -29,21 +29,21 @@ loop-again : tie.Need-loop-again Inv-loop μ-loop
 loop-again c =
     let a = c .before .before .before .before .before .before .args in
     let l = c .before .before .before .loop in
-    index-again (underStep rotZoomStep (a .numbers .now) (a .roots .now) (a .limit)) (c .before .before .loop-test .taken)
+    index-again (underStep rotZoomStep (a .numbers .now) (a .squares .now) (a .limit)) (c .before .before .loop-test .taken)
     (⊎-elim
-    (λ w. turn-taken rotZoomStep (a .numbers .now) (a .roots .now) (a .limit) (l .i) (l .t) (c .if1 .t) (w .0 .taken) (w .3 ∙ w .2 .ensures ∙ ap (rotZoomStep (l .t)) (w .1 .ensures)))
-    (λ w. turn-passed rotZoomStep (a .numbers .now) (a .roots .now) (a .limit) (l .i) (l .t) (c .if1 .t) (w .0 .left) (w .1))
+    (λ w. turn-taken rotZoomStep (a .numbers .now) (a .squares .now) (a .limit) (l .i) (l .t) (c .if1 .t) (w .0 .taken) (w .3 ∙ w .2 .ensures ∙ ap (rotZoomStep (l .t)) (w .1 .ensures)))
+    (λ w. turn-passed rotZoomStep (a .numbers .now) (a .squares .now) (a .limit) (l .i) (l .t) (c .if1 .t) (w .0 .left) (w .1))
     (c .if1 .came))
     (l .inv)
 
 returns : tie.Need-returns Inv-loop μ-loop
 returns c =
     let a = c .before .before .before .before .args in
-    let steps = underStep rotZoomStep (a .numbers .now) (a .roots .now) (a .limit) in
+    let steps = underStep rotZoomStep (a .numbers .now) (a .squares .now) (a .limit) in
     index-done steps (c .loop-test .left) (c .before .loop .inv)
     ∙ ap (fold steps (upTo (a .n))) (c .before .before .rotzoom-begin .ensures)
-    ∙ under-fold rotZoomStep (a .numbers .now) (a .roots .now) (a .limit) (a .n) (rotZoomTotals noSums)
-    ∙ rotZoom-sums (sampleAt (a .numbers .now)) (under (a .roots .now) (a .limit) (a .n))
+    ∙ under-fold rotZoomStep (a .numbers .now) (a .squares .now) (a .limit) (a .n) (rotZoomTotals noSums)
+    ∙ rotZoom-sums (sampleAt (a .numbers .now)) (under (a .squares .now) (a .limit) (a .n))
 
 pub rotzoom-under-spec : {M : Type 1} → statement M
 rotzoom-under-spec =

@@ -1,11 +1,11 @@
--- `trim::second`: a residual that isn't finite is row 16; where too few are kept the first fit stands, with all samples under infinity; otherwise the fit of those under the cutoff is the last.
+-- `trim::second`: a residual that isn't finite is row 16; where too few are kept the first fit stands, with all samples under infinity; otherwise the fit of those under the limit is the last.
 -- Assumes nothing.
 use borrow.Author.Needs.{needs}
 use borrow.Author.Tests.{not-true, not-false}
 use mathlib.Core.Path.{sym, _∙_}
 use native.Mathlib.Omega.{arith}
 use lib.Ieee.{nanBits}
-use Rattle.trim.proofs.LastFit.{infinity-is, roots-long, infinite-cuts, roots-findable, kept-under-limit, few-kept, stood-cuts, fitted-cuts}
+use Rattle.trim.proofs.LastFit.{infinity-is, squares-long, infinite-cuts, squares-findable, kept-under-limit, few-kept, stood-cuts, fitted-cuts}
 use Rattle.trim.proofs.second.Statement.{statement}
 use Rattle.trim.proofs.second.Tie as tie
 
@@ -13,28 +13,28 @@ all-finite-requires : tie.Need-all-finite-requires
 all-finite-requires c κs =
     let s = c .before in
     let a = s .args in
-    roots-long (a .numbers .now) (a .gm-type) (a .n) (a .roots .now) (a .first) (s .pre)
+    squares-long (a .numbers .now) (a .gm-type) (a .n) (a .squares .now) (a .first) (s .pre)
 
 returns : tie.Need-returns
 returns c =
     let s = c .before .before .before .before in
     let a = s .args in
     rw (c .refused-cut .ensures)
-    (infinite-cuts (a .numbers .now) (a .gm-type) (a .n) (a .roots .now) (a .first) (s .pre) (sym (c .before .before .all-finite .ensures) ∙ not-true (c .before .before .all-finite .result) (c .before .if1 .taken)))
+    (infinite-cuts (a .numbers .now) (a .gm-type) (a .n) (a .squares .now) (a .first) (s .pre) (sym (c .before .before .all-finite .ensures) ∙ not-true (c .before .before .all-finite .result) (c .before .if1 .taken)))
 
-cutoff-of-requires : tie.Need-cutoff-of-requires
-cutoff-of-requires c κs =
+limit-of-requires : tie.Need-limit-of-requires
+limit-of-requires c κs =
     let s = c .before .before .before in
     let a = s .args in (
-      roots-long (a .numbers .now) (a .gm-type) (a .n) (a .roots .now) (a .first) (s .pre),
-      roots-findable (a .numbers .now) (a .gm-type) (a .n) (a .roots .now) (a .first) (s .pre) (sym (c .before .all-finite .ensures) ∙ not-false (c .before .all-finite .result) (c .if1 .left)),
+      squares-long (a .numbers .now) (a .gm-type) (a .n) (a .squares .now) (a .first) (s .pre),
+      squares-findable (a .numbers .now) (a .gm-type) (a .n) (a .squares .now) (a .first) (s .pre) (sym (c .before .all-finite .ensures) ∙ not-false (c .before .all-finite .result) (c .if1 .left)),
     )
 
 count-under-requires : tie.Need-count-under-requires
 count-under-requires c κs =
     let s = c .before .before .before .before in
     let a = s .args in
-    roots-long (a .numbers .now) (a .gm-type) (a .n) (a .roots .now) (a .first) (s .pre)
+    squares-long (a .numbers .now) (a .gm-type) (a .n) (a .squares .now) (a .first) (s .pre)
 
 float-from-bits-cut-of : tie.Need-float-from-bits-cut-of
 unfolding nanBits
@@ -44,10 +44,10 @@ returns-2 : tie.Need-returns-2
 returns-2 c =
     let s = c .before .before .before .before .before .before .before .before in
     let a = s .args in
-    let limit = c .before .before .before .before .cutoff-of in
+    let limit = c .before .before .before .before .limit-of in
     let count = c .before .before .before .count-under in
     rw (c .cut-of .ensures)
-    (stood-cuts (a .numbers .now) (a .gm-type) (a .n) (a .roots .now) (a .first) (s .pre)
+    (stood-cuts (a .numbers .now) (a .gm-type) (a .n) (a .squares .now) (a .first) (s .pre)
     (sym (c .before .before .before .before .before .before .all-finite .ensures) ∙ not-false (c .before .before .before .before .before .before .all-finite .result) (c .before .before .before .before .before .if1 .left)) (limit .result) (limit .ensures)
     (count .result) (count .ensures) (omega (arith, c .before .if2 .taken, c .before .before .least-of .ensures)) _ infinity-is)
 
@@ -55,9 +55,9 @@ fit-under-requires : tie.Need-fit-under-requires
 fit-under-requires c κs =
     let s = c .before .before .before .before .before .before .before in
     let a = s .args in
-    let limit = c .before .before .before .cutoff-of in
+    let limit = c .before .before .before .limit-of in
     let count = c .before .before .count-under in
-    kept-under-limit (a .numbers .now) (a .gm-type) (a .n) (a .roots .now) (a .first) (s .pre)
+    kept-under-limit (a .numbers .now) (a .gm-type) (a .n) (a .squares .now) (a .first) (s .pre)
     (sym (c .before .before .before .before .before .all-finite .ensures) ∙ not-false (c .before .before .before .before .before .all-finite .result) (c .before .before .before .before .if1 .left)) (limit .result) (limit .ensures)
     (count .result) (count .ensures)
 
@@ -65,9 +65,9 @@ cut-of-requires-2 : tie.Need-cut-of-requires-2
 cut-of-requires-2 c κs =
     let s = c .before .before .before .before .before .before .before .before in
     let a = s .args in
-    let limit = c .before .before .before .before .cutoff-of in
+    let limit = c .before .before .before .before .limit-of in
     let count = c .before .before .before .count-under in
-    few-kept (a .numbers .now) (a .gm-type) (a .n) (a .roots .now) (a .first) (s .pre)
+    few-kept (a .numbers .now) (a .gm-type) (a .n) (a .squares .now) (a .first) (s .pre)
     (sym (c .before .before .before .before .before .before .all-finite .ensures) ∙ not-false (c .before .before .before .before .before .before .all-finite .result) (c .before .before .before .before .before .if1 .left)) (limit .result) (limit .ensures)
     (count .result) (count .ensures)
 
@@ -75,10 +75,10 @@ returns-3 : tie.Need-returns-3
 returns-3 c =
     let s = c .before .before .before .before .before .before .before .before .before in
     let a = s .args in
-    let limit = c .before .before .before .before .before .cutoff-of in
+    let limit = c .before .before .before .before .before .limit-of in
     let count = c .before .before .before .before .count-under in
     rw (c .cut-of2 .ensures)
-    (fitted-cuts (a .numbers .now) (a .gm-type) (a .n) (a .roots .now) (a .first) (s .pre)
+    (fitted-cuts (a .numbers .now) (a .gm-type) (a .n) (a .squares .now) (a .first) (s .pre)
     (sym (c .before .before .before .before .before .before .before .all-finite .ensures) ∙ not-false (c .before .before .before .before .before .before .before .all-finite .result) (c .before .before .before .before .before .before .if1 .left)) (limit .result) (limit .ensures)
     (count .result) (count .ensures) (omega (arith, c .before .before .if2 .left, c .before .before .before .least-of .ensures)) (c .before .fit-under .result) (c .before .fit-under .ensures))
 
@@ -89,7 +89,7 @@ second-spec =
     all-finite-requires
     (λ c κs. search needs)
     returns
-    cutoff-of-requires
+    limit-of-requires
     count-under-requires
     (λ c κs. search needs)
     float-from-bits-cut-of

@@ -1,9 +1,9 @@
--- `trim::trim`: the first fit takes every sample, and where it isn't refused each sample's root is known to the second.
+-- `trim::trim`: the first fit takes every sample, and where it isn't refused each sample's square is known to the second.
 -- Assumes nothing.
 use borrow.Author.Needs.{needs}
 use mathlib.Core.Path.{sym, _∙_}
 use Rattle.trim.proofs.Answers.{refused-cuts, first-refused}
-use Rattle.trim.proofs.FirstFit.{room, all-under-nought, first-is, rooted}
+use Rattle.trim.proofs.FirstFit.{room, all-under-nought, first-is, squared}
 use Rattle.trim.proofs.trim.Statement.{statement}
 use Rattle.trim.proofs.trim.Tie as tie
 
@@ -11,7 +11,7 @@ fit-under-requires : tie.Need-fit-under-requires
 fit-under-requires c κs =
     let s = c .before .before in
     let a = s .args in
-    all-under-nought (a .numbers .now) (a .gm-type) (a .n) (a .roots .now) (s .pre)
+    all-under-nought (a .numbers .now) (a .gm-type) (a .n) (a .squares .now) (s .pre)
 
 returns : tie.Need-returns
 returns c =
@@ -19,16 +19,16 @@ returns c =
     let a = s .args in
     let first = c .before .before .before .fit-under in
     let number = c .before .before .refusal-of in
-    let is = first-is (a .numbers .now) (a .gm-type) (a .n) (a .roots .now) (s .pre) (first .result) (first .ensures) in
+    let is = first-is (a .numbers .now) (a .gm-type) (a .n) (a .squares .now) (s .pre) (first .result) (first .ensures) in
     rw (c .refused-cut .ensures)
-    (refused-cuts (a .numbers .now) (a .gm-type) (a .n) (a .roots .now) (number .result) (room (a .numbers .now) (a .gm-type) (a .n) (a .roots .now) (s .pre)) (c .before .if1 .taken)
+    (refused-cuts (a .numbers .now) (a .gm-type) (a .n) (a .squares .now) (number .result) (room (a .numbers .now) (a .gm-type) (a .n) (a .squares .now) (s .pre)) (c .before .if1 .taken)
     (first-refused (a .numbers .now) (a .gm-type) (a .n) (first .result) is (λ z. c .before .if1 .taken (number .ensures ∙ z)) ∙ sym (number .ensures)))
 
 residuals-requires : tie.Need-residuals-requires
 residuals-requires c κs =
     let s = c .before .before .before .before .before .before in
     let a = s .args in
-    (s .pre .few, room (a .numbers .now) (a .gm-type) (a .n) (a .roots .now) (s .pre))
+    (s .pre .few, room (a .numbers .now) (a .gm-type) (a .n) (a .squares .now) (s .pre))
 
 second-requires : tie.Need-second-requires
 second-requires c κs =
@@ -36,7 +36,7 @@ second-requires c κs =
     let a = s .args in
     let first = c .before .before .before .before .before .before .before .fit-under in
     let number = c .before .before .before .before .before .before .refusal-of in
-    rooted (a .numbers .now) (a .gm-type) (a .n) (a .roots .now) (s .pre) (first .result) (first .ensures)
+    squared (a .numbers .now) (a .gm-type) (a .n) (a .squares .now) (s .pre) (first .result) (first .ensures)
     (sym (number .ensures) ∙ c .before .before .before .before .before .if1 .left) _ (c .before .before .before .residuals .ensures)
 
 returns-2 : tie.Need-returns-2

@@ -14,9 +14,9 @@ use Rattle.laws.proofs.Ranged.{Ranged, inFormat, sum-ranged, difference-ranged,
 use Rattle.sample.specs.Word.{mostSamples, rowOf, colOf, vOf, uOf}
 use Rattle.sample.specs.Sample.{toCentre, eight, eighthsOf, centreOf, pelsOf, sampleOf}
 use Rattle.sample.proofs.Word.{row-below, col-below, v-below, u-below}
-use Rattle.exact.specs.Words.{Word}
-use Rattle.exact.specs.Table.{halvesOf, xHalves, yHalves, uEighths, vEighths, mostHalves, lowEighths, highEighths}
-use Rattle.exact.specs.Table.{Sum, sumU, sumV, sumX, sumY, sumXX, sumXY, sumYY, sumXU, sumYU, sumXV, sumYV, sumQ, sumP1, sumP2}
+use Rattle.tally.specs.Tally.{Word}
+use Rattle.fit.specs.Table.{halvesOf, xHalves, yHalves, uEighths, vEighths, mostHalves, lowEighths, highEighths}
+use Rattle.fit.specs.Table.{Sum, sumU, sumV, sumX, sumY, sumXX, sumXY, sumYY, sumXU, sumYU, sumXV, sumYV, sumQ, sumP1, sumP2}
 
 -- ---- the four numbers of a sample
 

@@ -1,0 +1,24 @@
+-- `fit::rotzoom_over`: each sum is the definition's, of the same sums of fields.
+-- Assumes nothing.
+use borrow.Author.Needs.{needs}
+use Rattle.fit.proofs.rotzoom_over.Statement.{statement}
+use Rattle.fit.proofs.rotzoom_over.Tie as tie
+
+returns : tie.Need-returns
+returns c = cc
+
+pub rotzoom-over-spec : {M : Type 1} → statement M
+rotzoom-over-spec =
+    tie.close
+    (tie.spec
+    (search needs)
+    (search needs)
+    (search needs)
+    (search needs)
+    (search needs)
+    (search needs)
+    (search needs)
+    (search needs)
+    (search needs)
+    (search needs)
+    returns)

@@ -1,0 +1,57 @@
+-- `tally::motions_of`: the sums of the words so far, and at last of all of them.
+-- Assumes nothing.
+use borrow.Author.Needs.{needs}
+use Prim.Native.Nat.{_-_}
+use mathlib.Core.Path.{_≡_, refl, sym, _∙_, subst}
+use lib.ListN.{length, take}
+use Rattle.tally.specs.declared.Motions.{Motions}
+use Rattle.tally.specs.Tally.{countOver, motionTotals}
+use Rattle.tally.specs.Inner.{SmallMotions, motionsStep}
+use Rattle.tally.proofs.Counted.{all-words, one-more, all-counted, part-small, counted-small, motions-small}
+use Rattle.tally.proofs.motions_of.Statement.{statement}
+use Rattle.tally.proofs.motions_of.Tie as tie
+
+abbrev Inv-loop : tie.InvT-loop
+Inv-loop words t₀ i₀ t i = t ≡ motionTotals (countOver (take i words))
+
+abbrev μ-loop : tie.MeasureT-loop
+μ-loop words t₀ i₀ t i = length words - i
+
+loop-holds : tie.Need-loop-holds Inv-loop μ-loop
+loop-holds c = c .no-motions .ensures
+
+motions-step-requires : tie.Need-motions-step-requires Inv-loop μ-loop
+motions-step-requires c κs =
+    let a = c .before .before .before .before .before .args in
+    let l = c .before .before .loop in
+    let words = all-words (a .words .now) (c .before .before .before .before .shared-slice-known .given) in
+    subst SmallMotions (sym (l .inv)) (motions-small (countOver (take (l .i) (a .words .now))) (λ f small. part-small f small (a .words .now) words (c .before .before .before .before .before .pre) (l .i)))
+
+loop-again : tie.Need-loop-again Inv-loop μ-loop
+loop-again c =
+    let l = c .before .before .before .loop in
+    one-more motionTotals motionsStep (λ count w. refl) (c .before .before .before .before .before .before .args .words .now) (l .i) (c .before .before .loop-test .taken) (c .motions-step .ensures) (l .inv)
+
+returns : tie.Need-returns Inv-loop μ-loop
+returns c =
+    let ws = c .before .before .before .before .args .words .now in
+    let words = all-words ws (c .before .before .before .shared-slice-known .given) in
+    let e = all-counted motionTotals motionsStep (λ count w. refl) ws (c .before .loop .i) (c .loop-test .left) (c .before .loop .inv) in
+    let small = motions-small (countOver ws) (λ f small. counted-small f small ws words (c .before .before .before .before .pre)) in
+    (e, (subst SmallMotions (sym e) small, words))
+
+pub motions-of-spec : {M : Type 1} → statement M
+motions-of-spec =
+    tie.close
+    (tie.spec
+    Inv-loop
+    μ-loop
+    (search needs)
+    loop-holds
+    (search needs)
+    (search needs)
+    motions-step-requires
+    (search needs)
+    (search needs)
+    loop-again
+    returns)
