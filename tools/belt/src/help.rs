@@ -159,8 +159,9 @@ const PRACTICE: Command = Command {
     line: "a belt to practise on: two pictures with a known motion",
     about: &[
         "Writes two PGM files of 16 bits: a reference of noise, the same on every machine for a seed, and an input that \
-         is the reference moved. The search begins on halved pictures: on such noise it finds even shifts and loses odd \
-         ones. A loaded belt has shapes, and is found at every shift.",
+         is the reference moved. The search begins on halved pictures: on such noise it finds every block of an even \
+         shift, about nine in ten where the shift is odd one way, and about a quarter where it is odd both ways. A \
+         loaded belt has shapes, and is found at every shift.",
     ],
     options: &[
         opt("--size", "WxH", "The pictures' sides in pels; 640x480 if it isn't given."),

@@ -76,6 +76,8 @@ pub struct Measured {
     pub width: usize,
     pub height: usize,
     pub settings: Settings,
+    /// The model asked for.
+    pub asked: Model,
     /// The type of the model found.
     pub gm_type: u8,
     /// The model found, x first.
@@ -128,6 +130,7 @@ pub fn measure(job: &Job, input: &Frame, reference: &Frame) -> Result<Measured, 
         width,
         height,
         settings,
+        asked: job.model,
         gm_type,
         model,
         report,

@@ -19,7 +19,8 @@ pub fn words(gm_type: u8) -> &'static str {
 /// What the help says of `--type` and `--trim`.
 pub const TYPE_HELP: &str = "The model: translation, rotzoom (shift, zoom and angle) or affine. It must be named: this \
     library doesn't elect a type yet.";
-pub const TRIM_HELP: &str = "Fit again without the blocks that lie far off the first fit. This library doesn't yet.";
+pub const TRIM_HELP: &str = "Fit again without the blocks that lie far off the first fit, so that a piece that rolls \
+    on its own doesn't pull the model. It takes 4 blocks for a translation, 6 for a rotzoom, 8 for an affine model.";
 
 /// The model that a job is to find.
 #[derive(Clone, Copy, Debug, PartialEq, Eq)]
@@ -40,6 +41,15 @@ impl Model {
         }
     }
 
+    /// How it is fitted, for programs.
+    pub fn fit(self) -> &'static str {
+        match self {
+            Model::Elected => "elected",
+            Model::Fitted { trim: true, .. } => "trimmed",
+            Model::Fitted { trim: false, .. } => "plain",
+        }
+    }
+
     /// A job's settings.
     pub fn settings(self, frame: u16, reference: u8, flag: u8, start: usize) -> Result<Settings, Failure> {
         match self {
@@ -47,10 +57,9 @@ impl Model {
                 let what = "this library doesn't elect a type yet; name translation, rotzoom or affine";
                 Err(Failure::bad("--type", what))
             }
-            Model::Fitted { trim: true, .. } => {
-                Err(Failure::bad("--trim", "this library doesn't trim a fit yet; leave it out"))
+            Model::Fitted { kind, trim } => {
+                Ok(Settings { frame, gm_type: kind, reference, flag, trim: trim.into(), start })
             }
-            Model::Fitted { kind, trim: false } => Ok(Settings { frame, gm_type: kind, reference, flag, start }),
         }
     }
 }
@@ -66,7 +75,8 @@ mod tests {
         for name in ["identity", "Affine", "3", ""] {
             assert!(Model::chosen(Some(name), false).is_err(), "{name}");
         }
-        let settings = Model::Fitted { kind: 2, trim: false }.settings(5, 7, 1, 3).unwrap();
-        assert_eq!(settings, Settings { frame: 5, gm_type: 2, reference: 7, flag: 1, start: 3 });
+        let settings = |trim| Model::Fitted { kind: 2, trim }.settings(5, 7, 1, 3).unwrap();
+        let plain = Settings { frame: 5, gm_type: 2, reference: 7, flag: 1, trim: 0, start: 3 };
+        assert_eq!((settings(false), settings(true)), (plain, Settings { trim: 1, ..plain }));
     }
 }

@@ -162,6 +162,10 @@ fn refusals() {
     refused(&measure(&["--prior", "prior"]), &format!("{pair}, 8: {}", row(8)));
     let small = ["measure", "still.pgm", "pan.pgm", "--type", "rotzoom", "--crop", "0,0,15,15"];
     refused(&small, &format!("{pair}, 6: {}", row(6)));
+    for (gm_type, part) in [("translation", "0,0,48,16"), ("rotzoom", "0,0,80,16"), ("affine", "0,0,112,16")] {
+        let few = ["measure", "still.pgm", "pan.pgm", "--trim", "--type", gm_type, "--crop", part];
+        refused(&few, &format!("{pair}, 15: {}", row(15)));
+    }
     folder.write("header", [0xFF; 2]);
     refused(&["read-header", "header", "--at", "9"], &format!("header, bit 9: refused, 9: {}", row(9)));
     let far = ["practice", "a", "b", "--shift", "25,0"];
@@ -219,10 +223,5 @@ fn what_the_library_does_not_have() {
         &folder,
         &["measure", "still.pgm", "pan.pgm"],
         "--type: this library doesn't elect a type yet; name translation, rotzoom or affine",
-    );
-    bad(
-        &folder,
-        &["measure", "still.pgm", "pan.pgm", "--type", "affine", "--trim"],
-        "--trim: this library doesn't trim a fit yet; leave it out",
     );
 }

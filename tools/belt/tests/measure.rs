@@ -54,6 +54,34 @@ fn a_model_that_does_not_fit_is_warned_of() {
     assert_eq!(number(&json, "blocks_that_agree"), 80.0);
 }
 
+/// A picture of noise that shows a patch of it from one place on, and the rest from another.
+fn patched(patch: [usize; 2], rest: [usize; 2]) -> Vec<u8> {
+    let pel = |i: usize| {
+        let (x, y) = (i % 160, i / 160);
+        let inside = (48..96).contains(&x) && (32..80).contains(&y);
+        let [right, down] = if inside { patch } else { rest };
+        let (x, y) = ((x + right) as u64, (y + down) as u64);
+        let h = x.wrapping_mul(0x9E37_79B9_7F4A_7C15) ^ y.wrapping_mul(0xC2B2_AE3D_27D4_EB4F);
+        ((h ^ h >> 29).wrapping_mul(0xBF58_476D_1CE4_E5B9) >> 40) as u8
+    };
+    [b"P5 160 128 255\n".to_vec(), (0..160 * 128).map(pel).collect()].concat()
+}
+
+#[test]
+fn a_trimmed_fit_leaves_out_what_moves_on_its_own() {
+    let folder = Folder::new("trimmed");
+    folder.write("still.pgm", patched([10, 10], [14, 12]));
+    folder.write("rolled.pgm", patched([16, 10], [10, 10]));
+    for gm_type in ["translation", "rotzoom", "affine"] {
+        let plain = measured(&folder, "rolled", &["--type", gm_type]);
+        let trimmed = measured(&folder, "rolled", &["--type", gm_type, "--trim"]);
+        assert!((number(&plain, "right") - 4.0).abs() > 0.2, "{plain}");
+        assert_eq!((number(&trimmed, "right"), number(&trimmed, "down")), (4.0, 2.0), "{trimmed}");
+        assert_eq!((number(&trimmed, "zoom"), number(&trimmed, "angle_degrees")), (1.0, 0.0));
+        assert_eq!((field(&plain, "fit"), field(&trimmed, "fit")), ("plain", "trimmed"));
+    }
+}
+
 #[test]
 fn deep_pictures_and_frames_of_a_clip_are_read() {
     let folder = pictures("deep");

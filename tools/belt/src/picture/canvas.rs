@@ -1,7 +1,7 @@
 //! The scene as pixels.
 
 use super::png::{Colours, png};
-use super::{ADVANCE, Colour, HALO, HALO_SHARE, HALO_WIDTH, INK, LETTER, PAPER, Point, Scene, Strokes, Text, font};
+use super::{ADVANCE, Colour, HALO, HALO_SHARE, HALO_WIDTH, INK, PAPER, Point, Scene, Strokes, Text, font};
 use std::ops::Range;
 
 struct Canvas {
@@ -19,7 +19,7 @@ pub fn draw(scene: &Scene) -> Vec<u8> {
         canvas.stroke(strokes, strokes.radius, strokes.colour, 1.0);
     }
     for text in &scene.texts {
-        canvas.text(text);
+        canvas.text(text, scene.dot);
     }
     png(width, height, Colours::RedGreenBlue, canvas.pixels.as_flattened())
 }
@@ -57,13 +57,14 @@ impl Canvas {
         }
     }
 
-    fn text(&mut self, text: &Text) {
+    /// A text whose letters have dots of a side.
+    fn text(&mut self, text: &Text, dot: usize) {
         let [left, top] = text.at.map(|place| place as usize);
         for (i, letter) in text.text.chars().enumerate() {
-            for y in 0..font::HEIGHT * LETTER {
-                for x in 0..font::WIDTH * LETTER {
-                    let (row, column) = (top + y, left + i * ADVANCE + x);
-                    if font::pixel(letter, y / LETTER, x / LETTER) && row < self.height && column < self.width {
+            for y in 0..font::HEIGHT * dot {
+                for x in 0..font::WIDTH * dot {
+                    let (row, column) = (top + y, left + i * ADVANCE * dot + x);
+                    if font::pixel(letter, y / dot, x / dot) && row < self.height && column < self.width {
                         self.pixels[row * self.width + column] = INK;
                     }
                 }
@@ -116,7 +117,7 @@ mod tests {
     #[test]
     fn letters_end_at_the_canvas() {
         let mut canvas = Canvas { width: 8, height: 8, pixels: vec![[255; 3]; 64] };
-        canvas.text(&Text { at: [0.0, 0.0], text: "LL".into() });
+        canvas.text(&Text { at: [0.0, 0.0], text: "LL".into() }, 2);
         assert_eq!((canvas.pixels[0], canvas.pixels[2]), (INK, [255; 3]));
     }
 }

@@ -1,7 +1,7 @@
 //! The scene as SVG, with the input as a PNG inside.
 
 use super::png::{Colours, png};
-use super::{ADVANCE, Colour, HALO, HALO_SHARE, HALO_WIDTH, INK, LETTER, PAPER, Point, Scene, font};
+use super::{ADVANCE, Colour, HALO, HALO_SHARE, HALO_WIDTH, INK, PAPER, Point, Scene, font};
 use std::fmt::Write;
 
 fn colour([red, green, blue]: Colour) -> String {
@@ -66,10 +66,10 @@ pub fn draw(scene: &Scene) -> String {
         );
     }
     // a letter of such a font is 0.6 of its size wide
-    let size = ADVANCE as f64 / 0.6;
+    let size = (ADVANCE * scene.dot) as f64 / 0.6;
     let ink = colour(INK);
     let _ = writeln!(text, "</g>\n<g font-family=\"monospace\" font-size=\"{size}\" fill=\"{ink}\">");
-    let baseline = ((font::HEIGHT - 1) * LETTER) as f64;
+    let baseline = ((font::HEIGHT - 1) * scene.dot) as f64;
     for label in &scene.texts {
         let [x, y] = label.at;
         let words = escaped(&label.text);

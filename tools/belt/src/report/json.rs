@@ -79,6 +79,7 @@ pub fn pair(measured: &Measured) -> String {
         ("width", Json::count(*width)),
         ("height", Json::count(*height)),
         ("type", Json::text(TYPES[usize::from(*gm_type)])),
+        ("fit", Json::text(measured.asked.fit())),
         ("shift_pels", motion(measured.middle())),
         ("shift_at_first_pel", motion(measured.model.shift())),
         ("zoom", Json::number(measured.model.zoom())),

@@ -119,6 +119,15 @@ pub fn warning(warning: Warning, measured: &Measured) -> String {
     }
 }
 
+/// The type, and how it was fitted.
+fn kind(measured: &Measured) -> String {
+    let name = model::words(measured.gm_type);
+    match measured.asked.fit() {
+        "trimmed" => format!("{name}, fitted without the blocks that lie far off"),
+        _ => name.into(),
+    }
+}
+
 /// The whole report of a pair.
 pub fn pair(measured: &Measured) -> String {
     let Measured { input, reference, width, height, settings, gm_type, model, report, .. } = measured;
@@ -130,7 +139,7 @@ pub fn pair(measured: &Measured) -> String {
         String::new(),
     ];
     let mut row = |name: &str, text: String| lines.push(format!("  {name:<10} {text}"));
-    row("type", model::words(*gm_type).to_string());
+    row("type", kind(measured));
     if *gm_type > 1 {
         row("shift", format!("{}, in the middle of the picture", motion(middle)));
         row("", format!("{}, at its first pel", motion(model.shift())));
