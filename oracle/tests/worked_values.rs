@@ -3,8 +3,8 @@
 use oracle::blocks::{self, ONE, TWO};
 use oracle::list::tilted_words;
 use oracle::{
-    IDENTITY, NOT_FINITE, TOO_FEW, coefficient, fit, quantize_global_param, quantize_model, read_header, sample_of,
-    sample_words, score, search, trimmed, trimmed_or_row, write_header,
+    IDENTITY, NOT_FINITE, TOO_FEW, coefficient, elect_or_row, fit, quantize_global_param, quantize_model, read_header,
+    sample_of, sample_words, score, search, trimmed, trimmed_or_row, write_header,
 };
 
 const TRANSLATION: u8 = 1;
@@ -218,6 +218,26 @@ fn residuals_that_are_not_finite() {
     };
     assert_eq!([row(4, 1e150), row(4, 1e200), row(4, f64::NAN)], [Ok(4), Err(NOT_FINITE), Err(NOT_FINITE)]);
     assert_eq!([row(4, f64::INFINITY), row(3, f64::NAN), row(3, 0.0)], [Err(NOT_FINITE), Err(TOO_FEW), Err(TOO_FEW)]);
+}
+
+/// Each list turns on one rule: the floor, the least list, 0.8 without 0.02, 0.02 without 0.8, the held type and not the one
+/// before, the gate, the shear.
+#[test]
+fn elections() {
+    let elect = |samples: &[[f64; 4]]| {
+        let elected = elect_or_row(true, samples).expect("every residual is finite");
+        (elected.kind, elected.params[0], elected.params[1])
+    };
+    assert_eq!([4, 3].map(|u| elect(&across(&[u; 4]))), [(1, 0, 32768), (0, 0, 0)]);
+    assert_eq!(elect(&across(&[80; 3])), (0, 0, 0));
+    assert_eq!(elect(&vec![across(&[80])[0]; 8]), (1, 0, 655360));
+    let words = |words: &[u32]| elect(&words.iter().map(|&word| sample_of(word)).collect::<Vec<_>>());
+    let ratio = [0x5A364, 0x15A364, 0x25AB64, 0x405A364, 0x415A364, 0x425AB64, 0x805A368, 0x815AB68, 0x825AB68];
+    let margin = [0x74B68, 0x174B6C, 0x273B84, 0x4073B98, 0x4173B74, 0x4275370, 0x807537C, 0x8175384, 0x8272B88];
+    let held = [0x7FC34, 0x17C430, 0x27CC18, 0x407E44C, 0x417C434, 0x4281448, 0x8081C2C, 0x817CC60, 0x827EC3C];
+    let gate = [0x70BBC, 0x172BBC, 0x275BA4, 0x4073B74, 0x4171BBC, 0x427038C, 0x80703BC, 0x816FBBC, 0x8273BB0];
+    assert_eq!([words(&ratio), words(&margin)], [(1, -352256, -49152), (1, 73728, 0)]);
+    assert_eq!([words(&held), words(&gate)], [(3, 359424, 234496), (0, 0, 0)]);
 }
 
 /// A 64×64 bowl, and the input that is it drawn together by a sixteenth.
