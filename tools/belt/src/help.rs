@@ -93,8 +93,8 @@ const MEASURE: Command = Command {
         opt("--models", "FILE", "Store the seven models as text; a next measurement takes them with --prior."),
     ],
     examples: &[
-        ("belt measure a.pgm b.pgm --type rotzoom --picture seen.png", "Two frames, and a picture to look at."),
-        ("belt measure frames/ --type translation --json", "A folder, one line of JSON for each pair."),
+        ("belt measure a.pgm b.pgm --picture seen.png", "Two frames, and a picture to look at."),
+        ("belt measure frames/ --json", "A folder, one line of JSON for each pair."),
         (
             "belt measure clip.y4m#0 clip.y4m#1 --type affine --crop 0,0,1024,512",
             "A part of the first two frames of a clip.",
@@ -172,10 +172,7 @@ const PRACTICE: Command = Command {
         ),
         opt("--seed", "N", "The noise, 0 to 4294967295; 1 if it isn't given."),
     ],
-    examples: &[(
-        "belt practice a.pgm b.pgm --shift 10,0",
-        "Then 'belt measure a.pgm b.pgm --type translation' finds 10 pels right.",
-    )],
+    examples: &[("belt practice a.pgm b.pgm --shift 10,0", "Then 'belt measure a.pgm b.pgm' finds 10 pels right.")],
 };
 
 const PRICE: Command = Command {

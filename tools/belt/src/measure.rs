@@ -2,13 +2,18 @@
 
 use crate::failure::Failure;
 use crate::frames::Frame;
-use crate::model::Model;
+use crate::model::{IDENTITY, Model};
 use belt::{Buffers, IDENTITIES, MOST_EIGHTHS, Motion, Refusal, Report, Sample, Settings, StoredModel, Task};
 
 /// A motion of so many pels, across or down, lies at the end of the range: the search looks at whole pels up to here.
 pub const END_OF_RANGE: f64 = 27.0;
 /// The largest motion that the search finds, in pels.
 pub const RANGE: f64 = MOST_EIGHTHS as f64 / 8.0;
+/// The mean square of the motion, in square pels, below which an election takes the load for standing still
+/// (docs/RULES.md, 'Election').
+const STILL_ENERGY: f64 = 0.25;
+/// An election takes so many blocks.
+pub const LEAST_TO_ELECT: usize = 4;
 /// The share of blocks that agree, below which they are few.
 const FEW: f64 = 0.5;
 /// The share of blocks at the end of the range, from which on they are many.
@@ -50,6 +55,7 @@ impl Block {
 pub enum Warning {
     NoBlocks,
     Flat,
+    NoModel,
     FewAgree,
     EndOfRange,
     WarpNotKept,
@@ -61,6 +67,7 @@ impl Warning {
         match self {
             Warning::NoBlocks => "no-blocks",
             Warning::Flat => "flat",
+            Warning::NoModel => "no-model",
             Warning::FewAgree => "few-agree",
             Warning::EndOfRange => "end-of-range",
             Warning::WarpNotKept => "warp-not-kept",
@@ -103,7 +110,7 @@ pub fn judge_sides(width: usize, height: usize) -> Result<(), Refusal> {
 /// Runs the job on two pictures of the same sides.
 pub fn measure(job: &Job, input: &Frame, reference: &Frame) -> Result<Measured, Failure> {
     let (width, height) = (input.width, input.height);
-    let settings = job.model.settings(job.frame, job.reference, job.flag, job.start)?;
+    let settings = job.model.settings(job.frame, job.reference, job.flag, job.start);
     let unsorted = vec![belt::UNSORTED; belt::sample_count(width, height)];
     let mut buffers = Buffers::new(width, height);
     let task = Task {
@@ -161,7 +168,8 @@ fn warnings(measured: &Measured, flat: bool) -> Vec<Warning> {
     let numbers = measured.model.row_first(measured.gm_type).0;
     let kept = measured.gm_type < 2 || belt::setup_shear(measured.gm_type, &numbers).is_ok_and(|shear| shear.valid);
     let found = [
-        (Warning::FewAgree, measured.share() < FEW),
+        (Warning::NoModel, measured.is_unexplained()),
+        (Warning::FewAgree, measured.share() < FEW && !measured.is_unexplained()),
         (Warning::EndOfRange, measured.at_end() as f64 >= MANY * count),
         (Warning::WarpNotKept, !kept),
     ];
@@ -177,6 +185,16 @@ impl Measured {
     /// The share of them, 0 to 1; 0 without blocks.
     pub fn share(&self) -> f64 {
         if self.blocks.is_empty() { 0.0 } else { self.agreeing() as f64 / self.blocks.len() as f64 }
+    }
+
+    /// Whether no type was elected because the load stands still, or nearly.
+    pub fn is_still(&self) -> bool {
+        self.gm_type == IDENTITY && self.report.score < STILL_ENERGY
+    }
+
+    /// Whether no type was elected though the load moves.
+    pub fn is_unexplained(&self) -> bool {
+        self.gm_type == IDENTITY && !self.is_still()
     }
 
     /// How many motions lie at the end of the range.
@@ -213,8 +231,9 @@ pub mod tests {
         Frame { name: name.into(), width, height, whole: (width, height), most: 255, pels }
     }
 
+    /// A job that fits a type, or elects one for the identity.
     pub fn job(kind: u8) -> Job {
-        let model = Model::Fitted { kind, trim: false };
+        let model = if kind == IDENTITY { Model::Elected } else { Model::Plain(kind) };
         Job { model, frame: 1, reference: 1, flag: 1, start: 0, prior: IDENTITIES, classes: None, within: 0.25 }
     }
 
@@ -225,6 +244,25 @@ pub mod tests {
         assert_eq!((found.gm_type, found.blocks.len(), found.stored.len()), (1, 24, 512));
         assert!(found.agreeing() >= 20 && found.warnings.is_empty(), "{found:?}");
         assert_eq!(found.agreeing(), found.model.agreeing(&words(&found), 0.25));
+    }
+
+    #[test]
+    fn a_type_is_elected_or_it_is_said_why_not() {
+        let still = frame("a", 96, 64, 0, 0);
+        let found = measure(&job(IDENTITY), &frame("a", 96, 64, 2, -4), &still).unwrap();
+        assert_eq!((found.gm_type, found.middle()), (1, Motion { u: -4.0, v: 2.0 }));
+        assert!(!found.is_still() && !found.is_unexplained());
+        let found = measure(&job(IDENTITY), &still, &still).unwrap();
+        assert!(found.gm_type == IDENTITY && found.is_still() && found.warnings.is_empty(), "{found:?}");
+        // two halves that part
+        let halves = |by: i64| {
+            let (left, right) = (frame("a", 96, 64, 0, by), frame("a", 96, 64, 0, -by));
+            let pels = (0..96 * 64).map(|i| if i % 96 < 48 { left.pels[i] } else { right.pels[i] }).collect();
+            Frame { pels, ..left }
+        };
+        let found = measure(&job(IDENTITY), &halves(8), &halves(0)).unwrap();
+        assert!(found.gm_type == IDENTITY && found.is_unexplained(), "{found:?}");
+        assert_eq!(found.warnings, [Warning::NoModel]);
     }
 
     fn words(found: &Measured) -> Vec<u32> {

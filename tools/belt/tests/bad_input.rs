@@ -166,6 +166,9 @@ fn refusals() {
         let few = ["measure", "still.pgm", "pan.pgm", "--trim", "--type", gm_type, "--crop", part];
         refused(&few, &format!("{pair}, 15: {}", row(15)));
     }
+    for words in [&["--frame", "0"][..], &["--frame", "0", "--trim"]] {
+        refused(&[&["measure", "still.pgm", "pan.pgm"], words].concat(), &format!("{pair}, 17: {}", row(17)));
+    }
     folder.write("header", [0xFF; 2]);
     refused(&["read-header", "header", "--at", "9"], &format!("header, bit 9: refused, 9: {}", row(9)));
     let far = ["practice", "a", "b", "--shift", "25,0"];
@@ -213,15 +216,4 @@ fn files_that_cannot_be_written() {
     );
     assert_eq!(folder.names(), before);
     assert_eq!(std::fs::read(folder.path("o.png")).unwrap(), b"what was there");
-}
-
-/// What isn't there yet is said in a plain line.
-#[test]
-fn what_the_library_does_not_have() {
-    let folder = tool::pictures("not-yet");
-    bad(
-        &folder,
-        &["measure", "still.pgm", "pan.pgm"],
-        "--type: this library doesn't elect a type yet; name translation, rotzoom or affine",
-    );
 }

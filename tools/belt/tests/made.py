@@ -38,10 +38,10 @@ def measured(belt, *words):
     return json.loads(said.stdout)
 
 
-def compare(belt, name, first, second, made, kinds=("rotzoom", "affine")):
-    """Measures a pair as each type and holds it to the motion made."""
+def compare(belt, name, first, second, made, kinds=("elected", "rotzoom", "affine")):
+    """Measures a pair as each type, elected too, and holds it to the motion made."""
     for kind in kinds:
-        found = measured(belt, first, second, "--type", kind)
+        found = measured(belt, first, second, *([] if kind == "elected" else ["--type", kind]))
         numbers = {
             "right": found["shift_pels"]["right"],
             "down": found["shift_pels"]["down"],
@@ -93,7 +93,7 @@ def by_magick(belt, folder, base):
 
     still = make("still", "-crop", f"{part}+{LEFT}+{TOP}")
     pan = make("pan", "-crop", f"{part}+{LEFT - 6}+{TOP + 3}")
-    compare(belt, "ImageMagick, pan", still, pan, draw.Motion(right=6, down=-3), ("translation", "rotzoom", "affine"))
+    compare(belt, "ImageMagick, pan", still, pan, draw.Motion(right=6, down=-3), ("elected", "translation", "rotzoom", "affine"))
     # scale, rotate, translate: about the middle, which goes to another place
     x, y = SIDES[0] / 2, SIDES[1] / 2
     cases = {
@@ -120,7 +120,7 @@ def by_ffmpeg(belt, folder, base):
     part = f"{PART[0]}:{PART[1]}"
     still = make("still", f"crop={part}:{LEFT}:{TOP}")
     pan = make("pan", f"crop={part}:{LEFT - 6}:{TOP + 3}")
-    compare(belt, "ffmpeg, pan", still, pan, draw.Motion(right=6, down=-3), ("translation", "rotzoom", "affine"))
+    compare(belt, "ffmpeg, pan", still, pan, draw.Motion(right=6, down=-3), ("elected", "translation", "rotzoom", "affine"))
     # 320×256 times 1.03125 are 330×264, whose middle stays in the part's
     zoom = make("zoom", f"scale=330:264:flags=bicubic,crop={part}:{LEFT + 5}:{TOP + 4}")
     compare(belt, "ffmpeg, zoom", still, zoom, draw.Motion(zoom=1.03125))
@@ -153,7 +153,7 @@ def png_sides(data):
 
 def pictures(belt, folder, first, second):
     png, svg = folder / "seen.png", folder / "seen.svg"
-    found = measured(belt, first, second, "--type", "rotzoom", "--picture", png, "--picture", svg)
+    found = measured(belt, first, second, "--picture", png, "--picture", svg)
     width, height = png_sides(png.read_bytes())
     root = xml.etree.ElementTree.parse(svg).getroot()
     space = "{http://www.w3.org/2000/svg}"

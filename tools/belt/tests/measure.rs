@@ -39,6 +39,17 @@ fn what_was_drawn_is_found() {
             assert!(json.contains("\"warnings\":[]"), "{json}");
         }
     }
+    for (name, gm_type) in [("still", "identity"), ("pan", "translation"), ("zoom", "rotzoom"), ("turn", "rotzoom")] {
+        let json = measured(&folder, name, &[]);
+        assert_eq!((field(&json, "type"), field(&json, "fit")), (gm_type, "elected"), "{name}");
+        assert!(json.contains("\"warnings\":[]"), "{json}");
+        // an election trims, and says so or not
+        assert_eq!(measured(&folder, name, &["--trim"]), json);
+        if gm_type != "identity" {
+            let trimmed = measured(&folder, name, &["--type", gm_type, "--trim"]);
+            assert_eq!(trimmed.replace("\"fit\":\"trimmed\"", "\"fit\":\"elected\""), json);
+        }
+    }
     let json = measured(&folder, "pan", &["--type", "translation"]);
     assert_eq!((number(&json, "right"), number(&json, "down"), number(&json, "score_square_pels")), (6.0, -3.0, 0.0));
 }
@@ -104,10 +115,18 @@ fn what_is_stored_reads_back_as_the_report() {
     folder.write("classes", (0..80).map(|i| names[i % 5]).collect::<String>());
     let prior = StoredModel([4096, -77, 65540, -12, 5, 65530]);
     folder.write("prior", format!("{}\n", prior.0.map(|number| number.to_string()).join(" ")).repeat(7));
-    for (gm_type, name, code) in [("translation", "pan", 1), ("rotzoom", "turn", 2), ("affine", "zoom", 3)] {
+    let cases: [(&[&str], &str, u8); 7] = [
+        (&["--type", "translation"], "pan", 1),
+        (&["--type", "rotzoom"], "turn", 2),
+        (&["--type", "affine"], "zoom", 3),
+        (&["--type", "rotzoom", "--trim"], "zoom", 2),
+        (&[], "still", 0),
+        (&[], "pan", 1),
+        (&[], "turn", 2),
+    ];
+    for (fit, name, code) in cases {
         for (start, reference, flag) in [(0usize, 1usize, 1u8), (5, 7, 0)] {
             let words = [
-                ["--type", gm_type],
                 ["--start", &start.to_string()],
                 ["--reference", &reference.to_string()],
                 ["--precision", if flag == 1 { "high" } else { "low" }],
@@ -118,7 +137,7 @@ fn what_is_stored_reads_back_as_the_report() {
                 ["--header", "header"],
                 ["--models", "models"],
             ];
-            let json = measured(&folder, name, words.as_flattened());
+            let json = measured(&folder, name, &[fit, words.as_flattened()].concat());
 
             let header = fs::read(folder.path("header")).unwrap();
             let read = belt::read_global_motion_params(&header, start, flag, &[prior; 7]).unwrap();
@@ -143,6 +162,13 @@ fn what_is_stored_reads_back_as_the_report() {
             let model = read.models[reference - 1].x_first(code);
             assert_eq!(number(&json, "score_square_pels"), belt::mean_sq_residual(&model, &words).unwrap());
             assert_eq!(number(&json, "blocks_that_agree"), model.agreeing(&words, 0.25) as f64);
+            if fit.contains(&"--trim") {
+                assert_eq!(Ok(model), belt::quantize_trimmed(code, flag, &words).map(|trimmed| trimmed.model));
+            }
+            if fit.is_empty() {
+                let elected = belt::elect(flag, &words).unwrap();
+                assert_eq!((elected.gm_type, elected.model), (code, read.models[reference - 1]));
+            }
             let middle = model.motion_at(79.5, 63.5);
             assert_eq!((number(&json, "right"), number(&json, "down")), (middle.u, middle.v));
 

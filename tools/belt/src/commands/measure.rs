@@ -23,8 +23,6 @@ pub fn run(given: &Given) -> Result<(), Failure> {
     let places = places(given)?;
     let series = places.len() > 2;
     single(given, series)?;
-    // what the library doesn't have is said before a file is read
-    job.model.settings(job.frame, job.reference, job.flag, job.start)?;
 
     let mut files = Files::default();
     let mut stored = Vec::new();

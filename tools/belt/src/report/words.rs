@@ -1,7 +1,7 @@
 //! Motion in words and numbers with units.
 
-use crate::measure::{END_OF_RANGE, Measured, RANGE, Warning};
-use crate::model;
+use crate::measure::{END_OF_RANGE, LEAST_TO_ELECT, Measured, RANGE, Warning};
+use crate::model::{self, IDENTITY, Model as Asked};
 use belt::{Model, Motion};
 
 /// Motions below this many pels are none.
@@ -92,6 +92,12 @@ pub fn sentence(measured: &Measured) -> String {
     if measured.warnings.iter().any(|warning| matches!(warning, Warning::NoBlocks | Warning::Flat)) {
         return "Nothing was measured".into();
     }
+    if measured.is_unexplained() {
+        return "It moved, and no model explains how".into();
+    }
+    if measured.is_still() && measured.error() >= STILL {
+        return "It stood still, to within half a pel".into();
+    }
     format!("It {}", moved(measured.gm_type, measured.model, measured.middle()))
 }
 
@@ -105,6 +111,18 @@ pub fn warning(warning: Warning, measured: &Measured) -> String {
     match warning {
         Warning::NoBlocks => "no whole 16×16 block lies in the picture, and a motion needs one".into(),
         Warning::Flat => "a picture is flat: every pel is the same, so nothing can be found in it".into(),
+        Warning::NoModel if measured.blocks.len() < LEAST_TO_ELECT => format!(
+            "a type is elected from {LEAST_TO_ELECT} blocks on, and there are {}; --type fits one to fewer",
+            measured.blocks.len()
+        ),
+        Warning::NoModel => format!(
+            "no type explains three quarters of the motion: it moved further than {RANGE} pels, or not as one piece; \
+             --type fits one all the same"
+        ),
+        Warning::FewAgree if measured.is_still() => format!(
+            "only {} of the blocks agree: it moved by less than half a pel, too little to elect a type; --type fits one",
+            per_cent(measured.share())
+        ),
         Warning::FewAgree => format!(
             "only {} of the blocks agree: it moved further than {RANGE} pels, or not as one piece, or another type fits",
             per_cent(measured.share())
@@ -122,9 +140,11 @@ pub fn warning(warning: Warning, measured: &Measured) -> String {
 /// The type, and how it was fitted.
 fn kind(measured: &Measured) -> String {
     let name = model::words(measured.gm_type);
-    match measured.asked.fit() {
-        "trimmed" => format!("{name}, fitted without the blocks that lie far off"),
-        _ => name.into(),
+    match measured.asked {
+        Asked::Elected if measured.gm_type == IDENTITY => "none was elected: the header says standing still".into(),
+        Asked::Elected => format!("{name}, elected"),
+        Asked::Trimmed(_) => format!("{name}, fitted without the blocks that lie far off"),
+        Asked::Plain(_) => name.into(),
     }
 }
 
@@ -145,7 +165,7 @@ pub fn pair(measured: &Measured) -> String {
         row("", format!("{}, at its first pel", motion(model.shift())));
         row("zoom", format!("{:.5} ({})", model.zoom(), zoom(model.zoom())));
         row("angle", turn(model.degrees()));
-    } else {
+    } else if !measured.is_unexplained() {
         row("shift", motion(middle));
     }
     let share = per_cent(measured.share());
@@ -154,7 +174,8 @@ pub fn pair(measured: &Measured) -> String {
         "agreement",
         format!("{} of {} ({share}) within {within} pel", count(measured.agreeing()), many(blocks, "block")),
     );
-    row("score", format!("{:.4} square pels, of which the root is {:.2} pels", report.score, measured.error()));
+    let square = if *gm_type == IDENTITY { "square pels, the mean square of the motion" } else { "square pels" };
+    row("score", format!("{:.4} {square}, of which the root is {:.2} pels", report.score, measured.error()));
     let header = hexadecimal(&measured.header);
     row(
         "header",
@@ -182,6 +203,7 @@ pub fn line(measured: &Measured) -> String {
 #[cfg(test)]
 mod tests {
     use super::*;
+    use crate::frames::Frame;
     use crate::measure::tests::{frame, job};
     use crate::measure::{Job, measure};
 
@@ -219,6 +241,37 @@ mod tests {
         let small = frame("a", 15, 40, 0, 0);
         let text = pair(&measure(&job(1), &small, &small).unwrap());
         assert!(text.contains("\nNothing was measured.\n") && !text.contains("didn't move"), "{text}");
+    }
+
+    #[test]
+    fn an_election_is_told_with_its_reason() {
+        let electing = |a: Frame, b: Frame| pair(&measure(&job(IDENTITY), &a, &b).unwrap());
+        let still = || frame("b", 64, 64, 0, 0);
+        let text = electing(frame("a", 64, 64, 2, 4), still());
+        assert!(
+            text.contains("\nIt moved 4 pels right and 2 pels down.\n") && text.contains("a translation, elected\n")
+        );
+        let text = electing(still(), still());
+        assert!(text.contains("\nIt didn't move.\n") && text.contains("  type       none was elected"), "{text}");
+        assert!(text.contains(" 0.0000 square pels, the mean square of the motion, of which the root is 0.00 pels\n"));
+        let few = |dx| frame("a", 48, 16, 0, dx);
+        let text = electing(few(6), few(0));
+        assert!(text.contains("\nIt moved, and no model explains how.\n") && !text.contains("  shift"), "{text}");
+        assert!(text.contains("warning: a type is elected from 4 blocks on, and there are 3"), "{text}");
+    }
+
+    #[test]
+    fn what_moves_by_less_than_half_a_pel_is_told() {
+        let mut found = measure(&job(IDENTITY), &frame("a", 64, 64, 0, 0), &frame("b", 64, 64, 0, 0)).unwrap();
+        found.report.score = 0.140625;
+        assert_eq!(sentence(&found), "It stood still, to within half a pel");
+        let text = warning(Warning::FewAgree, &found);
+        assert!(
+            text.ends_with("it moved by less than half a pel, too little to elect a type; --type fits one"),
+            "{text}"
+        );
+        found.report.score = 0.25;
+        assert_eq!(sentence(&found), "It moved, and no model explains how");
     }
 
     #[test]
