@@ -99,6 +99,7 @@ fn two_pictures_that_do_not_go_together() {
         &["measure", "still.pgm"],
         "measure: it takes two pictures or more, not 1; of a Y4M file, clip.y4m#0 and clip.y4m#1",
     );
+    bad(&folder, &["measure", "-", "-"], "standard input: it can be read for one picture alone");
     std::fs::create_dir(folder.path("nothing")).unwrap();
     bad(&folder, &["measure", "nothing", "--type", "affine"], "nothing: a folder without a .pgm file");
 }

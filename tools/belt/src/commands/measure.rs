@@ -89,6 +89,9 @@ fn places(given: &Given) -> Result<Vec<OsString>, Failure> {
             format!("it takes two pictures or more, not {}; of a Y4M file, clip.y4m#0 and clip.y4m#1", places.len());
         return Err(Failure::bad("measure", what));
     }
+    if places.iter().filter(|place| *place == "-").count() > 1 {
+        return Err(Failure::bad("standard input", "it can be read for one picture alone"));
+    }
     Ok(places)
 }
 
