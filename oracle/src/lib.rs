@@ -124,10 +124,15 @@ impl Samples {
         Some(Trimmed { model: model.map(canonical), used, params })
     }
 
-    /// The Rust stops at a residual that is not-a-number.
-    pub fn elect(&self, high: bool) -> Elected {
+    /// `estimate_global_motion`: a type and its model as stored. The Rust stops at a residual that is not-a-number.
+    pub fn estimate(&self, high: bool) -> (u8, [i32; 6]) {
         let (kind, params) = global_motion::elect(&self.0, high);
-        let kind = kind.as_u8();
+        (kind.as_u8(), params)
+    }
+
+    /// The same with the model's score.
+    pub fn elect(&self, high: bool) -> Elected {
+        let (kind, params) = self.estimate(high);
         Elected { kind, params, score: self.score(&x_first(kind, params)) }
     }
 

@@ -318,7 +318,8 @@ fn elections() {
 #[test]
 fn elections_of_samples() {
     let row = |motions: &[f64]| {
-        let sample = |(place, &u): (usize, &f64)| belt::MotionSample { x: 7.5 + 16.0 * place as f64, y: 7.5, u, v: 0.0 };
+        let sample =
+            |(place, &u): (usize, &f64)| belt::MotionSample { x: 7.5 + 16.0 * place as f64, y: 7.5, u, v: 0.0 };
         motions.iter().enumerate().map(sample).collect::<Vec<_>>()
     };
     assert_eq!(belt::elect_samples(2, &row(&[0.0; 4097])), Err(TooLarge));

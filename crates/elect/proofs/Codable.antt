@@ -18,6 +18,7 @@ use Rattle.models.specs.Models.{filler, slotWrong, modelWrong}
 use Rattle.sample.specs.declared.MotionSample.{MotionSample}
 use Rattle.fit.specs.declared.Fitted.{Fitted}
 use Rattle.fit.specs.Fitted.{refusalOf, typeOf, fitRefusal}
+use Rattle.fit.proofs.OfType.{fit-of-type}
 use Rattle.quantize.specs.Quantize.{paramsFrom, rowFirst}
 use Rattle.quantize.proofs.OnGrid.{OnGrid}
 use Rattle.trim.specs.declared.TrimmedModel.{TrimmedModel}
@@ -27,7 +28,6 @@ use Rattle.elect.specs.declared.Elected.{Elected}
 use Rattle.elect.specs.Elect.{identityParams, energyFrom, candidateFrom, nobody, winnerFrom, asStored}
 use Rattle.elect.specs.Inside.{Inside}
 use Rattle.elect.proofs.AnyMotion.{from-on-grid}
-use Rattle.elect.proofs.FitOfType.{fit-of-type}
 use Rattle.elect.proofs.OwnModel.{own-right}
 use Rattle.elect.proofs.Held.{winner-inside}
 
@@ -63,7 +63,8 @@ module _ {A : Type 0} (read : A → MotionSample) (flag : ℕ) (xs : List A) (en
   no-refusal : trimmedModelRefusal read kind flag xs ≡ 0
   no-refusal = sym (number-shown (trimmedModelRefusal read kind flag xs) (length used) model) ∙ i .fitted
 
-  numbers-are : e .params ≡ model
+  -- the last fit of its type, on the grid
+  pub numbers-are : e .params ≡ model
   numbers-are =
       i .numbers
       ∙ ap (λ (c : TrimmedModel). c .params) (answered-accepted refusedModel (trimmedModelRefusal read kind flag xs) (trimmedModelAs 0 (length used) model) no-refusal)
@@ -74,12 +75,12 @@ module _ {A : Type 0} (read : A → MotionSample) (flag : ℕ) (xs : List A) (en
       (or-else-quiet (flagRefusal flag) (orElse (fewRefusal kind (length xs)) (trimRefusal read kind xs))
       (or-else-quiet (fitRefusal kind (length xs)) (orElse (flagRefusal flag) (orElse (fewRefusal kind (length xs)) (trimRefusal read kind xs))) no-refusal .1) .1) .1
 
-  last-fitted : refusalOf last ≡ 0
+  pub last-fitted : refusalOf last ≡ 0
   unfolding trimRefusal
   last-fitted = or-else-quiet far (refusalOf last) (or-else-quiet first-refusal (orElse far (refusalOf last)) trim-quiet .1) .1
 
   last-type : typeOf last ≡ kind
-  last-type = fit-of-type read used kind (i .some-type) (i .last-type) .same last-fitted
+  last-type = fit-of-type read kind used (i .some-type) (i .last-type) .same last-fitted
 
   pub inside-on-grid : OnGrid kind flag (e .params)
   inside-on-grid =

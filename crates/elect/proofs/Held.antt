@@ -74,8 +74,9 @@ module _ {A : Type 0} (read : A → MotionSample) (flag : ℕ) (xs : List A) (en
 
   -- ---- 16
 
+  -- not refused, or refused with 16 and zeros
   abbrev pub Numbered : Elected → Type 0
-  Numbered e = (e .refusal ≡ 0) ⊎ (e .refusal ≡ 16)
+  Numbered e = (e .refusal ≡ 0) ⊎ (e ≡ stopped 16)
 
   module _ (h : Elected) (n : Numbered h) (kind : ℕ) where
     abbrev own : TrimmedModel
@@ -98,30 +99,29 @@ module _ {A : Type 0} (read : A → MotionSample) (flag : ℕ) (xs : List A) (en
     unfolding turn
     turn-numbered = either-way Numbered (eqb (h .refusal) 0) (judged read xs energy h kind own) h (λ e. judged-numbered) (λ e. n)
 
+    -- 16 stays to the end
+    turn-stays : h .refusal ≡ 16 → turn read flag xs energy h kind .refusal ≡ 16
+    turn-stays z =
+        sym (ap (λ (w : Elected). w .refusal) (turn-ended read flag xs energy h kind (λ q. let x : _≡_ {A = ℕ} 16 0 = sym z ∙ q in absurd (omega arith)))) ∙ z
+
     -- a type's 16, also where another is held
     turn-sixteen : own .refusal ≡ 16 → turn read flag xs energy h kind .refusal ≡ 16
     turn-sixteen e =
         ⊎-elim
         (λ (z : h .refusal ≡ 0). sym (ap (λ (w : Elected). w .refusal) (turn-stops read flag xs energy h kind z own refl e)))
-        (λ (z : h .refusal ≡ 16).
-        sym (ap (λ (w : Elected). w .refusal) (turn-ended read flag xs energy h kind (λ q. let x : _≡_ {A = ℕ} 16 0 = sym z ∙ q in absurd (omega arith)))) ∙ z)
+        (λ (z : h ≡ stopped 16). turn-stays (ap (λ (w : Elected). w .refusal) z))
         n
-
-    -- stays to the end
-    turn-stays : h .refusal ≡ 16 → turn read flag xs energy h kind .refusal ≡ 16
-    turn-stays z =
-        sym (ap (λ (w : Elected). w .refusal) (turn-ended read flag xs energy h kind (λ q. let x : _≡_ {A = ℕ} 16 0 = sym z ∙ q in absurd (omega arith)))) ∙ z
 
   turns-numbered : (kinds : List ℕ) (h : Elected) → Numbered h → Numbered (fold (turn read flag xs energy) kinds h)
   turns-numbered [] h n = n
   turns-numbered (kind ∷ kinds) h n = turns-numbered kinds (turn read flag xs energy h kind) (turn-numbered h n kind)
 
-  turns-stay : (kinds : List ℕ) (h : Elected) → h .refusal ≡ 16 → fold (turn read flag xs energy) kinds h .refusal ≡ 16
-  turns-stay [] h e = e
-  turns-stay (kind ∷ kinds) h e = turns-stay kinds (turn read flag xs energy h kind) (turn-stays h (inr e) kind e)
+  turns-stay : (kinds : List ℕ) (h : Elected) → Numbered h → h .refusal ≡ 16 → fold (turn read flag xs energy) kinds h .refusal ≡ 16
+  turns-stay [] h n e = e
+  turns-stay (kind ∷ kinds) h n e = turns-stay kinds (turn read flag xs energy h kind) (turn-numbered h n kind) (turn-stays h n kind e)
 
   turns-sixteen : (before after : List ℕ) (kind : ℕ) (h : Elected) → Numbered h → candidateFrom read flag xs kind .refusal ≡ 16 → fold (turn read flag xs energy) (before ++ (kind ∷ after)) h .refusal ≡ 16
-  turns-sixteen [] after kind h n e = turns-stay after (turn read flag xs energy h kind) (turn-sixteen h n kind e)
+  turns-sixteen [] after kind h n e = turns-stay after (turn read flag xs energy h kind) (turn-numbered h n kind) (turn-sixteen h n kind e)
   turns-sixteen (b ∷ before) after kind h n e = turns-sixteen before after kind (turn read flag xs energy h b) (turn-numbered h n b) e
 
 -- ---- the election
@@ -140,7 +140,7 @@ module _ {A : Type 0} (read : A → MotionSample) (flag : ℕ) (xs : List A) whe
       either-way (Holds read flag xs energy) (lt energy floor) (nobody energy) (fold (turn read flag xs energy) types (nobody energy)) (λ e z. inl refl)
       (λ e. turns-hold read flag xs energy types three-kinds (nobody energy) (λ z. inl refl))
 
-  -- refused for 16 alone
+  -- refused for 16 alone, and then all zeros
   pub winner-numbered : Numbered read flag xs energy (winnerFrom read flag xs)
   unfolding winnerFrom
   winner-numbered =
@@ -154,3 +154,36 @@ module _ {A : Type 0} (read : A → MotionSample) (flag : ℕ) (xs : List A) whe
       ap (λ (b : Bool). choose b (nobody energy) (fold (turn read flag xs energy) types (nobody energy)) .refusal) moving
       ∙ ap (λ (kinds : List ℕ). fold (turn read flag xs energy) kinds (nobody energy) .refusal) split
       ∙ turns-sixteen read flag xs energy before after kind (nobody energy) (inl refl) e
+
+  -- ---- the winner by its type
+
+  -- type 0 is nobody's
+  pub winner-none : winnerFrom read flag xs .refusal ≡ 0 → winnerFrom read flag xs .«gm_type» ≡ 0 → winnerFrom read flag xs ≡ nobody energy
+  winner-none e z =
+      ⊎-elim
+      (λ (n : winnerFrom read flag xs ≡ nobody energy). n)
+      (λ (i : Inside read flag xs energy (winnerFrom read flag xs)). absurd (omega (arith, i .some-type, z)))
+      (winner-inside e)
+
+  -- any other is a candidate's inside the gate
+  pub winner-some : winnerFrom read flag xs .refusal ≡ 0 → 1 ≤ winnerFrom read flag xs .«gm_type» → Inside read flag xs energy (winnerFrom read flag xs)
+  winner-some e l =
+      ⊎-elim
+      (λ (n : winnerFrom read flag xs ≡ nobody energy). let z = ap (λ (w : Elected). w .«gm_type») n in absurd (omega (arith, l, z)))
+      (λ (i : Inside read flag xs energy (winnerFrom read flag xs)). i)
+      (winner-inside e)
+
+  pub winner-last : winnerFrom read flag xs .refusal ≡ 0 → winnerFrom read flag xs .«gm_type» ≤ 3
+  winner-last e =
+      ⊎-elim
+      (λ (n : winnerFrom read flag xs ≡ nobody energy). let z = ap (λ (w : Elected). w .«gm_type») n in omega (arith, z))
+      (λ (i : Inside read flag xs energy (winnerFrom read flag xs)). i .last-type)
+      (winner-inside e)
+
+  -- the score is that of the winner's numbers over all samples
+  pub winner-score : winnerFrom read flag xs .refusal ≡ 0 → winnerFrom read flag xs .score ≡ errorFrom read (winnerFrom read flag xs .params) xs
+  winner-score e =
+      ⊎-elim
+      (λ (n : winnerFrom read flag xs ≡ nobody energy). subst (λ (w : Elected). w .score ≡ errorFrom read (w .params) xs) (sym n) refl)
+      (λ (i : Inside read flag xs energy (winnerFrom read flag xs)). i .error)
+      (winner-inside e)

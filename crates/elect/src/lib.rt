@@ -9,16 +9,12 @@ use fit::NO_SUCH_CODE;
 use fit::ROTZOOM;
 use fit::TRANSLATION;
 use grid::IDENTITY;
-use sample::MOST_SAMPLES;
-use sample::MotionSample;
 use trim::NOT_FINITE;
 ghost use mathlib.Core.Path.{_≡_};
-ghost use mathlib.Core.List.{map};
-ghost use Prim.Native.Nat.{_≤_, _<_};
-ghost use lib.ListN.{length};
+ghost use Prim.Native.Nat.{_≤_};
 ghost use Rattle.sample.specs.Word.{mostSamples};
 ghost use Rattle.sample.specs.Sample.{sampleOf};
-ghost use Rattle.trim.specs.Inner.{itself, mostNumbers, sampleAt, samplesIn};
+ghost use Rattle.trim.specs.Inner.{itself, samplesIn};
 ghost use Rattle.elect.specs.Elect.{identityParams, errorFrom, isIdentity, invalidShear, unfit, nobody, stopped, beats, heldAfter, turn, winnerFrom, electRefusal, asStored, electedFrom};
 
 // A field of less energy than this stands still.
@@ -41,36 +37,6 @@ pub struct Elected {
     pub score: f64,
 }
 
-// ---- samples in the call's own memory
-
-fn sample_at(numbers: &[f64; 16384], i: usize) -> MotionSample
-    requires { ⌜ i < mostSamples ⌝ }
-    ensures { λ r. ⌜ r ≡ sampleAt (now (numbers .entry)) i ⌝ }
-{
-    MotionSample {
-        x: numbers[4 * i],
-        y: numbers[4 * i + 1],
-        u: numbers[4 * i + 2],
-        v: numbers[4 * i + 3],
-    }
-}
-
-// A list that is too long isn't unpacked: the call refuses it.
-fn unpack(words: &[u32], numbers: &mut [f64; 16384])
-    requires { ⌜ length (now numbers) ≡ mostNumbers ⌝ }
-    ensures { λ _. ⌜ (length (now (words .entry)) ≤ mostSamples → samplesIn (now (numbers .exit)) (length (now (words .entry))) ≡ map sampleOf (now (words .entry))) ⌝ }
-{
-    if words.len() > MOST_SAMPLES {
-        return;
-    }
-    let centres = sample::centres();
-    let mut i = 0usize;
-    while i < words.len() {
-        trim::store(numbers, i, sample::sample_by(&centres, words[i]));
-        i += 1;
-    }
-}
-
 // ---- errors
 
 fn identity_params() -> [i32; 6]
@@ -88,7 +54,7 @@ fn error_of(params: [i32; 6], numbers: &[f64; 16384], n: usize) -> f64
     let mut acc = 0.0;
     let mut i = 0usize;
     while i < n {
-        acc = score::score_step(m, acc, sample_at(numbers, i));
+        acc = score::score_step(m, acc, trim::sample_at(numbers, i));
         i += 1;
     }
     let scored = score::score_of(acc, n);
@@ -137,7 +103,8 @@ fn nobody(energy: f64) -> Elected
     }
 }
 
-fn stopped(number: u32) -> Elected
+// The answer of a call that is refused.
+pub fn stopped(number: u32) -> Elected
     ensures { λ r. ⌜ r ≡ stopped number ⌝ }
 {
     let params = [0i32; 6];
@@ -266,6 +233,6 @@ pub fn elect(flag: u8, words: &[u32]) -> Elected
     ensures { λ r. ⌜ r ≡ electedFrom sampleOf flag (now (words .entry)) ⌝ }
 {
     let mut numbers = [0.0f64; 16384];
-    unpack(words, &mut numbers);
+    trim::unpack(words, &mut numbers);
     elected_in(flag, &numbers, words.len())
 }

@@ -89,7 +89,8 @@ pub fn store(numbers: &mut [f64; 16384], i: usize, s: MotionSample)
     }
 }
 
-fn sample_at(numbers: &[f64; 16384], i: usize) -> MotionSample
+// Sample i of those numbers.
+pub fn sample_at(numbers: &[f64; 16384], i: usize) -> MotionSample
     requires { ⌜ i < mostSamples ⌝ }
     ensures { λ r. ⌜ r ≡ sampleAt (now (numbers .entry)) i ⌝ }
 {
@@ -102,7 +103,7 @@ fn sample_at(numbers: &[f64; 16384], i: usize) -> MotionSample
 }
 
 // A list that is too long isn't unpacked: the call refuses it.
-fn unpack(words: &[u32], numbers: &mut [f64; 16384])
+pub fn unpack(words: &[u32], numbers: &mut [f64; 16384])
     requires { ⌜ length (now numbers) ≡ mostNumbers ⌝ }
     ensures { λ _. ⌜ (length (now (words .entry)) ≤ mostSamples → samplesIn (now (numbers .exit)) (length (now (words .entry))) ≡ map sampleOf (now (words .entry))) ⌝ }
 {

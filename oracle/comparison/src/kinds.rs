@@ -3,7 +3,8 @@
 use crate::inputs::{self, Scene, float, number, prior, sides, stored_model};
 use crate::random::Random;
 use belt::{
-    Buffers, Elected, Fitted, Frame, Kind as FrameKind, Lent, Model, MotionSample, Refusal, Report, Settings, StoredModel, Task,
+    Buffers, Elected, Fitted, Frame, Kind as FrameKind, Lent, Model, MotionSample, Refusal, Report, Settings,
+    StoredModel, Task,
 };
 use oracle::blocks::{self, BLOCK, Form, ONE, TWO};
 use oracle::{Models, SINGULAR, TOO_FEW, practice};
