@@ -27,6 +27,14 @@ pub struct Window {
     pub height: usize,
 }
 
+impl Window {
+    /// Whether it is a part of a picture of these sides, and has pels.
+    fn is_inside(self, width: usize, height: usize) -> bool {
+        let inside = |from: usize, count: usize, side: usize| count > 0 && count <= side && from <= side - count;
+        inside(self.x, self.width, width) && inside(self.y, self.height, height)
+    }
+}
+
 /// A picture in memory: 16 bits a pel, row by row.
 #[derive(Clone, Debug, PartialEq, Eq)]
 pub struct Frame {
@@ -78,6 +86,8 @@ pub struct Opened {
     pub name: String,
     head: Head,
     source: Box<dyn BufRead>,
+    /// The bytes of the frame that were there so far.
+    there: u64,
 }
 
 /// The file and the frame in it that a place names: `clip.y4m#3` is frame 3, counted from 0, unless a file has that
@@ -135,7 +145,7 @@ fn of_source(name: String, mut source: Box<dyn BufRead>, number: u64) -> Result<
         Ok(Kind::Y4m) => y4m::head(&mut source, number)?,
         Err(what) => return Err(what),
     };
-    Ok(Opened { name, head, source })
+    Ok(Opened { name, head, source, there: 0 })
 }
 
 enum Kind {
@@ -212,50 +222,57 @@ impl Opened {
     fn read_window(mut self, window: Option<Window>) -> Result<Frame, String> {
         let Head { width, height, most, bytes, behind } = self.head;
         let window = window.unwrap_or(Window { x: 0, y: 0, width, height });
-        let inside = |from: usize, count: usize, side: usize| count > 0 && count <= side && from <= side - count;
-        if !inside(window.x, window.width, width) || !inside(window.y, window.height, height) {
+        if !window.is_inside(width, height) {
             let Window { x, y, width: w, height: h } = window;
             return Err(format!("--crop {x},{y},{w},{h} isn't a part of it: it has {width}×{height} pels"));
         }
-        let short = |there: u64| {
-            let wanted = width as u64 * height as u64 * bytes.count() + behind;
-            format!("cut short: {width}×{height} pels take {wanted} bytes, and {there} are there")
-        };
-        let mut there = 0;
         let mut pels = Vec::new();
-        let row = width as u64 * bytes.count();
         for y in 0..height {
             if y < window.y || y >= window.y + window.height {
-                there += self.passed(row, there, &short)?;
-                continue;
+                self.pass(width as u64 * bytes.count())?;
+            } else {
+                pels.extend(self.row(y, window)?);
             }
-            let part = window.width as u64 * bytes.count();
-            there += self.passed(window.x as u64 * bytes.count(), there, &short)?;
-            let mut values = Vec::new();
-            let got = (&mut self.source).take(part).read_to_end(&mut values).map_err(|error| error.to_string())?;
-            if (got as u64) < part {
-                return Err(short(there + got as u64));
-            }
-            there += part;
-            let values = bytes.pels(&values);
-            if let Some(x) = values.iter().position(|&value| value > most) {
-                let (value, x) = (values[x], window.x + x);
-                return Err(format!(
-                    "row {y}, column {x}: the pel is {value}, over the {most} that the head allows; are its bytes in \
-                     the other order?"
-                ));
-            }
-            pels.extend(values);
-            there += self.passed(row - part - window.x as u64 * bytes.count(), there, &short)?;
         }
-        self.passed(behind, there, &short)?;
+        self.pass(behind)?;
         Ok(Frame { name: self.name, width: window.width, height: window.height, whole: (width, height), most, pels })
     }
 
+    /// Reads a row of the picture; the pels that a window has of it.
+    fn row(&mut self, y: usize, window: Window) -> Result<Vec<u16>, String> {
+        let Head { width, most, bytes, .. } = self.head;
+        self.pass(window.x as u64 * bytes.count())?;
+        let mut part = Vec::new();
+        let wanted = window.width as u64 * bytes.count();
+        let got = (&mut self.source).take(wanted).read_to_end(&mut part).map_err(|error| error.to_string())?;
+        self.count(got as u64, wanted)?;
+        self.pass((width - window.x - window.width) as u64 * bytes.count())?;
+        let pels = bytes.pels(&part);
+        match pels.iter().position(|&pel| pel > most) {
+            None => Ok(pels),
+            Some(at) => Err(format!(
+                "row {y}, column {}: the pel is {}, over the {most} that the head allows; are its bytes in the other order?",
+                window.x + at,
+                pels[at]
+            )),
+        }
+    }
+
     /// Passes over bytes that must be there.
-    fn passed(&mut self, count: u64, there: u64, short: &impl Fn(u64) -> String) -> Result<u64, String> {
-        let got = skip(&mut self.source, count).map_err(|error| error.to_string())?;
-        if got < count { Err(short(there + got)) } else { Ok(got) }
+    fn pass(&mut self, wanted: u64) -> Result<(), String> {
+        let got = skip(&mut self.source, wanted).map_err(|error| error.to_string())?;
+        self.count(got, wanted)
+    }
+
+    /// Counts bytes of the frame, of which so many are wanted.
+    fn count(&mut self, got: u64, wanted: u64) -> Result<(), String> {
+        self.there += got;
+        if got == wanted {
+            return Ok(());
+        }
+        let Head { width, height, bytes, behind, .. } = self.head;
+        let (whole, there) = (width as u64 * height as u64 * bytes.count() + behind, self.there);
+        Err(format!("cut short: {width}×{height} pels take {whole} bytes, and {there} are there"))
     }
 }
 
