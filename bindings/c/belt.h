@@ -87,7 +87,7 @@ static inline const char *belt_refusal_text(uint32_t refusal) {
     case BELT_TOO_LARGE: return "side over 1,024, or over 4,096 samples";
     case BELT_TOO_FAR: return "motion of a practice belt beyond 24 pels";
     case BELT_WRONG_LENGTH: return "plane, class, type, model or prior list of wrong length";
-    case BELT_NO_SUCH_CODE: return "type, class, flag or trim code out of range; type 0 for a fit";
+    case BELT_NO_SUCH_CODE: return "type, class, flag, trim or elect code out of range; type 0 for a fit";
     case BELT_NO_SUCH_SLOT: return "slot over 5, or to price one that the type doesn't carry; reference outside 1 to 7";
     case BELT_START_OVER: return "start of a header to write over 7";
     case BELT_OFF_GRID: return "model off the grid, uncarried slot or pair wrong";

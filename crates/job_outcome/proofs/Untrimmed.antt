@@ -7,28 +7,28 @@ use Rattle.job_task.specs.Rows.{early}
 use Rattle.job_outcome.specs.Outcome.{words, fitWords, fitIn, late, outcome}
 use Rattle.job_outcome.specs.Asked as asked
 use Rattle.job_outcome.specs.Untrimmed as untrimmed
-use Rattle.job_outcome.proofs.Asked as as
+use Rattle.job_outcome.proofs.Asked as asking
 use Rattle.fit.specs.Fitted.{refusalOf}
 
 module _ (j : Task) (asks : j .settings .elect ≡ 0) (plain : j .settings .trim ≡ 0) where
   pub words-of-fit : fitWords j ≡ words j
-  words-of-fit = as.words-of-fit j asks ∙ rw plain
+  words-of-fit = asking.words-of-fit j asks ∙ rw plain
 
   pub fit-is : fitIn j ≡ untrimmed.fit j
-  fit-is = as.fit-is j asks ∙ rw plain
+  fit-is = asking.fit-is j asks ∙ rw plain
 
   pub late-is : late j ≡ refusalOf (untrimmed.fit j)
-  late-is = as.late-is j asks ∙ rw plain
+  late-is = asking.late-is j asks ∙ rw plain
 
   module _ (l : Lent) where
     rows-are : asked.early j l ≡ untrimmed.early j l
-    rows-are = rw (plain, as.either-false (ltb 1 (j .settings .flag)))
+    rows-are = rw (plain, asking.either-false (ltb 1 (j .settings .flag)))
 
     pub early-is : early j l ≡ untrimmed.early j l
-    early-is = as.early-is j asks l ∙ rows-are
+    early-is = asking.early-is j asks l ∙ rows-are
 
     plain-is : asked.outcome j l ≡ untrimmed.outcome j l
     plain-is = rw (rows-are, plain)
 
     pub as-untrimmed : outcome j l ≡ untrimmed.outcome j l
-    as-untrimmed = as.as-asked j asks l ∙ plain-is
+    as-untrimmed = asking.as-asked j asks l ∙ plain-is
