@@ -18,6 +18,7 @@ const STATIC: f64 = 0.05;
 const SMALL_SEARCH: f64 = 0.20;
 const JOB: f64 = 0.15;
 const SUMS: f64 = 1.1;
+const WHOLE_SUMS: f64 = 0.6;
 const SMALL_FITS: f64 = 1.2;
 const TRIMMED: f64 = 1.5;
 
@@ -117,7 +118,8 @@ impl Case {
             Search(..) => Some(SMALL_SEARCH),
             WholeJob(..) | ElectingJob(..) => Some(JOB),
             Fit(_, 16) => Some(SMALL_FITS),
-            Fit(_, 4096) | FitSamples(_, 4096) | Score(4096) | ScoreSamples(4096) => Some(SUMS),
+            Fit(_, 4096) => Some(WHOLE_SUMS),
+            FitSamples(_, 4096) | Score(4096) | ScoreSamples(4096) => Some(SUMS),
             QuantizeTrimmed(_, 4096) | Elect(4096) => Some(TRIMMED),
             _ => None,
         }
