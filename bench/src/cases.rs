@@ -3,7 +3,7 @@
 use std::fmt;
 use std::hint::black_box;
 
-use belt::{Buffers, Fitted, Frame, Lent, Model, MotionSample, Refusal, Searched};
+use belt::{Buffers, Fitted, Frame, Lent, Model, MotionSample, Refusal, Searched, StoredModel};
 use oracle::Samples;
 
 use crate::frames;
@@ -18,6 +18,7 @@ const STATIC: f64 = 0.05;
 const SMALL_SEARCH: f64 = 0.20;
 const JOB: f64 = 0.15;
 const SUMS: f64 = 1.1;
+const WHOLE_SUMS: f64 = 0.6;
 const SMALL_FITS: f64 = 1.2;
 const TRIMMED: f64 = 1.5;
 
@@ -31,11 +32,14 @@ pub enum Case {
     QuantizeModel(u8, usize),
     QuantizeTrimmed(u8, usize),
     QuantizeTrimmedSamples(u8, usize),
+    Elect(usize),
+    ElectSamples(usize),
     WriteFrame(usize),
     ReadFrame(u8, usize),
     WriteHeader(u8, Distance),
     ReadHeader(u8, Distance),
     WholeJob(u8, usize, usize),
+    ElectingJob(usize, usize),
 }
 
 use Case::*;
@@ -64,11 +68,14 @@ pub fn all() -> Vec<Case> {
     cases.extend(kinds.iter().flat_map(|&kind| counts.map(|n| QuantizeModel(kind, n))));
     cases.extend(kinds.iter().flat_map(|&kind| counts.map(|n| QuantizeTrimmed(kind, n))));
     cases.extend(kinds.iter().flat_map(|&kind| counts.map(|n| QuantizeTrimmedSamples(kind, n))));
+    cases.extend([16, 4096].map(Elect));
+    cases.push(ElectSamples(4096));
     cases.extend(counts.map(WriteFrame));
     cases.extend([2, 1].iter().flat_map(|&form| counts.map(|n| ReadFrame(form, n))));
     cases.extend(header_kinds.iter().flat_map(|&kind| Distance::ALL.map(|prior| WriteHeader(kind, prior))));
     cases.extend(header_kinds.iter().flat_map(|&kind| Distance::ALL.map(|prior| ReadHeader(kind, prior))));
     cases.extend(kinds.iter().flat_map(|&kind| job_sides.map(|(width, height)| WholeJob(kind, width, height))));
+    cases.push(ElectingJob(640, 480));
     cases
 }
 
@@ -87,11 +94,14 @@ impl fmt::Display for Case {
             QuantizeModel(kind, n) => write!(f, "quantize_model | {}, {n} words", type_name(kind)),
             QuantizeTrimmed(kind, n) => write!(f, "quantize_trimmed | {}, {n} words", type_name(kind)),
             QuantizeTrimmedSamples(kind, n) => write!(f, "quantize_trimmed | {}, {n} samples", type_name(kind)),
+            Elect(n) => write!(f, "elect | {n} words"),
+            ElectSamples(n) => write!(f, "elect | {n} samples"),
             WriteFrame(n) => write!(f, "write_frame | form 2, {n} samples"),
             ReadFrame(form, n) => write!(f, "read_both | form {form}, {n} samples"),
             WriteHeader(kind, prior) => write!(f, "header write | seven {}, prior {}", type_name(kind), prior.name()),
             ReadHeader(kind, prior) => write!(f, "header read | seven {}, prior {}", type_name(kind), prior.name()),
             WholeJob(kind, width, height) => write!(f, "job | {}, textured {width}×{height}", type_name(kind)),
+            ElectingJob(width, height) => write!(f, "job | electing, textured {width}×{height}"),
         }
     }
 }
@@ -106,16 +116,17 @@ impl Case {
                 Scene::Static => STATIC,
             }),
             Search(..) => Some(SMALL_SEARCH),
-            WholeJob(..) => Some(JOB),
+            WholeJob(..) | ElectingJob(..) => Some(JOB),
             Fit(_, 16) => Some(SMALL_FITS),
-            Fit(_, 4096) | FitSamples(_, 4096) | Score(4096) | ScoreSamples(4096) => Some(SUMS),
-            QuantizeTrimmed(_, 4096) => Some(TRIMMED),
+            Fit(_, 4096) => Some(WHOLE_SUMS),
+            FitSamples(_, 4096) | Score(4096) | ScoreSamples(4096) => Some(SUMS),
+            QuantizeTrimmed(_, 4096) | Elect(4096) => Some(TRIMMED),
             _ => None,
         }
     }
 
     pub fn is_a_job(&self) -> bool {
-        matches!(self, WholeJob(..))
+        matches!(self, WholeJob(..) | ElectingJob(..))
     }
 
     /// Both sides, after their answers were compared.
@@ -129,11 +140,14 @@ impl Case {
             QuantizeModel(kind, n) => quantize_model(kind, n),
             QuantizeTrimmed(kind, n) => quantize_trimmed(kind, n),
             QuantizeTrimmedSamples(kind, n) => quantize_trimmed_samples(kind, n),
+            Elect(n) => elect(n),
+            ElectSamples(n) => elect_samples(n),
             WriteFrame(n) => write_frame(n),
             ReadFrame(form, n) => read_frame(form, n),
             WriteHeader(kind, prior) => write_header(kind, prior),
             ReadHeader(kind, prior) => read_header(kind, prior),
-            WholeJob(kind, width, height) => whole_job(kind, width, height),
+            WholeJob(kind, width, height) => whole_job(Job::new(kind, width, height), width, height),
+            ElectingJob(width, height) => whole_job(Job::electing(width, height), width, height),
         }
     }
 }
@@ -348,6 +362,57 @@ fn quantize_trimmed_samples(kind: u8, n: usize) -> Sides {
     )
 }
 
+/// Words of a field that turns about its middle, each by up to three eighths beside it and one in sixteen by two pels.
+/// Places are filled row by row of a square.
+fn turning_words(n: usize) -> Vec<u32> {
+    let mut lcg = oracle::list::Lcg(n as u32);
+    let across = (n as f64).sqrt().ceil() as i32;
+    let word = |place: i32| {
+        let (row, column) = (place / across, place % across);
+        let off = if place % 16 == 5 { 16 } else { 0 };
+        let mut motion = |turned: i32| {
+            let even = 223 + 64 * turned / across + off;
+            (even + i32::from(lcg.below(7)) - 3) as u32
+        };
+        let (v, u) = (motion(column - across / 2), motion(across / 2 - row));
+        (row as u32) << 26 | (column as u32) << 20 | v << 11 | u << 2
+    };
+    (0..n as i32).map(word).collect()
+}
+
+/// All three types' fits after trimming and their tests; the rotation-zoom is elected.
+fn elect(n: usize) -> Sides {
+    let words = turning_words(n);
+    let rust = Samples::of_words(&words).elect(true);
+    let ours = belt::elect(HIGH_PRECISION, &words).expect("the election isn't refused");
+    assert_eq!((ours.gm_type, ours.model), (rust.kind, StoredModel(rust.params)));
+    assert!(ours.gm_type == ROTZOOM && same(ours.score, rust.score), "{ours:?}");
+    on_words(
+        words,
+        |words| {
+            black_box(belt::elect(HIGH_PRECISION, words).ok());
+        },
+        |samples| {
+            black_box(samples.estimate(true));
+        },
+    )
+}
+
+fn elect_samples(n: usize) -> Sides {
+    let words = turning_words(n);
+    let ours = belt::elect_samples(HIGH_PRECISION, &lent_samples(&words));
+    assert_eq!(ours, belt::elect(HIGH_PRECISION, &words));
+    on_samples(
+        &words,
+        |samples| {
+            black_box(belt::elect_samples(HIGH_PRECISION, samples).ok());
+        },
+        |samples| {
+            black_box(samples.estimate(true));
+        },
+    )
+}
+
 /// Words with class bits zero, and a class for each.
 fn samples(n: usize) -> (Vec<u32>, Vec<u8>) {
     (oracle::blocks::words(n as u32, n).iter().map(|word| word & !3).collect(), inputs::classes(n))
@@ -442,8 +507,7 @@ fn read_header(kind: u8, distance: Distance) -> Sides {
     }
 }
 
-fn whole_job(kind: u8, width: usize, height: usize) -> Sides {
-    let job = Job::new(kind, width, height);
+fn whole_job(job: Job, width: usize, height: usize) -> Sides {
     let mut lent = Buffers::new(width, height);
     let mut left = lent.clone();
     let ours = job.run(&mut lent).expect("a job that isn't refused");

@@ -5,7 +5,7 @@ use oracle::Samples;
 
 use crate::frames;
 use crate::header::{Distance, Header};
-use crate::inputs::{self, AFFINE, FRAME, HIGH_PRECISION, Scene};
+use crate::inputs::{self, AFFINE, FRAME, HIGH_PRECISION, IDENTITY, Scene};
 
 /// The reference that the fitted model is for: the first of seven.
 const REFERENCE: u8 = 1;
@@ -37,10 +37,18 @@ impl Job {
                 reference: REFERENCE,
                 flag: HIGH_PRECISION,
                 trim: 0,
+                elect: 0,
                 start: 0,
             },
             header: Header::new(AFFINE, Distance::Near),
         }
+    }
+
+    /// The same scene with a type that is elected.
+    pub fn electing(width: usize, height: usize) -> Self {
+        let mut job = Self::new(IDENTITY, width, height);
+        job.settings.elect = 1;
+        job
     }
 
     pub fn run(&self, lent: &mut Buffers) -> Result<Report, Refusal> {
@@ -60,18 +68,22 @@ impl Job {
 
     /// Words, blocks and header go to the buffers.
     pub fn rust_run(&self, left: &mut Buffers) -> Option<Report> {
-        let Settings { frame, gm_type, .. } = self.settings;
+        let Settings { frame, gm_type, elect, .. } = self.settings;
         let found = oracle::search(&self.input, &self.reference, self.width, self.height);
         for (word, sample) in left.words.iter_mut().zip(&found) {
             *word = oracle::word_of(sample);
         }
         let samples = Samples::new(&found);
-        let model = samples.quantize_model(&samples.fit(gm_type)?, gm_type, true);
-        let score = samples.score(&model);
-
         let mut header = self.header;
-        header.types[0] = gm_type;
-        header.models[0] = Model(model).row_first(gm_type).0;
+        let score;
+        if elect == 1 {
+            let elected = samples.elect(true);
+            (header.types[0], header.models[0], score) = (elected.kind, elected.params, elected.score);
+        } else {
+            let model = samples.quantize_model(&samples.fit(gm_type)?, gm_type, true);
+            (header.types[0], header.models[0]) = (gm_type, Model(model).row_first(gm_type).0);
+            score = samples.score(&model);
+        }
         let (bytes, bits) = header.rust_write();
         left.header[..bytes.len()].copy_from_slice(&bytes);
         frames::write(frame, &left.words, &self.classes, &mut left.blocks).ok()?;

@@ -120,13 +120,15 @@ fn head() -> String {
          same words; in the last column, 'samples ready made', it has that list ready made and ours still reads words. \
          A row of samples has the list ready made on both sides: ours walks it, and makes none. \
          A trimmed fit goes through the model on the grid, against those lines of `candidate_for`; one word in sixteen is loose. \
+         An election is measured against `estimate_global_motion`, which gives no score, on a field that turns, one word in sixteen by two pels beside it. \
          Blocks are measured against a plain Rust writing of docs/RULES.md over lent buffers (`bench/src/frames.rs`).\n\n\
          A header has seven models of one type at high precision. A near prior is up to three steps of the grid from the models and gives short codes, \
          a far one is at the other end of the range and gives long codes; seven identities have no codes, and ours only judges their prior. \
          Ours judges models, prior and room before it writes, and the Rust doesn't. \
          The Rust reads bits by the stand-in of `oracle/src/stand_ins.rs`, one at a time, since its own bit reader isn't published.\n\n\
          A job is measured against the composition of the Rust's parts: search, words, fit, quantization, score, \
-         blocks by `bench/src/frames.rs`, and header. Its fit takes the samples of its search as they are. \
+         blocks by `bench/src/frames.rs`, and header. Its fit takes the samples of its search as they are; a job that elects has \
+         `estimate_global_motion` there, and a score of the elected model. \
          The six references beside the fitted one have affine models and near priors.\n\n\
          No buffer is cleared before a call: the lent ones hold what the call before left there, and were touched before the first timing. \
          The Rust's search makes its half planes and its list of samples in each call, its header writer makes its bytes, and that is in its time.\n",

@@ -50,7 +50,7 @@ fn runs_for(work: &mut Work) -> u32 {
 }
 
 /// The best time of each in seconds: one timing of each in every round, and the first of a round is the last of the
-/// next.
+/// next. A guest's clock can lose time to its host, so a timing far below the least one isn't taken.
 pub fn best(works: &mut [Work]) -> Vec<f64> {
     let runs: Vec<u32> = works.iter_mut().map(runs_for).collect();
     let mut best = vec![f64::MAX; works.len()];
@@ -59,7 +59,10 @@ pub fn best(works: &mut [Work]) -> Vec<f64> {
     while round < LEAST_ROUNDS || start.elapsed() < BUDGET {
         for turn in 0..works.len() {
             let i = (round + turn) % works.len();
-            best[i] = best[i].min(time(runs[i], &mut works[i]).as_secs_f64() / f64::from(runs[i]));
+            let took = time(runs[i], &mut works[i]);
+            if took > LEAST / 4 {
+                best[i] = best[i].min(took.as_secs_f64() / f64::from(runs[i]));
+            }
         }
         round += 1;
     }

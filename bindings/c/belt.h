@@ -1,5 +1,6 @@
-/* The proved library's calls (crates/belt, lent_fit and lent_trim), for C and C++ on x86-64 Linux. docs/RULES.md has the rules: what a
-   plane, a sample word, a block, a model and a header are, bit by bit; names in quotes are its sections.
+/* The proved library's calls (crates/belt, lent_fit, lent_trim and lent_elect), for C and C++ on x86-64 Linux.
+   docs/RULES.md has the rules: what a plane, a sample word, a block, a model and a header are, bit by bit; names in
+   quotes are its sections.
    belt_motion.h beside this file reads words and models in pels.
 
    A list is a pointer and a count of elements; no pointer is NULL, and each is aligned for its elements.
@@ -7,9 +8,10 @@
    else that is passed. A count that names more than there is can't be seen here, and is the caller's to get right.
 
    The library allocates nothing, keeps nothing between calls and has no state of its own: any number of threads
-   may call it at once, each with its own buffers. A call that trims, which a job may, takes about 165 kB of the
-   thread's stack for its samples and residuals. The library expects the floating-point environment that a process
-   begins with: rounding to nearest, traps off, subnormal numbers kept. It needs memcpy, memset and no other function.
+   may call it at once, each with its own buffers. A call that trims or elects takes about 170 kB of the thread's stack
+   for its samples and residuals; a job about 140 kB, 170 kB if it trims and 300 kB if it elects. The library expects the
+   floating-point environment that a process begins with: rounding to nearest, traps off, subnormal numbers kept. It
+   needs memcpy, memset and no other function.
 
    A result's first field is the refusal: BELT_ACCEPTED, or the number of the row that refuses ('When a call
    says no'), and then all fields after it are 0. A refused call leaves its lent buffers as they were; belt_job
@@ -54,6 +56,7 @@ enum belt_class { BELT_UNSORTED = 0, BELT_FIBRE = 1, BELT_RIGID_PLASTIC = 2, BEL
 enum belt_form { BELT_FORM_1 = 1, BELT_FORM_2 = 2 };
 enum belt_flag { BELT_LOW_PRECISION = 0, BELT_HIGH_PRECISION = 1 };
 enum belt_trim { BELT_ALL_SAMPLES = 0, BELT_TRIM = 1 };
+enum belt_election { BELT_ASKED_TYPE = 0, BELT_ELECT = 1 };
 
 /* The rows, in the order in which they are judged. */
 enum belt_refusal {
@@ -85,7 +88,7 @@ static inline const char *belt_refusal_text(uint32_t refusal) {
     case BELT_TOO_LARGE: return "side over 1,024, or over 4,096 samples";
     case BELT_TOO_FAR: return "motion of a practice belt beyond 24 pels";
     case BELT_WRONG_LENGTH: return "plane, class, type, model or prior list of wrong length";
-    case BELT_NO_SUCH_CODE: return "type, class, flag or trim code out of range; type 0 for a fit";
+    case BELT_NO_SUCH_CODE: return "type, class, flag, trim or elect code out of range; type 0 for a fit";
     case BELT_NO_SUCH_SLOT: return "slot over 5, or to price one that the type doesn't carry; reference outside 1 to 7";
     case BELT_START_OVER: return "start of a header to write over 7";
     case BELT_OFF_GRID: return "model off the grid, uncarried slot or pair wrong";
@@ -171,6 +174,8 @@ struct belt_quantized_model { uint32_t refusal; struct belt_model model; };
 /* How many samples the last fit used, and its numbers as in belt_fit_answer; or its model on the grid. */
 struct belt_trimmed { uint32_t refusal; uint32_t used; double numbers[6]; };
 struct belt_trimmed_model { uint32_t refusal; uint32_t used; struct belt_model model; };
+/* The elected type, 0 to 3, its model and the model's score in square pels. */
+struct belt_elected { uint32_t refusal; uint8_t type; struct belt_stored_model model; double score; };
 struct belt_quantized_param { uint32_t refusal; int32_t value; };
 /* In square pels. */
 struct belt_score { uint32_t refusal; double score; };
@@ -183,10 +188,13 @@ struct belt_written { uint32_t refusal; size_t bits; };
 /* Seven types and models in rising order of reference, and the bits consumed. */
 struct belt_models { uint32_t refusal; uint8_t types[7]; struct belt_stored_model models[7]; size_t bits; };
 /* The frame number of the blocks, the type to fit (1 to 3), the reference of the model (1 to 7), the flag, whether the
-   job trims (BELT_TRIM), and the bit of the header's first byte at which writing begins (0 to 7). */
-struct belt_settings { uint16_t frame; uint8_t type; uint8_t reference; uint8_t flag; uint8_t trim; size_t start; };
-/* Seven types and models in rising order of reference; the fitted model's score in square pels; the header's
-   bits; how many samples there are. */
+   job trims (BELT_TRIM), whether it elects (BELT_ELECT; type and trim code then aren't looked at), and the bit of the
+   header's first byte at which writing begins (0 to 7). */
+struct belt_settings {
+    uint16_t frame; uint8_t type; uint8_t reference; uint8_t flag; uint8_t trim; uint8_t elect; size_t start;
+};
+/* Seven types and models in rising order of reference, the job's own of the type asked for or elected; the score of its
+   own in square pels; the header's bits; how many samples there are. */
 struct belt_report {
     uint32_t refusal; uint8_t types[7]; struct belt_stored_model models[7]; double score; size_t bits; size_t samples;
 };
@@ -238,6 +246,14 @@ struct belt_fit_answer belt_fit_affine(const uint32_t *words, size_t word_count)
 struct belt_trimmed belt_fit_trimmed(uint8_t type, const uint32_t *words, size_t word_count);
 struct belt_trimmed_model belt_quantize_trimmed(uint8_t type, uint8_t flag, const uint32_t *words, size_t word_count);
 
+/* The election of a type ('Election'): each type is fitted after trimming; of those that leave at most a quarter of the
+   motion's mean square, the energy, the lowest is elected, or a higher one that is clearly better. IDENTITY if there is
+   none, if the energy is below 0.25 square pels, and for fewer than 4 words.
+   In: the flag and up to 4,096 sample words. Out: the type, its model and the model's score over all words, which for
+   IDENTITY is the energy.
+   Refuses: 1, 4, 16, of which with sample words no case is known either. */
+struct belt_elected belt_elect(uint8_t flag, const uint32_t *words, size_t word_count);
+
 /* A fitted model on the grid ('Fits and score').
    In: the type, 1 to 3, the numbers of its fit, the flag, and the words that the translation is fitted
    again to. Out: the model, x first.
@@ -268,6 +284,10 @@ struct belt_trimmed belt_fit_trimmed_samples(
     const struct belt_motion_sample *samples, size_t sample_count, uint8_t type);
 struct belt_trimmed_model belt_quantize_trimmed_samples(
     const struct belt_motion_sample *samples, size_t sample_count, struct belt_to_trim codes);
+
+/* The election over samples instead of words ('Election').
+   Refuses: 1, 4, 16 where a type's trimmed fit has it. */
+struct belt_elected belt_elect_samples(const struct belt_motion_sample *samples, size_t sample_count, uint8_t flag);
 
 /* One number on the grid ('Grid').
    In: type 0 to 3, flag, slot 0 to 5 and any number. Out: the codable number nearest to it.
@@ -377,7 +397,8 @@ struct belt_price belt_frame_price(
    belt_block_bytes of the samples in BELT_FORM_2. A header read from there is the report's models, and by
    belt_read_both the blocks read as the words and the classes.
    A job that trims fits as belt_quantize_trimmed does; its score takes all samples. Its type's least number of
-   samples, 4, 6 or 8, is judged by the sides (15).
+   samples, 4, 6 or 8, is judged by the sides (15). A job that elects has type, model and score of belt_elect; the type
+   stands among the report's, and settings.type isn't looked at. It isn't refused with 15 or 6.
    Refuses: 1, 2, 4, 5, 14, 7, 8, 3, 15, 17, 6, 16, and 6 of a second fit. After 6 and 16 the half planes and the words
    are in their buffers, and blocks and header are as they were. */
 struct belt_report belt_job(

@@ -1,7 +1,8 @@
 /* Jobs of the three types on frames that this program computes: it prints each report and the header in
    hexadecimal, reads header and blocks back and compares, does the same work by the single calls, says what the
-   motion is in pels, and prints the text of a block. Then it shows a pan beyond the search's range, and tries a
-   refusal of each call. Ends with 1 where a call refuses or something differs. It is C99, and C++11. */
+   motion is in pels, and prints the text of a block. Then it trims loose film away, has types elected, shows a pan beyond
+   the search's range, and tries a refusal of each call. Ends with 1 where a call refuses or something differs. It is C99,
+   and C++11. */
 #include <stdio.h>
 #include <stdlib.h>
 #include <string.h>
@@ -76,7 +77,8 @@ static struct belt_report run(struct belt_settings settings, size_t input_pels) 
 }
 
 static struct belt_model own_model(const struct belt_report *report, struct belt_settings settings) {
-    return belt_x_first(settings.type, report->models[settings.reference - 1]);
+    const int place = settings.reference - 1;
+    return belt_x_first(report->types[place], report->models[place]);
 }
 
 /* -0.0 as 0.0, so that the same text comes out everywhere. */
@@ -245,6 +247,38 @@ static void trimming(struct belt_settings settings) {
          "fit and model after trimming, over samples");
 }
 
+/* Elections: of a pan; of a frame that stands still; of the pan with film over a block. An election's score takes all
+   samples, and the film alone is more than a quarter of that energy, so no type stands there. */
+static void electing(struct belt_settings settings) {
+    static const char *const names[] = {"identity", "translation", "rotation-zoom", "affine"};
+    static struct belt_motion_sample samples[SAMPLES];
+    settings.elect = BELT_ELECT;
+    for (int turn = 0; turn < 3; turn++) {
+        draw(turn == 1 ? 0 : 4, turn == 1 ? 0 : -2);
+        for (size_t y = 0; turn == 2 && y < BELT_BLOCK_SIDE; y++)
+            for (size_t x = 0; x < BELT_BLOCK_SIDE; x++)
+                input[y * WIDTH + x] = reference[(y + 20) * WIDTH + x + 9];
+        struct belt_report report = run(settings, PELS);
+        refused("belt_job", report.refusal);
+        const struct belt_stored_model own = report.models[settings.reference - 1];
+        const uint8_t type = report.types[settings.reference - 1];
+        printf("elected: %s, score %.6f, %u header bits\n", names[type], report.score, (unsigned)report.bits);
+        print_motion(own_model(&report, settings), report.samples);
+        read_back(&report, settings);
+        for (size_t i = 0; i < SAMPLES; i++)
+            samples[i] = belt_motion_sample_of(words[i]);
+        struct belt_elected elected = belt_elect(settings.flag, words, SAMPLES);
+        refused("belt_elect", elected.refusal);
+        struct belt_elected again = belt_elect_samples(samples, SAMPLES, settings.flag);
+        refused("belt_elect_samples", again.refusal);
+        same(elected.type == type && memcmp(&elected.model, &own, sizeof own) == 0 &&
+                 memcmp(&elected.score, &report.score, sizeof report.score) == 0 && again.type == type &&
+                 memcmp(&again.model, &own, sizeof own) == 0 &&
+                 memcmp(&again.score, &report.score, sizeof report.score) == 0,
+             "election over words and over samples");
+    }
+}
+
 /* A pan by 40 columns is beyond the range: no row refuses it, but few samples agree. */
 static void too_far(struct belt_settings settings) {
     draw(0, 40);
@@ -270,6 +304,10 @@ static void refusals(struct belt_settings settings) {
     wants("a job on frame 0", run(settings, PELS).refusal, BELT_SHUTTER_CLOSED);
     settings.trim = 2;
     wants("a job with trim code 2", run(settings, PELS).refusal, BELT_NO_SUCH_CODE);
+    settings.elect = BELT_ELECT;
+    wants("an electing job with trim code 2 on frame 0", run(settings, PELS).refusal, BELT_SHUTTER_CLOSED);
+    settings.elect = 2;
+    wants("a job with elect code 2", run(settings, PELS).refusal, BELT_NO_SUCH_CODE);
     wants("an affine model of 7 words after trimming", belt_fit_trimmed(BELT_AFFINE, words, 7).refusal, BELT_TOO_FEW);
     wants("a search of a plane 1,025 wide",
           belt_collect_motion_samples(input, PELS, reference, PELS, 1025, HEIGHT, classes, SAMPLES, input_half, HALF,
@@ -280,6 +318,8 @@ static void refusals(struct belt_settings settings) {
     wants("an affine model of no words", belt_fit_affine(words, 0).refusal, BELT_SINGULAR);
     static uint32_t many[BELT_MOST_SAMPLES + 1];
     wants("a translation of 4,097 words", belt_fit_translation(many, BELT_MOST_SAMPLES + 1).refusal, BELT_TOO_LARGE);
+    wants("an election of 4,097 words", belt_elect(1, many, BELT_MOST_SAMPLES + 1).refusal, BELT_TOO_LARGE);
+    wants("an election with flag 2", belt_elect(2, words, SAMPLES).refusal, BELT_NO_SUCH_CODE);
     wants("a score over 4,097 words", belt_mean_sq_residual(&still, many, BELT_MOST_SAMPLES + 1).refusal,
           BELT_TOO_LARGE);
     static struct belt_motion_sample many_samples[BELT_MOST_SAMPLES + 1];
@@ -296,6 +336,7 @@ static void refusals(struct belt_settings settings) {
     many_samples[0].u = 1e200;
     wants("a motion of 1e200 pels after trimming", belt_fit_trimmed_samples(many_samples, 4, BELT_TRANSLATION).refusal,
           BELT_NOT_FINITE);
+    wants("an election with a motion of 1e200 pels", belt_elect_samples(many_samples, 4, 1).refusal, BELT_NOT_FINITE);
     wants("type 4 on the grid", belt_quantize_model(4, numbers, 1, words, SAMPLES).refusal, BELT_NO_SUCH_CODE);
     wants("slot 6", belt_quantize_global_param(BELT_AFFINE, 1, 6, 0).refusal, BELT_NO_SUCH_SLOT);
     wants("words that fall", belt_write_frame(5, falling, 2, zeros, 2, blocks, BLOCKS).refusal, BELT_NOT_RISING);
@@ -354,7 +395,8 @@ int main(void) {
          "sizes");
     draw(4, -2);
     for (uint8_t type = BELT_TRANSLATION; type <= BELT_AFFINE; type++) {
-        const struct belt_settings settings = {5, type, 2, BELT_HIGH_PRECISION, BELT_ALL_SAMPLES, (size_t)(2 * type)};
+        const struct belt_settings settings = {
+            5, type, 2, BELT_HIGH_PRECISION, BELT_ALL_SAMPLES, BELT_ASKED_TYPE, (size_t)(2 * type)};
         struct belt_report report = run(settings, PELS);
         refused("belt_job", report.refusal);
         print_report(&report, settings);
@@ -366,8 +408,10 @@ int main(void) {
     for (uint8_t class_code = BELT_UNSORTED; class_code <= BELT_FILM; class_code++)
         printf("class %d: %s\n", class_code, belt_class_text(class_code));
     conversions();
-    const struct belt_settings settings = {5, BELT_TRANSLATION, 2, BELT_HIGH_PRECISION, BELT_ALL_SAMPLES, 0};
+    const struct belt_settings settings = {
+        5, BELT_TRANSLATION, 2, BELT_HIGH_PRECISION, BELT_ALL_SAMPLES, BELT_ASKED_TYPE, 0};
     trimming(settings);
+    electing(settings);
     too_far(settings);
     refusals(settings);
     roots();

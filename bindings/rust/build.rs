@@ -1,5 +1,5 @@
-//! Links the static library of the crates `belt`, `lent_fit` and `lent_trim`. `bindings/library` makes it by `rt staticlib` where it isn't
-//! there or any file under `crates/` is newer; BELT_LIB names another folder that has it.
+//! Links the static library of the crates `belt`, `lent_fit`, `lent_trim` and `lent_elect`. `bindings/library` makes it by
+//! `rt staticlib` where it isn't there or any file under `crates/` is newer; BELT_LIB names another folder that has it.
 
 use std::path::PathBuf;
 use std::process::{Command, Stdio, exit};

@@ -78,6 +78,14 @@ pub struct Trimmed {
     pub params: [i32; 6],
 }
 
+/// The elected type, its model as stored, and the score of that.
+#[derive(Clone, Copy, Debug, PartialEq)]
+pub struct Elected {
+    pub kind: u8,
+    pub params: [i32; 6],
+    pub score: f64,
+}
+
 /// The rows of docs/RULES.md that a fit after trimming may be refused by, of a list that isn't too long.
 pub const SINGULAR: u32 = 6;
 pub const TOO_FEW: u32 = 15;
@@ -114,6 +122,18 @@ impl Samples {
         assert_ne!(kind, 0, "IDENTITY has no fit");
         let (model, used, params) = global_motion::trimmed(type_of(kind), &self.0, high)?;
         Some(Trimmed { model: model.map(canonical), used, params })
+    }
+
+    /// `estimate_global_motion`: a type and its model as stored. The Rust stops at a residual that is not-a-number.
+    pub fn estimate(&self, high: bool) -> (u8, [i32; 6]) {
+        let (kind, params) = global_motion::elect(&self.0, high);
+        (kind.as_u8(), params)
+    }
+
+    /// The same with the model's score.
+    pub fn elect(&self, high: bool) -> Elected {
+        let (kind, params) = self.estimate(high);
+        Elected { kind, params, score: self.score(&x_first(kind, params)) }
     }
 
     pub fn quantize_model(&self, model: &[f64; 6], kind: u8, high: bool) -> [i32; 6] {
@@ -167,6 +187,27 @@ pub fn trimmed_or_row(kind: u8, high: bool, samples: &[[f64; 4]]) -> Result<Trim
         return Err(NOT_FINITE);
     }
     samples.trimmed(kind, high).ok_or(SINGULAR)
+}
+
+/// The floor on motion energy, below which `estimate_global_motion` asks for no fit.
+const MIN_MOTION_ENERGY: f64 = 0.25;
+
+/// `estimate_global_motion`, or row 16 where the trimmed fit of some type has it.
+pub fn elect_or_row(high: bool, samples: &[[f64; 4]]) -> Result<Elected, u32> {
+    let moves = !(score(&IDENTITY, samples) < MIN_MOTION_ENERGY);
+    let ends = |kind| trimmed_or_row(kind, high, samples) == Err(NOT_FINITE);
+    if moves && (1..=3).any(ends) {
+        return Err(NOT_FINITE);
+    }
+    Ok(Samples::new(samples).elect(high))
+}
+
+/// A TRANSLATION is stored row first.
+fn x_first(kind: u8, params: [i32; 6]) -> [i32; 6] {
+    let [p0, p1, rest @ ..] = params;
+    let [x, y] = if kind == 1 { [p1, p0] } else { [p0, p1] };
+    let [p2, p3, p4, p5] = rest;
+    [x, y, p2, p3, p4, p5]
 }
 
 pub fn quantize_global_param(kind: u8, high: bool, slot: usize, value: i32) -> i32 {

@@ -12,6 +12,31 @@ pub fn tilted_words() -> Vec<u32> {
     (0..MOST_SAMPLES as u32).map(word).collect()
 }
 
+/// Words of the first row of blocks, with motions u in eighths and none down.
+pub fn across(eighths: &[i32]) -> Vec<u32> {
+    let word = |(place, &u): (usize, &i32)| (place as u32) << 20 | 223 << 11 | ((223 + u) as u32) << 2;
+    eighths.iter().enumerate().map(word).collect()
+}
+
+/// Words of a field that moves as one, in places that rise, but for `loose` of each 32, which move on their own.
+pub fn loose_words(lcg: &mut Lcg, count: usize, loose: u16) -> Vec<u32> {
+    let across = (count as f64).sqrt().ceil() as usize;
+    let slopes: [i32; 6] = std::array::from_fn(|_| i32::from(lcg.below(9)) - 4);
+    let word = |place: usize| {
+        let (row, column) = ((place / across) as i32, (place % across) as i32);
+        let free = lcg.below(32) < loose;
+        let mut motion = |at: usize| match free {
+            true => u32::from(lcg.below(447)),
+            false => {
+                let even = 8 * slopes[at] + slopes[at + 1] * column / 4 + slopes[at + 2] * row / 4;
+                (223 + even + i32::from(lcg.below(3)) - 1).clamp(0, 446) as u32
+            }
+        };
+        (row as u32) << 26 | (column as u32) << 20 | motion(0) << 11 | motion(3) << 2
+    };
+    (0..count).map(word).collect()
+}
+
 /// The generator of inputs, which a replay program can run too.
 pub struct Lcg(pub u32);
 

@@ -32,6 +32,7 @@ fn answer(line: &str) -> Answer {
         "sample" => Ok(floats(&oracle::sample_of(fields.number()?))),
         "fit" => fields.fit(),
         "trimmed" => fields.trimmed(),
+        "elect" => fields.elect(),
         "solve" => fields.solve(),
         "score" => Ok(floats(&[oracle::score(&fields.model()?, &fields.samples()?)])),
         "grid_number" => Ok(oracle::grid_number(fields.float()?).to_string()),
@@ -88,6 +89,14 @@ impl Fields<'_> {
         Ok(match oracle::trimmed(kind, high, &self.samples()?) {
             None => "none".into(),
             Some(t) => format!("{} {} {}", t.used, floats(&t.model), spaced(&t.params)),
+        })
+    }
+
+    fn elect(&mut self) -> Answer {
+        let high = self.flag()?;
+        Ok(match oracle::elect_or_row(high, &self.samples()?) {
+            Err(_) => "none".into(),
+            Ok(e) => format!("{} {} {}", e.kind, floats(&[e.score]), spaced(&e.params)),
         })
     }
 

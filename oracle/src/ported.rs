@@ -107,6 +107,10 @@ pub mod encoder {
             include!(concat!(env!("OUT_DIR"), "/residuals.rs"))
         }
 
+        pub fn elect(samples: &[MotionSample], high: bool) -> (WarpModelType, [i32; 6]) {
+            estimate_global_motion(samples, high)
+        }
+
         pub fn quantize(m: &[f64; 6], gm_type: WarpModelType, high: bool, samples: &[MotionSample]) -> [i32; 6] {
             quantize_model(&ContinuousModel { m: *m }, gm_type, high, samples)
         }

@@ -3,8 +3,8 @@
 use oracle::blocks::{self, ONE, TWO};
 use oracle::list::tilted_words;
 use oracle::{
-    IDENTITY, NOT_FINITE, TOO_FEW, coefficient, fit, quantize_global_param, quantize_model, read_header, sample_of,
-    sample_words, score, search, trimmed, trimmed_or_row, write_header,
+    IDENTITY, NOT_FINITE, TOO_FEW, coefficient, elect_or_row, fit, quantize_global_param, quantize_model, read_header,
+    sample_of, sample_words, score, search, trimmed, trimmed_or_row, write_header,
 };
 
 const TRANSLATION: u8 = 1;
@@ -218,6 +218,87 @@ fn residuals_that_are_not_finite() {
     };
     assert_eq!([row(4, 1e150), row(4, 1e200), row(4, f64::NAN)], [Ok(4), Err(NOT_FINITE), Err(NOT_FINITE)]);
     assert_eq!([row(4, f64::INFINITY), row(3, f64::NAN), row(3, 0.0)], [Err(NOT_FINITE), Err(TOO_FEW), Err(TOO_FEW)]);
+}
+
+/// Each list turns on one rule: the floor, the least list, 0.8 without 0.02, 0.02 without 0.8, the held type and not the one
+/// before, the gate, the shear.
+#[test]
+fn elections() {
+    let elect = |samples: &[[f64; 4]]| {
+        let elected = elect_or_row(true, samples).expect("every residual is finite");
+        (elected.kind, elected.params[0], elected.params[1])
+    };
+    assert_eq!([4, 3].map(|u| elect(&across(&[u; 4]))), [(1, 0, 32768), (0, 0, 0)]);
+    assert_eq!(elect(&across(&[80; 3])), (0, 0, 0));
+    assert_eq!(elect(&vec![across(&[80])[0]; 8]), (1, 0, 655360));
+    let words = |words: &[u32]| elect(&words.iter().map(|&word| sample_of(word)).collect::<Vec<_>>());
+    let ratio = [0x5A364, 0x15A364, 0x25AB64, 0x405A364, 0x415A364, 0x425AB64, 0x805A368, 0x815AB68, 0x825AB68];
+    let margin = [0x74B68, 0x174B6C, 0x273B84, 0x4073B98, 0x4173B74, 0x4275370, 0x807537C, 0x8175384, 0x8272B88];
+    let held = [0x7FC34, 0x17C430, 0x27CC18, 0x407E44C, 0x417C434, 0x4281448, 0x8081C2C, 0x817CC60, 0x827EC3C];
+    let gate = [0x70BBC, 0x172BBC, 0x275BA4, 0x4073B74, 0x4171BBC, 0x427038C, 0x80703BC, 0x816FBBC, 0x8273BB0];
+    assert_eq!([words(&ratio), words(&margin)], [(1, -352256, -49152), (1, 73728, 0)]);
+    let shear = [
+        0x6FBAC, 0x1693E0, 0x262C14, 0x35CC44, 0x40763E0, 0x416FC14, 0x4269444, 0x4362C78, 0x807CC14, 0x8176444,
+        0x826FC78, 0x83694AC, 0xC082C44, 0xC17CC78, 0xC2764AC, 0xC36FCE0,
+    ];
+    assert_eq!([words(&held), words(&gate), words(&shear)], [(3, 359424, 234496), (0, 0, 0), (1, 0, 409600)]);
+    let flagged = |high| elect_or_row(high, &across(&[13; 4])).map(|elected| elected.params[1]);
+    assert_eq!([flagged(false), flagged(true)], [Ok(114688), Ok(106496)]);
+}
+
+/// An energy that is infinite or not-a-number; 16 comes from a type that isn't passed over for its list.
+#[test]
+fn elections_of_any_samples() {
+    let row = |us: &[f64]| {
+        let samples: Vec<[f64; 4]> =
+            us.iter().enumerate().map(|(i, &u)| [7.5 + 16.0 * i as f64, 7.5, u, 0.0]).collect();
+        elect_or_row(true, &samples).map(|elected| elected.kind)
+    };
+    assert_eq!(row(&[1.2, -1.2, 1.2, -1.2].map(|u| u * 1e154)), Ok(0));
+    assert_eq!([row(&[f64::NAN, 0.0, 0.0]), row(&[f64::NAN, 0.0, 0.0, 0.0])], [Ok(0), Err(NOT_FINITE)]);
+    assert_eq!([row(&[]), row(&[1e200, 0.0, 0.0, 0.0])], [Ok(0), Err(NOT_FINITE)]);
+}
+
+/// A 64×64 bowl moved, turned, drawn together and slid: the elected model, its score, and its header from bit 5 on over FF.
+#[test]
+fn elections_of_bowls() {
+    let bowl = |r: i32, c: i32| ((r.clamp(0, 63) - 31).pow(2) + 2 * (c.clamp(0, 63) - 29).pow(2)) as u16;
+    let plane = |place: fn(i32, i32) -> (i32, i32)| -> Vec<u16> {
+        (0..64 * 64).map(|i| place(i / 64, i % 64)).map(|(r, c)| bowl(r, c)).collect()
+    };
+    let reference = plane(|r, c| (r, c));
+    let elected = |place| {
+        let samples: Vec<_> = sample_words(&plane(place), &reference, 64, 64).into_iter().map(sample_of).collect();
+        let elected = elect_or_row(true, &samples).expect("every residual is finite");
+        let mut models = [IDENTITY; 7];
+        models[6] = elected.params;
+        let (bytes, bits) = write_header(&[0, 0, 0, 0, 0, 0, elected.kind], &models, true, &[IDENTITY; 7], 5);
+        let bytes = bytes.iter().enumerate().map(|(i, &byte)| if i == 0 { byte | 0xf8 } else { byte });
+        let hex: String = bytes.map(|byte| format!("{byte:02X}")).collect();
+        (elected.kind, elected.params, elected.score.to_bits(), bits, hex)
+    };
+    let told = |kind, params, score, bits, hex: &str| (kind, params, score, bits, hex.to_string());
+    assert_eq!(
+        elected(|r, c| (r + 2, c - 3)),
+        told(TRANSLATION, [131072, -196608, 65536, 0, 0, 65536], 0x3F68_0000_0000_0000, 27, "F81781CF")
+    );
+    assert_eq!(
+        elected(|r, c| (r + c / 16 - 2, c - r / 16 + 1)),
+        told(ROTZOOM, [95232, -160768, 65542, -4078, 4078, 65542], 0x3F4C_B15A_0000_0000, 61, "F81B7FDFB7E75F8E40")
+    );
+    let drawn = elected(|r, c| (r + r / 16, c + c / 16));
+    assert_eq!((drawn.0, drawn.1), (ROTZOOM, [-29696, -30720, 69638, -22, 22, 69638]));
+    assert_eq!((drawn.2, drawn.3), (0x3FB5_8AF3_0400_0000, 55));
+    assert_eq!(
+        elected(|r, c| (r, c + r / 8)),
+        told(
+            AFFINE,
+            [-1024, -108544, 65742, 6708, 4826, 64626],
+            0x3FF5_5DC0_3250_0000,
+            100,
+            "F813E9DFFD1A7FE5B5FD8D1FA980"
+        )
+    );
 }
 
 /// A 64×64 bowl, and the input that is it drawn together by a sixteenth.

@@ -47,7 +47,7 @@ REFUSALS = {
     1: "side over 1,024, or over 4,096 samples",
     18: "motion of a practice belt beyond 24 pels",
     2: "plane, class, type, model or prior list of wrong length",
-    4: "type, class, flag or trim code out of range; type 0 for a fit",
+    4: "type, class, flag, trim or elect code out of range; type 0 for a fit",
     5: "slot over 5, or to price one that the type doesn't carry; reference outside 1 to 7",
     14: "start of a header to write over 7",
     7: "model off the grid, uncarried slot or pair wrong",
@@ -204,6 +204,14 @@ class TrimmedModel(NamedTuple):
     used: int
 
 
+class Elected(NamedTuple):
+    """The elected type, 0 to 3, its StoredModel and the model's score over all samples ('Election')."""
+
+    gm_type: int
+    model: StoredModel
+    score: float
+
+
 class Shear(NamedTuple):
     """Whether a decoder keeps a warp, and its shear numbers at 16 fraction bits."""
 
@@ -235,7 +243,8 @@ class Models(NamedTuple):
 
 class Settings(NamedTuple):
     """The frame's number, the type to fit (1 to 3), the reference of the model (1 to 7), the flag, the bit of the header's
-    first byte at which writing begins (0 to 7), and 1 for a fit after trimming."""
+    first byte at which writing begins (0 to 7), 1 for a fit after trimming, and 1 for a job that elects its type: type and
+    trim code then aren't looked at."""
 
     frame: int
     gm_type: int
@@ -243,10 +252,12 @@ class Settings(NamedTuple):
     flag: int
     start: int = 0
     trim: int = 0
+    elect: int = 0
 
 
 class Report(NamedTuple):
-    """Seven types and models, the score in square pels, the header's bits, how many samples there are."""
+    """Seven types, the job's own as asked for or elected, and models, the score in square pels, the header's bits, how many
+    samples there are."""
 
     types: Tuple[int, ...]
     models: Tuple[StoredModel, ...]
@@ -402,6 +413,18 @@ def quantize_trimmed(gm_type, flag, words):
     return TrimmedModel(Model(answer.params), answer.used)
 
 
+def _elected(answer):
+    return Elected(answer.gm_type, StoredModel(answer.params), answer.score)
+
+
+def elect(flag, words):
+    """The election of a type ('Election'): each type is fitted after trimming; of those that leave at most a quarter of the
+    motion's mean square, the energy, the lowest is elected, or a higher one that is clearly better. The identity if there is
+    none, if the energy is below 0.25 square pels, and for fewer than 4 words. An Elected. Refuses 1, 4, 16; with words
+    never 16."""
+    return _elected(_call("belt_elect", _code(flag, "flag"), _list(words, c_uint32, "words")))
+
+
 def quantize_model(fitted, flag, words):
     """The fitted model on the grid ('Fits and score'), a Model. Refuses 1, 4."""
     numbers = (c_double * 6)(*fitted.numbers)
@@ -457,6 +480,11 @@ def quantize_trimmed_samples(gm_type, flag, samples):
     codes = _raw.ToTrim(_code(gm_type, "gm_type"), _code(flag, "flag"))
     answer = _call("belt_quantize_trimmed_samples", _samples(samples), codes)
     return TrimmedModel(Model(answer.params), answer.used)
+
+
+def elect_samples(flag, samples):
+    """As elect, over samples: four numbers x, y, u, v each, of any value. Refuses 1, 4, 16."""
+    return _elected(_call("belt_elect_samples", _samples(samples), _code(flag, "flag")))
 
 
 def mean_sq_residual_samples(model, samples):
@@ -599,11 +627,12 @@ def job(input_y, reference, width, height, settings, classes, buffers, types=(0,
     fields; answers a Report. The six other references are identities unless types and StoredModels are given.
 
     Refuses 1, 2, 4, 5, 14, 7, 8, 3, 15, 17, 6, 16, and 6 of a second fit. After 6 and 16 the half planes and the words are
-    in their buffers; blocks and header are as they were.
+    in their buffers; blocks and header are as they were. A job that elects has type, model and score of elect over its
+    words, and isn't refused with 15 or 6.
     """
     frame = _code(settings.frame, "frame", 65535)
     codes = [_code(code, name) for code, name in zip(settings[1:4], ("gm_type", "reference", "flag"))]
-    trim = _code(settings.trim, "trim")
+    trim, elected = _code(settings.trim, "trim"), _code(settings.elect, "elect")
     start = _code(settings.start, "start", 2**64 - 1)
     report = _call(
         "belt_job",
@@ -611,7 +640,7 @@ def job(input_y, reference, width, height, settings, classes, buffers, types=(0,
         _list(reference, c_uint16, "reference"),
         width,
         height,
-        _raw.Settings(frame, *codes, trim, start),
+        _raw.Settings(frame, *codes, trim, elected, start),
         _list(classes, c_uint8, "classes"),
         _list(types, c_uint8, "types"),
         _numbers(IDENTITIES[:6] if models is None else models, "models"),

@@ -1,4 +1,5 @@
-"""The shared library's declarations, by ctypes: every call and struct of crates/belt, lent_fit and lent_trim, and no more.
+"""The shared library's declarations, by ctypes: every call and struct of crates/belt, lent_fit, lent_trim and lent_elect, and
+no more.
 
 `bindings/declarations` holds them to the library's own.
 """
@@ -43,6 +44,10 @@ class Trimmed(ctypes.Structure):
 
 class TrimmedModel(ctypes.Structure):
     _fields_ = [("refusal", c_uint32), ("used", c_uint32), ("params", c_int32 * 6)]
+
+
+class Elected(ctypes.Structure):
+    _fields_ = [("refusal", c_uint32), ("gm_type", c_uint8), ("params", c_int32 * 6), ("score", c_double)]
 
 
 class QuantizedParam(ctypes.Structure):
@@ -103,6 +108,7 @@ class Settings(ctypes.Structure):
         ("reference", c_uint8),
         ("flag", c_uint8),
         ("trim", c_uint8),
+        ("elect", c_uint8),
         ("start", c_size_t),
     ]
 
@@ -137,6 +143,7 @@ CALLS = {
     "belt_fit_affine": (_WORDS, FitAnswer),
     "belt_fit_trimmed": ([c_uint8] + _WORDS, Trimmed),
     "belt_quantize_trimmed": ([c_uint8, c_uint8] + _WORDS, TrimmedModel),
+    "belt_elect": ([c_uint8] + _WORDS, Elected),
     "belt_quantize_model": ([c_uint8, POINTER(c_double * 6), c_uint8] + _WORDS, QuantizedModel),
     "belt_mean_sq_residual": ([POINTER(c_int32 * 6)] + _WORDS, Score),
     "belt_fit_translation_samples": (_SAMPLES, FitAnswer),
@@ -146,6 +153,7 @@ CALLS = {
     "belt_mean_sq_residual_samples": (_SAMPLES + [Params], Score),
     "belt_fit_trimmed_samples": (_SAMPLES + [c_uint8], Trimmed),
     "belt_quantize_trimmed_samples": (_SAMPLES + [ToTrim], TrimmedModel),
+    "belt_elect_samples": (_SAMPLES + [c_uint8], Elected),
     "belt_quantize_global_param": ([c_uint8, c_uint8, c_uint8, c_int32], QuantizedParam),
     "belt_write_frame": ([c_uint16] + _WORDS + _BYTES + _BYTES, Stored),
     "belt_read_both": (_BYTES + _WORDS + _BYTES, FrameRead),

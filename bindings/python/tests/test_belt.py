@@ -192,6 +192,86 @@ class Jobs(unittest.TestCase):
         self.assertEqual(after, before)
 
 
+def bowl(place=lambda r, c: (r, c)):
+    """The bowl of docs/RULES.md, 'Job', at the places that are given of row and column."""
+
+    def square(at, middle):
+        return (min(max(at, 0), 63) - middle) ** 2
+
+    places = [place(r, c) for r in range(64) for c in range(64)]
+    return array("H", [square(r, 31) + 2 * square(c, 29) for r, c in places])
+
+
+class Elections(unittest.TestCase):
+    def job(self, place, gm_type=1, trim=0):
+        settings = Settings(5, gm_type, 7, 1, 5, trim, 1)
+        buffers = Guarded(64, 64)
+        buffers.header[:] = array("B", b"\xff" * belt.HEADER_BYTES)
+        guards = buffers.guards()
+        report = belt.job(buffers=buffers, **task(64, 64, input_y=bowl(place), reference=bowl(), settings=settings))
+        self.assertEqual(buffers.guards(), guards)
+        read = belt.read_global_motion_params(buffers.header, 5, 1, IDENTITIES)
+        self.assertEqual((read.types, read.models, read.bits), (report.types, report.models, report.bits))
+        words, classes = array("I", [0] * 16), bytearray(16)
+        self.assertEqual(belt.read_both(buffers.blocks, words, classes), (5, 16))
+        self.assertEqual((words.tolist(), classes), (buffers.words.tolist(), bytes(i % 5 for i in range(16))))
+        elected = belt.elect(1, words)
+        self.assertEqual((elected.gm_type, elected.model), (report.types[6], report.models[6]))
+        self.assertEqual(elected.score, report.score)
+        self.assertEqual(belt.mean_sq_residual(elected.model.x_first(elected.gm_type), words), report.score)
+        self.assertEqual(belt.elect_samples(1, [belt.sample_of(word)[2:6] for word in words]), elected)
+        used = -(-(5 + report.bits) // 8)
+        return elected, report.bits, bytes(buffers.header[:used]).hex().upper()
+
+    def test_bowls(self):
+        for place, gm_type, model, score, bits, header in [
+            (lambda r, c: (r, c), 0, belt.STILL, 0.0, 7, "F800"),
+            (
+                lambda r, c: (r + 2, c - 3),
+                belt.TRANSLATION,
+                (131072, -196608, 65536, 0, 0, 65536),
+                float.fromhex("0x1.8p-9"),
+                27,
+                "F81781CF",
+            ),
+            (
+                lambda r, c: (r + c // 16 - 2, c - r // 16 + 1),
+                belt.ROTZOOM,
+                (95232, -160768, 65542, -4078, 4078, 65542),
+                float.fromhex("0x1.cb15ap-11"),
+                61,
+                "F81B7FDFB7E75F8E40",
+            ),
+            (
+                lambda r, c: (r, c + r // 8),
+                belt.AFFINE,
+                (-1024, -108544, 65742, 6708, 4826, 64626),
+                float.fromhex("0x1.55dc03250p+0"),
+                100,
+                "F813E9DFFD1A7FE5B5FD8D1FA980",
+            ),
+        ]:
+            for asked, trim in [(1, 0), (0, 255), (255, 2)]:
+                with self.subTest(elected=gm_type, asked=asked):
+                    elected = belt.Elected(gm_type, StoredModel(model), score)
+                    self.assertEqual(self.job(place, asked, trim), (elected, bits, header))
+
+    def test_zoom(self):
+        elected, bits, _ = self.job(lambda r, c: (r + r // 16, c + c // 16))
+        self.assertEqual((elected.gm_type, bits), (belt.ROTZOOM, 55))
+        self.assertEqual(elected.model, StoredModel((-29696, -30720, 69638, -22, 22, 69638)))
+        self.assertEqual(elected.score, float.fromhex("0x1.58af304p-4"))
+
+    def test_few_samples(self):
+        for width, samples in [(15, 0), (16, 1), (48, 3)]:
+            buffers = Guarded(width, 16)
+            reference = noisy(width, 16)
+            arguments = task(width, 16, input_y=moved(reference, width, 16, 0, 4), reference=reference)
+            report = belt.job(buffers=buffers, **dict(arguments, settings=Settings(1, 3, 1, 1, 0, 1, 1)))
+            energy = belt.mean_sq_residual(Model(belt.STILL), buffers.words)
+            self.assertEqual(report, ((0,) * 7, IDENTITIES, energy, 7, samples))
+
+
 class Refused(unittest.TestCase):
     def refused(self, number, call, *arguments, **named):
         with self.assertRaises(Refusal) as caught:
@@ -228,6 +308,8 @@ class Refusals(Refused):
             (4, dict(settings=Settings(1, 4, 1, 1))),
             (4, dict(settings=Settings(1, 1, 1, 2))),
             (4, dict(settings=Settings(1, 1, 1, 1, trim=2))),
+            (4, dict(settings=Settings(1, 1, 1, 1, elect=2))),
+            (4, dict(settings=Settings(1, 1, 1, 2, elect=1))),
             (4, dict(types=bytes([0, 0, 0, 0, 0, 4]))),
             (5, dict(settings=Settings(1, 1, 0, 1))),
             (5, dict(settings=Settings(1, 1, 8, 1))),
@@ -240,6 +322,7 @@ class Refusals(Refused):
             (15, dict(settings=Settings(1, 3, 1, 1, trim=1))),
             (15, dict(settings=Settings(0, 3, 1, 1, trim=1))),
             (17, dict(settings=Settings(0, 2, 1, 1, trim=1))),
+            (17, dict(settings=Settings(0, 3, 1, 1, trim=1, elect=1))),
         ]
         for number, change in changes:
             buffers = Guarded(48, 32)
@@ -341,6 +424,35 @@ class Refusals(Refused):
         for far in (1e200, math.inf, math.nan):
             self.refused(16, belt.fit_trimmed_samples, 1, moving(far, 0, 0, 0))
             self.refused(16, belt.quantize_trimmed_samples, 1, 0, moving(far, 0, 0, 0))
+
+    def test_elections(self):
+        def moving(*eighths):
+            return [place << 20 | 223 << 11 | (223 + u) << 2 for place, u in enumerate(eighths)]
+
+        def elected(flag, words):
+            answer = belt.elect(flag, words)
+            self.assertEqual(belt.elect_samples(flag, [belt.sample_of(word)[2:6] for word in words]), answer)
+            return answer.gm_type, answer.model[:2], answer.score
+
+        self.assertEqual(elected(1, moving(4, 4, 4, 4)), (1, (0, 32768), 0.0))
+        self.assertEqual(elected(1, moving(3, 3, 3, 3)), (0, (0, 0), 0.140625))
+        self.assertEqual(elected(1, moving(80, 80, 80)), (0, (0, 0), 100.0))
+        self.assertEqual(elected(0, moving(13, 13, 13, 13)), (1, (0, 114688), 0.015625))
+        self.assertEqual(elected(1, moving(13, 13, 13, 13)), (1, (0, 106496), 0.0))
+        self.assertEqual(elected(1, moving(80) * 8), (1, (0, 655360), 0.0))
+        self.assertEqual(elected(1, []), (0, (0, 0), 0.0))
+        self.refused(1, belt.elect, 2, words(4097))
+        self.refused(4, belt.elect, 2, [])
+        self.refused(1, belt.elect_samples, 2, [(0.0,) * 4] * 4097)
+        self.refused(4, belt.elect_samples, 255, [])
+
+        def row(*motions):
+            return [(7.5 + 16 * place, 7.5, u, 0.0) for place, u in enumerate(motions)]
+
+        self.assertEqual(belt.elect_samples(1, row(math.nan, 8.0, 8.0)).gm_type, 0)
+        self.assertEqual(belt.elect_samples(1, row(*[1.2e154, -1.2e154] * 2)), (0, StoredModel(belt.STILL), math.inf))
+        for far in (1e200, math.inf, math.nan):
+            self.refused(16, belt.elect_samples, 1, row(far, 8.0, 8.0, 8.0))
 
     def test_fits_and_scores_of_samples(self):
         many = [(0.1 * i, 0.2, math.inf, -0.0) for i in range(4097)]

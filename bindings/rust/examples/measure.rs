@@ -1,4 +1,4 @@
-//! measure INPUT.pgm REFERENCE.pgm [translation | rotzoom | affine]: how the picture moved from the input to the
+//! measure INPUT.pgm REFERENCE.pgm [translation | rotzoom | affine | elect]: how the picture moved from the input to the
 //! reference, of two binary PGM files (P5, up to 16 bits) of the same sides, up to 1,024 each.
 
 use belt::{Buffers, IDENTITIES, MOST_SIDE, Settings, Task, sample_count};
@@ -8,6 +8,8 @@ use std::{env, fs};
 
 /// The reference that the model is written for.
 const REFERENCE: u8 = 1;
+/// What is asked for instead of a type: an election.
+const ELECT: u8 = 0;
 /// A sample agrees with the model within a quarter of a pel.
 const NEAR: f64 = 0.25;
 
@@ -53,7 +55,7 @@ fn picture(path: &str) -> Result<Picture, String> {
     pgm(&bytes).ok_or(format!("{path}: this is no whole binary PGM file (P5)"))
 }
 
-fn measure(input: &Picture, reference: &Picture, gm_type: u8) -> Result<(), Box<dyn Error>> {
+fn measure(input: &Picture, reference: &Picture, asked: u8) -> Result<(), Box<dyn Error>> {
     let (width, height) = (input.width, input.height);
     if (reference.width, reference.height) != (width, height) {
         return Err("the two pictures have other sides".into());
@@ -67,15 +69,27 @@ fn measure(input: &Picture, reference: &Picture, gm_type: u8) -> Result<(), Box<
         reference: &reference.pels,
         width,
         height,
-        settings: Settings { frame: 1, gm_type, reference: REFERENCE, flag: 1, trim: 0, start: 0 },
+        settings: Settings {
+            frame: 1,
+            gm_type: asked,
+            reference: REFERENCE,
+            flag: 1,
+            trim: 0,
+            elect: u8::from(asked == ELECT),
+            start: 0,
+        },
         classes: &vec![0; sample_count(width, height)],
         types: &[0; 6],
         models: &IDENTITIES[..6],
         prior: &IDENTITIES,
     };
     let report = belt::job(&task, &mut buffers.lend())?;
+    let gm_type = report.types[0];
     let model = report.models[0].x_first(gm_type);
     let (shift, agreeing) = (model.shift(), model.agreeing(&buffers.words, NEAR));
+    if asked == ELECT {
+        println!("elected: {}", ["identity", "translation", "rotation-zoom", "affine"][usize::from(gm_type)]);
+    }
     println!("moved {:.3} pels right, {:.3} down (input to reference, at the first pel)", shift.u, shift.v);
     if gm_type > 1 {
         println!("zoom {:.5}, turned by {:.3} degrees", model.zoom(), model.degrees());
@@ -93,19 +107,20 @@ fn measure(input: &Picture, reference: &Picture, gm_type: u8) -> Result<(), Box<
 fn main() -> ExitCode {
     let words: Vec<String> = env::args().skip(1).collect();
     let words: Vec<&str> = words.iter().map(String::as_str).collect();
-    let (input, reference, gm_type) = match words[..] {
+    let (input, reference, asked) = match words[..] {
         [input, reference] | [input, reference, "translation"] => (input, reference, 1),
         [input, reference, "rotzoom"] => (input, reference, 2),
         [input, reference, "affine"] => (input, reference, 3),
+        [input, reference, "elect"] => (input, reference, ELECT),
         _ => {
-            eprintln!("usage: measure INPUT.pgm REFERENCE.pgm [translation | rotzoom | affine]");
+            eprintln!("usage: measure INPUT.pgm REFERENCE.pgm [translation | rotzoom | affine | elect]");
             return ExitCode::from(2);
         }
     };
     let measured = picture(input)
         .and_then(|input| Ok((input, picture(reference)?)))
         .map_err(Into::into)
-        .and_then(|(input, reference)| measure(&input, &reference, gm_type));
+        .and_then(|(input, reference)| measure(&input, &reference, asked));
     match measured {
         Ok(()) => ExitCode::SUCCESS,
         Err(error) => {

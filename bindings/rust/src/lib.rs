@@ -8,9 +8,9 @@
 //!
 //! A call that refuses answers with the table's row, a [`Refusal`], and leaves the lent slices as they were; the one
 //! exception is [`job`] with [`Refusal::Singular`] or [`Refusal::NotFinite`]. An accepted call writes only the part that
-//! it uses. The library keeps nothing between calls, so any number of threads may call it at once. A call that trims,
-//! which a job may, takes about 165 kB of the thread's stack. It expects the floating-point environment that a process
-//! begins with: rounding to nearest, traps off.
+//! it uses. The library keeps nothing between calls, so any number of threads may call it at once. A call that trims or
+//! elects takes about 170 kB of the thread's stack; a job about 140 kB, 170 kB if it trims and 300 kB if it elects. It
+//! expects the floating-point environment that a process begins with: rounding to nearest, traps off.
 //!
 //! Types are 0 identity, 1 translation, 2 rotation-zoom, 3 affine; classes are [`UNSORTED`], [`FIBRE`],
 //! [`RIGID_PLASTIC`], [`METAL`] and [`FILM`]; a flag is 1 for high precision, else 0. Codes are plain numbers, so that
@@ -34,7 +34,7 @@
 //!         reference: &reference,
 //!         width: 64,
 //!         height: 48,
-//!         settings: Settings { frame: 5, gm_type: 1, reference: 1, flag: 1, trim: 0, start: 0 },
+//!         settings: Settings { frame: 5, gm_type: 1, reference: 1, flag: 1, trim: 0, elect: 0, start: 0 },
 //!         classes: &[0; 12],
 //!         types: &[0; 6],
 //!         models: &IDENTITIES[..6],
@@ -162,6 +162,8 @@ pub struct Settings {
     pub flag: u8,
     /// 1 for a fit after trimming, else 0.
     pub trim: u8,
+    /// 1 for a job that elects its type, else 0. Type and trim code then aren't looked at.
+    pub elect: u8,
     /// The bit of the header's first byte at which writing begins, 0 to 7.
     pub start: usize,
 }
@@ -177,7 +179,7 @@ pub struct Task<'a> {
     pub width: usize,
     /// The sides of both, in pels, at most [`MOST_SIDE`].
     pub height: usize,
-    /// Frame number, type, reference, flag, trim code and start.
+    /// Frame number, type, reference, flag, trim code, elect code and start.
     pub settings: Settings,
     /// A class for each whole 16×16 block: [`sample_count`] of them.
     pub classes: &'a [u8],
@@ -207,11 +209,11 @@ pub struct Lent<'a> {
 /// What a job reports.
 #[derive(Clone, Copy, Debug, PartialEq)]
 pub struct Report {
-    /// The types of references 1 to 7; the fitted model has the type asked for.
+    /// The types of references 1 to 7; the job's own model has the type asked for or elected.
     pub types: [u8; 7],
     /// The models of references 1 to 7.
     pub models: [StoredModel; 7],
-    /// The fitted model's mean squared residual, in square pels.
+    /// The mean squared residual of the job's own model, in square pels.
     pub score: f64,
     /// The bits of the header.
     pub bits: usize,
@@ -449,6 +451,43 @@ fn trimmed_model(answer: raw::TrimmedModel) -> Result<TrimmedModel, Refusal> {
     judged(answer.refusal, TrimmedModel { model: answer.params, used: answer.used as usize })
 }
 
+/// What an election answers ('Election').
+#[derive(Clone, Copy, Debug, PartialEq)]
+pub struct Elected {
+    /// The elected type, 0 to 3.
+    pub gm_type: u8,
+    /// Its model.
+    pub model: StoredModel,
+    /// The model's mean squared residual over all samples, in square pels; of the identity the motion's energy.
+    pub score: f64,
+}
+
+/// The election of a type ('Election'): each type is fitted after trimming; of those that leave at most a quarter of the
+/// motion's mean square, the energy, the lowest is elected, or a higher one that is clearly better. The identity if there
+/// is none, if the energy is below 0.25 square pels, and for fewer than 4 words.
+///
+/// # Errors
+///
+/// [`Refusal::TooLarge`], [`Refusal::NoSuchCode`], [`Refusal::NotFinite`], of which no case with words is known
+/// (`docs/DECISIONS.md`, 'The job').
+///
+/// ```
+/// // four blocks that move by half a pel, and by three eighths
+/// let [half, less] = [4, 3].map(|u| [0, 1, 2, 3].map(|column| column << 20 | 223 << 11 | (223 + u) << 2));
+/// let elected = belt::elect(1, &half)?;
+/// assert_eq!((elected.gm_type, elected.score), (1, 0.0));
+/// assert_eq!(elected.model.0[..2], [0, 32768]);
+/// assert_eq!((belt::elect(1, &less)?.gm_type, belt::elect(1, &less)?.score), (0, 0.140625));
+/// # Ok::<(), belt::Refusal>(())
+/// ```
+pub fn elect(flag: u8, words: &[u32]) -> Result<Elected, Refusal> {
+    elected(raw::elect(flag, words))
+}
+
+fn elected(answer: raw::Elected) -> Result<Elected, Refusal> {
+    judged(answer.refusal, Elected { gm_type: answer.gm_type, model: answer.params, score: answer.score })
+}
+
 /// The fitted model on the grid ('Fits and score'); its translation is fitted again to the words.
 ///
 /// # Errors
@@ -555,6 +594,23 @@ pub fn fit_trimmed_samples(gm_type: u8, samples: &[MotionSample]) -> Result<Trim
 /// As [`fit_trimmed_samples`]; the flag is judged with the type.
 pub fn quantize_trimmed_samples(gm_type: u8, flag: u8, samples: &[MotionSample]) -> Result<TrimmedModel, Refusal> {
     trimmed_model(raw::quantize_trimmed_samples(samples, raw::ToTrim { gm_type, flag }))
+}
+
+/// As [`elect`], over samples of any four numbers.
+///
+/// # Errors
+///
+/// [`Refusal::TooLarge`], [`Refusal::NoSuchCode`], [`Refusal::NotFinite`] where a type's trimmed fit has it.
+///
+/// ```
+/// let moving = |u| belt::MotionSample { x: 0.5, y: 0.25, u, v: 0.0 };
+/// let elected = belt::elect_samples(1, &[2.0, 2.1, 1.9, 2.0].map(moving))?;
+/// assert_eq!((elected.gm_type, elected.model.0[1]), (1, 131072));
+/// assert_eq!(belt::elect_samples(1, &[f64::NAN, 2.0, 2.0, 2.0].map(moving)), Err(belt::Refusal::NotFinite));
+/// # Ok::<(), belt::Refusal>(())
+/// ```
+pub fn elect_samples(flag: u8, samples: &[MotionSample]) -> Result<Elected, Refusal> {
+    elected(raw::elect_samples(samples, flag))
 }
 
 /// The codable number nearest to a value ('Grid'), for type 0 to 3 and slot 0 to 5.
@@ -898,22 +954,24 @@ pub fn frame_price(
     judged_lists(price.refusal, price.bits, lists, || [])
 }
 
-/// Runs a whole job: search, fit, grid, score, blocks and header ('Job'). The crate's head has an example.
+/// Runs a whole job: search, fit, grid, score, blocks and header ('Job'). The crate's head has an example. A job that
+/// elects has type, model and score of [`elect`] over its words.
 ///
 /// # Errors
 ///
 /// [`Refusal::TooLarge`], [`Refusal::WrongLength`], [`Refusal::NoSuchCode`], [`Refusal::NoSuchSlot`],
 /// [`Refusal::StartOver`], [`Refusal::OffGrid`], [`Refusal::PriorOut`], [`Refusal::TooShort`], [`Refusal::TooFew`],
 /// [`Refusal::ShutterClosed`], [`Refusal::Singular`], [`Refusal::NotFinite`]. After the last two the half planes and the
-/// words are in their buffers; blocks and header are as they were.
+/// words are in their buffers; blocks and header are as they were. A job that elects isn't refused with
+/// [`Refusal::TooFew`] or [`Refusal::Singular`].
 pub fn job(task: &Task<'_>, lent: &mut Lent<'_>) -> Result<Report, Refusal> {
-    let Settings { frame, gm_type, reference, flag, trim, start } = task.settings;
+    let Settings { frame, gm_type, reference, flag, trim, elect, start } = task.settings;
     let report = raw::job(
         task.input,
         task.reference,
         task.width,
         task.height,
-        raw::Settings { frame, gm_type, reference, flag, trim, start },
+        raw::Settings { frame, gm_type, reference, flag, trim, elect, start },
         task.classes,
         task.types,
         raw::numbers(task.models),

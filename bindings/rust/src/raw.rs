@@ -67,6 +67,14 @@ pub struct TrimmedModel {
 }
 
 #[repr(C)]
+pub struct Elected {
+    pub refusal: u32,
+    pub gm_type: u8,
+    pub params: StoredModel,
+    pub score: f64,
+}
+
+#[repr(C)]
 pub struct QuantizedParam {
     pub refusal: u32,
     pub value: i32,
@@ -149,6 +157,7 @@ pub struct Settings {
     pub reference: u8,
     pub flag: u8,
     pub trim: u8,
+    pub elect: u8,
     pub start: usize,
 }
 
@@ -184,6 +193,7 @@ unsafe extern "C" {
     fn belt_fit_affine(words: *const u32, count: usize) -> FitAnswer;
     fn belt_fit_trimmed(gm_type: u8, words: *const u32, count: usize) -> Trimmed;
     fn belt_quantize_trimmed(gm_type: u8, flag: u8, words: *const u32, count: usize) -> TrimmedModel;
+    fn belt_elect(flag: u8, words: *const u32, count: usize) -> Elected;
     fn belt_quantize_model(
         gm_type: u8,
         numbers: *const [f64; 6],
@@ -199,6 +209,7 @@ unsafe extern "C" {
     fn belt_mean_sq_residual_samples(samples: *const MotionSample, count: usize, model: Params) -> Score;
     fn belt_fit_trimmed_samples(samples: *const MotionSample, count: usize, gm_type: u8) -> Trimmed;
     fn belt_quantize_trimmed_samples(samples: *const MotionSample, count: usize, codes: ToTrim) -> TrimmedModel;
+    fn belt_elect_samples(samples: *const MotionSample, count: usize, flag: u8) -> Elected;
     fn belt_quantize_global_param(gm_type: u8, flag: u8, slot: u8, value: i32) -> QuantizedParam;
     fn belt_write_frame(
         frame: u16,
@@ -382,6 +393,11 @@ pub fn quantize_trimmed(gm_type: u8, flag: u8, words: &[u32]) -> TrimmedModel {
     unsafe { belt_quantize_trimmed(gm_type, flag, words.as_ptr(), words.len()) }
 }
 
+pub fn elect(flag: u8, words: &[u32]) -> Elected {
+    // SAFETY: one slice is read.
+    unsafe { belt_elect(flag, words.as_ptr(), words.len()) }
+}
+
 pub fn quantize_model(gm_type: u8, numbers: &[f64; 6], flag: u8, words: &[u32]) -> QuantizedModel {
     // SAFETY: the six numbers and one slice are read; the array's type holds its length.
     unsafe { belt_quantize_model(gm_type, numbers, flag, words.as_ptr(), words.len()) }
@@ -420,6 +436,11 @@ pub fn fit_trimmed_samples(samples: &[MotionSample], gm_type: u8) -> Trimmed {
 pub fn quantize_trimmed_samples(samples: &[MotionSample], codes: ToTrim) -> TrimmedModel {
     // SAFETY: one slice is read.
     unsafe { belt_quantize_trimmed_samples(samples.as_ptr(), samples.len(), codes) }
+}
+
+pub fn elect_samples(samples: &[MotionSample], flag: u8) -> Elected {
+    // SAFETY: one slice is read.
+    unsafe { belt_elect_samples(samples.as_ptr(), samples.len(), flag) }
 }
 
 pub fn mean_sq_residual_samples(samples: &[MotionSample], model: Params) -> Score {

@@ -13,7 +13,7 @@ pub enum Refusal {
     TooFar,
     /// 2: plane, class, type, model or prior list of wrong length.
     WrongLength(Length),
-    /// 4: type, class, flag or trim code out of range; type 0 for a fit.
+    /// 4: type, class, flag, trim or elect code out of range; type 0 for a fit.
     NoSuchCode,
     /// 5: slot over 5, or to price one that the type doesn't carry; reference outside 1 to 7.
     NoSuchSlot,
@@ -71,7 +71,7 @@ impl Refusal {
         (1, "side over 1,024, or over 4,096 samples"),
         (18, "motion of a practice belt beyond 24 pels"),
         (2, "plane, class, type, model or prior list of wrong length"),
-        (4, "type, class, flag or trim code out of range; type 0 for a fit"),
+        (4, "type, class, flag, trim or elect code out of range; type 0 for a fit"),
         (5, "slot over 5, or to price one that the type doesn't carry; reference outside 1 to 7"),
         (14, "start of a header to write over 7"),
         (7, "model off the grid, uncarried slot or pair wrong"),

@@ -1,4 +1,4 @@
-//! Jobs of the three types on made-up frames: what they report, what they leave, and that it reads back.
+//! Jobs of the three types and jobs that elect on made-up frames: what they report, what they leave, and that it reads back.
 
 mod frames;
 
@@ -64,6 +64,7 @@ fn run(handed: &Handed) -> (Report, Buffers) {
     let (kind, flag) = (settings.gm_type, settings.flag);
     assert_eq!(belt::fit_trimmed_samples(kind, &made), belt::fit_trimmed(kind, words));
     assert_eq!(belt::quantize_trimmed_samples(kind, flag, &made), belt::quantize_trimmed(kind, flag, words));
+    assert_eq!(belt::elect_samples(flag, &made), belt::elect(flag, words));
 
     // the six others keep their order
     let mut types = handed.types.clone();
@@ -150,15 +151,28 @@ fn rotation_zooms_and_affine_motions_read_back() {
     }
 }
 
-/// The bowl of docs/RULES.md, 'Job': the same job with and without trimming.
+/// The bowl of docs/RULES.md, 'Job', at the places that are given of row and column.
+fn bowl(place: fn(i32, i32) -> (i32, i32)) -> Vec<u16> {
+    let square = |at: i32, middle: i32| (at.clamp(0, 63) - middle).pow(2);
+    let places = (0..64 * 64).map(|i| place(i / 64, i % 64));
+    places.map(|(r, c)| (square(r, 31) + 2 * square(c, 29)) as u16).collect()
+}
+
+/// A job on the bowl at those places, for reference 7.
+fn bowl_job(place: fn(i32, i32) -> (i32, i32), gm_type: u8) -> Handed {
+    let mut handed = Handed::new(bowl(place), bowl(|r, c| (r, c)), 64, 64, gm_type);
+    (handed.settings.frame, handed.settings.reference) = (5, 7);
+    handed
+}
+
+fn zoomed(r: i32, c: i32) -> (i32, i32) {
+    (r + r / 16, c + c / 16)
+}
+
+/// The same job with and without trimming.
 #[test]
 fn a_bowl_is_trimmed() {
-    let square = |at: usize, middle: i32| (at as i32 - middle).pow(2);
-    let bowl = |r: usize, c: usize| (square(r.min(63), 31) + 2 * square(c.min(63), 29)) as u16;
-    let plane =
-        |zoom: usize| (0..64 * 64).map(|i| (i / 64, i % 64)).map(|(r, c)| bowl(r + r / zoom, c + c / zoom)).collect();
-    let mut handed = Handed::new(plane(16), plane(64), 64, 64, 2);
-    handed.settings.reference = 7;
+    let mut handed = bowl_job(zoomed, 2);
     for (trim, model, score, bits) in [
         (1, [-29696, -30720, 69638, -22, 22, 69638], 0x3FB5_8AF3_0400_0000, 55),
         (0, [-37888, -30720, 69678, 160, -160, 69678], 0x3FB2_B2BB_2200_0000, 63),
@@ -175,6 +189,83 @@ fn a_bowl_is_trimmed() {
         assert_eq!(belt::fit_trimmed(2, words).unwrap().used, 15);
         let read = belt::read_global_motion_params(&left.header, 5, 1, &handed.prior).unwrap();
         assert_eq!((read.models, read.bits), (report.models, report.bits));
+    }
+}
+
+/// What is written of a job that elects: its model as stored, the score's bits, and the header over bytes of ones.
+type Election = (fn(i32, i32) -> (i32, i32), u8, [i32; 6], u64, usize, &'static [u8]);
+
+/// Shift, turn, zoom and slant of the bowl, each elected as another type asked for wouldn't change.
+#[test]
+fn bowls_are_elected() {
+    let elections: [Election; 5] = [
+        (|r, c| (r, c), 0, [0, 0, 65536, 0, 0, 65536], 0, 7, &[0xF8, 0x00]),
+        (
+            |r, c| (r + 2, c - 3),
+            1,
+            [131072, -196608, 65536, 0, 0, 65536],
+            0x3F68_0000_0000_0000,
+            27,
+            &[0xF8, 0x17, 0x81, 0xCF],
+        ),
+        (
+            |r, c| (r + c / 16 - 2, c - r / 16 + 1),
+            2,
+            [95232, -160768, 65542, -4078, 4078, 65542],
+            0x3F4C_B15A_0000_0000,
+            61,
+            &[0xF8, 0x1B, 0x7F, 0xDF, 0xB7, 0xE7, 0x5F, 0x8E, 0x40],
+        ),
+        (zoomed, 2, [-29696, -30720, 69638, -22, 22, 69638], 0x3FB5_8AF3_0400_0000, 55, &[]),
+        (
+            |r, c| (r, c + r / 8),
+            3,
+            [-1024, -108544, 65742, 6708, 4826, 64626],
+            0x3FF5_5DC0_3250_0000,
+            100,
+            &[0xF8, 0x13, 0xE9, 0xDF, 0xFD, 0x1A, 0x7F, 0xE5, 0xB5, 0xFD, 0x8D, 0x1F, 0xA9, 0x80],
+        ),
+    ];
+    for (place, gm_type, model, score, bits, header) in elections {
+        // type and trim code aren't looked at
+        for (asked, trim) in [(0, 0), (1, 1), (3, 0), (4, 2), (255, 255)] {
+            let mut handed = bowl_job(place, asked);
+            (handed.settings.trim, handed.settings.elect) = (trim, 1);
+            let mut left = Buffers::new(64, 64);
+            left.header.fill(0xFF);
+            let report = belt::job(&handed.task(), &mut left.lend()).expect("no row refuses");
+            assert_eq!((report.types[6], report.models[6]), (gm_type, StoredModel(model)));
+            assert_eq!((report.score.to_bits(), report.bits), (score, bits));
+            assert_eq!(left.header[..header.len()], *header);
+            let elected = belt::elect(1, &left.words).unwrap();
+            assert_eq!((elected.gm_type, elected.model, elected.score), (gm_type, report.models[6], report.score));
+            assert_eq!(belt::mean_sq_residual(&report.models[6].x_first(gm_type), &left.words), Ok(report.score));
+            let read = belt::read_global_motion_params(&left.header, 5, 1, &handed.prior).unwrap();
+            assert_eq!((read.types, read.models, read.bits), (report.types, report.models, report.bits));
+            let (mut back, mut classes) = (vec![0; 16], vec![0; 16]);
+            assert_eq!(belt::read_both(&left.blocks, &mut back, &mut classes), Ok(Frame { number: 5, samples: 16 }));
+            assert_eq!((back, classes), (left.words, handed.classes));
+        }
+    }
+}
+
+/// Planes without a whole block, with one and with three: the other types have too few samples, and none is refused.
+#[test]
+fn few_samples_elect_the_identity() {
+    for (width, samples) in [(15, 0), (16, 1), (48, 3)] {
+        let reference = noisy_plane(width, 16);
+        let mut handed = Handed::new(moved(&reference, width, 16, 0, 4), reference, width, 16, 3);
+        handed.settings.elect = 1;
+        let before = guarded(width, 16);
+        let mut left = before.clone();
+        let report = belt::job(&handed.task(), &mut left.lend()).expect("no row refuses");
+        let energy = belt::mean_sq_residual(&Model::IDENTITY, &left.words[..samples]).unwrap();
+        assert_eq!((report.types, report.models), ([0; 7], belt::IDENTITIES));
+        assert_eq!((report.score, report.bits, report.samples), (energy, 7, samples));
+        assert_eq!(belt::elect(1, &left.words[..samples]).map(|elected| elected.score), Ok(energy));
+        if samples == 0 {
+            assert_eq!(Buffers { header: before.header.clone(), ..left }, before);
+        }
     }
 }
 

@@ -71,6 +71,8 @@ fn job() {
         (NoSuchCode, |h, _| h.settings.flag = 255),
         (NoSuchCode, |h, _| h.settings.trim = 2),
         (NoSuchCode, |h, _| h.settings.trim = 255),
+        (NoSuchCode, |h, _| h.settings.elect = 2),
+        (NoSuchCode, |h, _| h.settings.elect = 255),
         (NoSuchCode, |h, _| h.types[5] = 4),
         (NoSuchSlot, |h, _| h.settings.reference = 0),
         (NoSuchSlot, |h, _| h.settings.reference = 8),
@@ -257,6 +259,81 @@ fn fits_of_samples_after_trimming() {
         assert_eq!(belt::fit_trimmed_samples(1, &moving(4, far)), Err(NotFinite));
         assert_eq!(belt::quantize_trimmed_samples(1, 0, &moving(4096, far)), Err(NotFinite));
     }
+}
+
+/// The rows of a job that elects: those that type and trim code would bring about are gone, the rest stay.
+#[test]
+fn a_job_that_elects() {
+    let mut handed = Handed::new(noisy_plane(48, 32), noisy_plane(48, 32), 48, 32, 1);
+    handed.settings.elect = 1;
+    let before = guarded(48, 32);
+    let changes: [(Result<(), Refusal>, fn(&mut Handed)); 10] = [
+        (Ok(()), |_| {}),
+        (Ok(()), |h| h.settings.gm_type = 0),
+        (Ok(()), |h| h.settings.gm_type = 4),
+        (Ok(()), |h| h.settings.trim = 2),
+        (Ok(()), |h| (h.settings.gm_type, h.settings.trim) = (3, 1)),
+        (Err(NoSuchCode), |h| h.settings.flag = 2),
+        (Err(NoSuchCode), |h| h.classes[5] = 5),
+        (Err(NoSuchCode), |h| h.types[5] = 4),
+        (Err(NoSuchSlot), |h| h.settings.reference = 8),
+        (Err(ShutterClosed), |h| h.settings.frame = 0),
+    ];
+    for (i, (answer, change)) in changes.into_iter().enumerate() {
+        let (mut handed, mut after) = (handed.clone(), before.clone());
+        change(&mut handed);
+        assert_eq!(belt::job(&handed.task(), &mut after.lend()).map(|_| ()), answer, "change {i}");
+        assert_eq!(after == before, answer.is_err(), "change {i}");
+    }
+}
+
+#[test]
+fn elections() {
+    let many = words(4097);
+    assert_eq!(belt::elect(0, &many), Err(TooLarge));
+    assert_eq!(belt::elect(2, &many), Err(TooLarge));
+    assert_eq!(belt::elect(2, &[]), Err(NoSuchCode));
+    assert_eq!(belt::elect(255, &many[..9]), Err(NoSuchCode));
+    let across = |eighths: &[u32]| {
+        let word = |(column, u): (u32, &u32)| column << 20 | 223 << 11 | (223 + u) << 2;
+        (0..).zip(eighths).map(word).collect::<Vec<u32>>()
+    };
+    let elect = |flag, words: &[u32]| {
+        let elected = belt::elect(flag, words).unwrap();
+        let samples: Vec<_> = words.iter().map(|&word| belt::MotionSample::of_word(word)).collect();
+        assert_eq!(belt::elect_samples(flag, &samples), Ok(elected));
+        (elected.gm_type, elected.model.0[0], elected.model.0[1], elected.score)
+    };
+    assert_eq!(elect(1, &[]), (0, 0, 0, 0.0));
+    assert_eq!(elect(1, &many[..4096]), (0, 0, 0, 0.0));
+    assert_eq!(elect(1, &across(&[4; 4])), (1, 0, 32768, 0.0));
+    assert_eq!(elect(1, &across(&[3; 4])), (0, 0, 0, 0.140625));
+    assert_eq!(elect(1, &across(&[80; 3])), (0, 0, 0, 100.0));
+    assert_eq!(elect(0, &across(&[13; 4])), (1, 0, 114688, 0.015625));
+    assert_eq!(elect(1, &across(&[13; 4])), (1, 0, 106496, 0.0));
+    // at one place the other types have no fit
+    assert_eq!(elect(1, &[across(&[80])[0]; 8]), (1, 0, 655360, 0.0));
+}
+
+#[test]
+fn elections_of_samples() {
+    let row = |motions: &[f64]| {
+        let sample =
+            |(place, &u): (usize, &f64)| belt::MotionSample { x: 7.5 + 16.0 * place as f64, y: 7.5, u, v: 0.0 };
+        motions.iter().enumerate().map(sample).collect::<Vec<_>>()
+    };
+    assert_eq!(belt::elect_samples(2, &row(&[0.0; 4097])), Err(TooLarge));
+    assert_eq!(belt::elect_samples(2, &[]), Err(NoSuchCode));
+    let kind = |motions: &[f64]| belt::elect_samples(1, &row(motions)).map(|elected| elected.gm_type);
+    assert_eq!(kind(&[2.5, 2.5, 2.5, 2.5]), Ok(1));
+    assert_eq!(kind(&[f64::NAN, 8.0, 8.0]), Ok(0));
+    for far in [1e200, f64::INFINITY, f64::NAN] {
+        assert_eq!(kind(&[far, 8.0, 8.0, 8.0]), Err(NotFinite));
+        assert_eq!(kind(&[vec![far], vec![0.0; 4095]].concat()), Err(NotFinite));
+    }
+    // an energy and errors that are infinite
+    let far = belt::elect_samples(1, &row(&[1.2e154, -1.2e154, 1.2e154, -1.2e154])).unwrap();
+    assert_eq!((far.gm_type, far.model, far.score), (0, StoredModel::IDENTITY, f64::INFINITY));
 }
 
 #[test]

@@ -1,8 +1,9 @@
-// A job for each of the three types, on a textured belt that carries fibre and film, and that moved,
-// grew and turned between two frames.
-// Prints the true motion, the measured one and the one that its header reads as, in pels, zoom and
-// degrees, how many samples agree, the score and the bits; then what is stored: the header's bytes and
-// the blocks as the list program prints them; last, whether all of it is right.
+// Jobs that elect, on a textured belt that carries fibre and film, and that rested, moved, grew or slid
+// between two frames: one belt for each type.
+// Prints which type won and why the others didn't; the true motion, the measured one and the one that
+// its header reads as, in pels, zoom, degrees and slide, how many samples agree, the score and the bits;
+// then what is stored: the header's bytes and the blocks as the list program prints them; last, whether
+// all of it is right.
 ghost use Prim.Native.Nat.{_≤_, _<_};
 use job::Report;
 use job::Settings;
@@ -30,6 +31,8 @@ const FRAME: u16 = 7;
 const REFERENCE: u8 = 3;
 
 const HIGH_PRECISION: u8 = 1;
+
+const IDENTITY: u8 = 0;
 
 const TRANSLATION: u8 = 1;
 
@@ -63,9 +66,9 @@ fn texture(row: u32, column: u32) -> u16
     (four / 4) as u16
 }
 
-// Where the pel of the input at this row and column lies on the belt. It is moved by a pel down and two
-// to the right; or grown or turned by a sixteenth: each block of 16 then moves by whole pels.
-fn belt_row(gm_type: u8, row: u32, column: u32) -> u32
+// Where the pel of the input at this row and column lies on the belt. It rests; or is moved by a pel down
+// and two to the right; or grown or slid by a sixteenth: each block of 16 then moves by whole pels.
+fn belt_row(gm_type: u8, row: u32) -> u32
     ensures { λ r. ⌜ r < 1000000 ⌝ }
 {
     if gm_type == TRANSLATION {
@@ -74,7 +77,7 @@ fn belt_row(gm_type: u8, row: u32, column: u32) -> u32
     if gm_type == ROTZOOM {
         return row % 65536 + row % 65536 / 16;
     }
-    row % 65536 + column % 65536 / 16
+    row % 65536
 }
 
 fn belt_column(gm_type: u8, row: u32, column: u32) -> u32
@@ -86,7 +89,10 @@ fn belt_column(gm_type: u8, row: u32, column: u32) -> u32
     if gm_type == ROTZOOM {
         return column % 65536 + column % 65536 / 16 + FIRST;
     }
-    column % 65536 + FIRST - row % 1000 / 16
+    if gm_type == AFFINE {
+        return column % 65536 + row % 65536 / 16 + FIRST;
+    }
+    column % 65536 + FIRST
 }
 
 fn word_of(at: usize) -> u32
@@ -98,10 +104,7 @@ fn word_of(at: usize) -> u32
 fn input_pel(gm_type: u8, at: usize) -> u16 {
     let row = word_of(at / SIDE);
     let column = word_of(at % SIDE);
-    texture(
-        belt_row(gm_type, row, column),
-        belt_column(gm_type, row, column),
-    )
+    texture(belt_row(gm_type, row), belt_column(gm_type, row, column))
 }
 
 fn reference_pel(at: usize) -> u16 {
@@ -147,7 +150,10 @@ fn true_motion(gm_type: u8) -> [i32; 6] {
     if gm_type == ROTZOOM {
         return [-30720, -30720, 69632, 0, 0, 69632];
     }
-    [30720, -30720, ONE, -4096, 4096, ONE]
+    if gm_type == AFFINE {
+        return [-30720, 0, ONE, 4096, 0, ONE];
+    }
+    [0, 0, ONE, 0, 0, ONE]
 }
 
 // ---- what is printed
@@ -197,6 +203,11 @@ fn degrees_of(model: [i32; 6]) -> i32 {
     )
 }
 
+// How far rows slide along each other, beyond a turn.
+fn slide_of(model: [i32; 6]) -> i32 {
+    grid_number::grid_number((model[3] as f64 + model[4] as f64) / 65536.0)
+}
+
 fn print_motion(name: &[u8], model: [i32; 6]) {
     print(name);
     print_decimals(model[0]);
@@ -206,7 +217,99 @@ fn print_motion(name: &[u8], model: [i32; 6]) {
     print_decimals(zoom_of(model));
     print(b", turn");
     print_decimals(degrees_of(model));
-    print(b" degrees\n");
+    print(b" degrees, slide");
+    print_decimals(slide_of(model));
+    print(b"\n");
+}
+
+fn print_type(gm_type: u8) {
+    if gm_type == IDENTITY {
+        print(b"IDENTITY");
+    }
+    if gm_type == TRANSLATION {
+        print(b"TRANSLATION");
+    }
+    if gm_type == ROTZOOM {
+        print(b"ROTZOOM");
+    }
+    if gm_type == AFFINE {
+        print(b"AFFINE");
+    }
+}
+
+// ---- the election, in words
+
+// The type that is held, IDENTITY for none, and its error.
+struct Held {
+    gm_type: u8,
+    error: f64,
+}
+
+// Which of two types with errors under the gate: the one held, unless the later is clearly better.
+fn compare(held: Held, gm_type: u8, error: f64) -> Held {
+    if error > 0.8 * held.error {
+        print(b": more than 0.8 of what the one held leaves, passed over\n");
+        return held;
+    }
+    if held.error - error <= 0.02 {
+        print(b": not more than 0.02 less than the one held, passed over\n");
+        return held;
+    }
+    print(
+        b": at most 0.8 of what the one held leaves and more than 0.02 less, held in its place\n",
+    );
+    Held { gm_type, error }
+}
+
+// A type's trimmed fit on the grid, and what it leaves.
+fn explain_type(held: Held, gate: f64, gm_type: u8, words: &[u32]) -> Held {
+    let candidate = trim::quantize_trimmed(gm_type, HIGH_PRECISION, words);
+    print_type(gm_type);
+    if candidate.refusal != 0 {
+        print_count(
+            b" is refused, passed over: row ",
+            candidate.refusal as usize,
+        );
+        return held;
+    }
+    let own = candidate.params;
+    let left = score::mean_sq_residual(own, words);
+    print(b" leaves");
+    print_decimals(grid_number::grid_number(left.score));
+    if gate < left.score {
+        print(b": more than that, passed over\n");
+        return held;
+    }
+    if held.gm_type == IDENTITY {
+        print(b": the first that doesn't leave more, held\n");
+        return Held {
+            gm_type,
+            error: left.score,
+        };
+    }
+    compare(held, gm_type, left.score)
+}
+
+fn explain(words: &[u32]) -> u8 {
+    let energy = score::mean_sq_residual(true_motion(IDENTITY), words);
+    let gate = 0.25 * energy.score;
+    print(b"motion energy:");
+    print_decimals(grid_number::grid_number(energy.score));
+    if energy.score < 0.25 {
+        print(b" square pels, under 0.25: no type is asked\n");
+        return IDENTITY;
+    }
+    print(b" square pels; a model may leave");
+    print_decimals(grid_number::grid_number(gate));
+    print(b"\n");
+    let none = Held {
+        gm_type: IDENTITY,
+        error: energy.score,
+    };
+    let first = explain_type(none, gate, TRANSLATION, words);
+    let second = explain_type(first, gate, ROTZOOM, words);
+    let third = explain_type(second, gate, AFFINE, words);
+    third.gm_type
 }
 
 fn print_byte(byte: u8) {
@@ -324,7 +427,9 @@ fn blocks_agree(blocks: &[u8], words: &[u32], classes: &[u8]) -> bool {
 
 fn verdict(is_right: bool) {
     if is_right {
-        print(b"verdict: the true motion was measured, and what is stored reads back as it\n\n");
+        print(
+            b"verdict: the true motion was elected and measured, and what is stored reads back as it\n\n",
+        );
         return;
     }
     print(b"verdict: WRONG\n\n");
@@ -346,11 +451,18 @@ fn finish(
     prior: &[i32],
 ) {
     let truth = true_motion(gm_type);
+    let types = r.types;
     let models = r.models;
-    let measured = own_model(gm_type, models);
+    let elected = types[2];
+    let measured = own_model(elected, models);
     let read = header_read::read_global_motion_params(header, START, HIGH_PRECISION, prior);
+    let kinds = read.types;
     let params = read.params;
-    let stored = own_model(gm_type, params);
+    let stored = own_model(kinds[2], params);
+    let explained = explain(words);
+    print(b"elected: ");
+    print_type(elected);
+    print(b"\n");
     print_motion(b"true:", truth);
     print_motion(b"measured:", measured);
     print_motion(b"header read:", stored);
@@ -359,7 +471,10 @@ fn finish(
     print_bytes(&header[0..used]);
     print_block(blocks);
     verdict(
-        same_model(truth, measured)
+        elected == gm_type
+            && explained == elected
+            && kinds[2] == elected
+            && same_model(truth, measured)
             && same_model(measured, stored)
             && blocks_agree(blocks, words, classes),
     );
@@ -368,10 +483,11 @@ fn finish(
 fn run(gm_type: u8, input: &[u16], reference: &[u16], prior: &[i32], models: &[i32]) {
     let settings = Settings {
         frame: FRAME,
-        gm_type,
+        gm_type: 0,
         reference: REFERENCE,
         flag: HIGH_PRECISION,
         trim: 0,
+        elect: 1,
         start: START,
     };
     let classes = load();
@@ -412,11 +528,14 @@ fn show(gm_type: u8) {
     fill_frames(gm_type, &mut input, &mut reference);
     replay::fill_identity(&mut prior);
     replay::fill_identity(&mut models);
-    print_count(b"type ", gm_type as usize);
+    print(b"a belt of ");
+    print_type(gm_type);
+    print(b"\n");
     run(gm_type, &input, &reference, &prior, &models);
 }
 
 fn main() {
+    show(IDENTITY);
     show(TRANSLATION);
     show(ROTZOOM);
     show(AFFINE);

@@ -1,5 +1,5 @@
-// The job (docs/RULES.md, 'Job'): search, sample words, fit for the type asked for, grid, score, then the
-// blocks and the header with the model at its reference. In go a frame pair, the settings, a class for
+// The job (docs/RULES.md, 'Job'): search, sample words, fit for the type asked for or election, grid,
+// score, then the blocks and the header with the model at its reference. In go a frame pair, the settings, a class for
 // each sample, the six other types and models, and the prior; lent are two half planes, words, blocks
 // and header. It calls the public calls alone; its rows are in the crate `job_task`.
 use job_model::Modelled;

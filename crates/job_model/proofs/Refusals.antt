@@ -1,22 +1,27 @@
--- What refuses a job's model: 6, and of a job that trims 16 too. Unless the model is refused, its last fit isn't.
+-- What refuses a job's model: 6, and of a job that trims 16 too; of a job that elects 16 alone. Unless the model is refused, its last fit isn't.
 -- Assumes nothing.
-use Prim.Native.Nat.{ℕ, zero, suc}
+use Prim.Native.Nat.{ℕ, zero, suc, _≤_}
 use mathlib.Core.Bool.{Bool, true, false, not}
 use mathlib.Core.List.{List, [], _∷_}
 use mathlib.Core.Logic.{_⊎_, inl, inr, ⊎-elim}
-use mathlib.Core.Path.{_≡_, refl}
-use lib.Ieee.{Float}
+use mathlib.Core.Path.{_≡_, refl, sym, ap, _∙_}
+use lib.Dec.{eqb}
 use Rattle.laws.specs.Refusal.{row, judge, orElse, choose}
+use Rattle.laws.proofs.Cases.{outcome}
 use Rattle.laws.proofs.Refusal.{or-else-quiet}
 use Rattle.sample.specs.Sample.{sampleOf}
 use Rattle.median.specs.Median.{allFinite}
-use Rattle.fit.specs.Fitted.{fitOf, refusalOf}
+use Rattle.fit.specs.Fitted.{fitOf, refusalOf, typeOf}
 use Rattle.trim.specs.Trim.{firstFrom, residualsFrom, residualRefusal, usedFrom, lastFrom, trimRefusal}
 use Rattle.job_task.specs.declared.Settings.{Settings}
-use Rattle.job_task.specs.Rows.{trims}
+use Rattle.job_task.specs.Rows.{elects}
 use Rattle.job_task.specs.Inner.{InRange}
-use Rattle.job_model.specs.Modelled.{ownType, fitWords, fitIn, modelRefusal}
-use Rattle.job_model.proofs.FitOfType.{refusal-or-six}
+use Rattle.elect.specs.declared.Elected.{Elected}
+use Rattle.elect.specs.Elect.{stopped}
+use Rattle.elect.proofs.Held.{winner-numbered}
+use Rattle.job_model.specs.Modelled.{winner, ownType, fitWords, fitIn, modelRefusal}
+use Rattle.job_model.proofs.FitOfType.{refusal-or-six, type-asked-for}
+use Rattle.job_model.proofs.OwnType.{refusal-elected, last-type, elected-accepted}
 
 -- none, 6 or 16
 abbrev pub Late : ℕ → Type 0
@@ -38,25 +43,38 @@ of-either true m n p q = p
 of-either false m n p q = q
 
 module _ (s : Settings) (ws : List ℕ) where
+  -- ---- a job that elects
+
+  sixteen-alone : (winner s ws .refusal ≡ 0) ⊎ (winner s ws .refusal ≡ 16)
+  sixteen-alone =
+      ⊎-elim
+      (λ (z : winner s ws .refusal ≡ 0). inl z)
+      (λ (z : winner s ws ≡ stopped 16). inr (ap (λ (w : Elected). w .refusal) z))
+      (winner-numbered sampleOf (s .flag) ws)
+
+  -- 16 alone
+  pub electing-refusals : elects s ≡ true → (modelRefusal s ws ≡ 0) ⊎ (modelRefusal s ws ≡ 16)
+  electing-refusals e = rw (refusal-elected s ws e) sixteen-alone
+
+  -- ---- the type asked for
+
   abbrev kind : ℕ
   kind = s .«gm_type»
 
   abbrev used : List ℕ
   used = usedFrom sampleOf kind ws
 
-  module _ (r : InRange s) where
+  module _ (least : 1 ≤ kind) (most : kind ≤ 3) where
     of-trimming : Late (trimRefusal sampleOf kind ws)
     unfolding trimRefusal
     of-trimming =
-        or-else-late (refusalOf (firstFrom sampleOf kind ws)) _ (of-a-fit _ (refusal-or-six kind ws (r .some-type) (r .last-type)))
+        or-else-late (refusalOf (firstFrom sampleOf kind ws)) _ (of-a-fit _ (refusal-or-six kind ws least most))
         (or-else-late (residualRefusal (residualsFrom sampleOf (firstFrom sampleOf kind ws) ws)) (refusalOf (lastFrom sampleOf kind ws))
         (of-a-residual (not (allFinite (residualsFrom sampleOf (firstFrom sampleOf kind ws) ws))))
-        (of-a-fit _ (refusal-or-six kind used (r .some-type) (r .last-type))))
+        (of-a-fit _ (refusal-or-six kind used least most)))
 
-    pub model-refusals : Late (modelRefusal s ws)
-    model-refusals =
-        of-either (trims s) (trimRefusal sampleOf kind ws) (refusalOf (fitIn s ws)) of-trimming
-        (of-a-fit _ (refusal-or-six (ownType s ws) (fitWords s ws) (r .some-type) (r .last-type)))
+    of-asking : (b : Bool) → Late (choose b (trimRefusal sampleOf kind ws) (refusalOf (fitOf kind (choose b used ws))))
+    of-asking b = of-either b (trimRefusal sampleOf kind ws) _ of-trimming (of-a-fit _ (refusal-or-six kind (choose b used ws) least most))
 
   last-accepted : trimRefusal sampleOf kind ws ≡ 0 → refusalOf (lastFrom sampleOf kind ws) ≡ 0
   unfolding trimRefusal
@@ -66,5 +84,31 @@ module _ (s : Settings) (ws : List ℕ) where
   either-accepted true e = last-accepted e
   either-accepted false e = e
 
-  pub fit-accepted : modelRefusal s ws ≡ 0 → refusalOf (fitIn s ws) ≡ 0
-  fit-accepted e = either-accepted (trims s) e
+  module _ (a : elects s ≡ false) where
+    asked-refusal : modelRefusal s ws ≡ choose (eqb (s .trim) 1) (trimRefusal sampleOf kind ws) (refusalOf (fitOf kind (choose (eqb (s .trim) 1) used ws)))
+    asked-refusal = rw a
+
+    asked-fit : fitIn s ws ≡ fitOf kind (choose (eqb (s .trim) 1) used ws)
+    asked-fit = rw a
+
+    asked-accepted : modelRefusal s ws ≡ 0 → refusalOf (fitIn s ws) ≡ 0
+    asked-accepted z = ap refusalOf asked-fit ∙ either-accepted (eqb (s .trim) 1) (sym asked-refusal ∙ z)
+
+  -- ---- any job
+
+  module _ (r : InRange s) where
+    pub model-refusals : Late (modelRefusal s ws)
+    model-refusals =
+        ⊎-elim
+        (λ (e : elects s ≡ true). ⊎-elim (λ (z : modelRefusal s ws ≡ 0). inl z) (λ (z : modelRefusal s ws ≡ 16). inr (inr z)) (electing-refusals e))
+        (λ (a : elects s ≡ false). rw (asked-refusal a) (of-asking (r .some-type a) (r .last-type a) (eqb (s .trim) 1)))
+        (outcome (elects s))
+
+    module _ (z : modelRefusal s ws ≡ 0) (some : 1 ≤ ownType s ws) where
+      pub fit-accepted : refusalOf (fitIn s ws) ≡ 0
+      fit-accepted =
+          ⊎-elim (λ (e : elects s ≡ true). elected-accepted s ws r z some e) (λ (a : elects s ≡ false). asked-accepted a z) (outcome (elects s))
+
+      -- and it is of the job's own type
+      pub fit-type : typeOf (fitIn s ws) ≡ ownType s ws
+      fit-type = type-asked-for (ownType s ws) (fitWords s ws) some (last-type s ws r z) fit-accepted

@@ -1,35 +1,47 @@
--- The model of a job: fitted, after trimming where the job trims, on the grid, scored, and among the six others at its reference. docs/RULES.md, 'Job'.
+-- The model of a job: of the type asked for or elected, fitted, after trimming where the job trims, on the grid, scored, and among the six others at its reference. docs/RULES.md, 'Job'.
 -- Assumes nothing.
 use Prim.Native.Nat.{ℕ}
+use mathlib.Core.Bool.{Bool}
 use mathlib.Core.List.{List}
+use lib.Dec.{eqb}
 use lib.IntN.{ℤ, pos}
 use lib.ListN.{replicate}
 use lib.Ieee.{Float}
 use Rattle.laws.specs.Binary64.{nought}
 use Rattle.laws.specs.Call.{answered}
-use Rattle.laws.specs.Refusal.{choose}
+use Rattle.laws.specs.Refusal.{choose, both}
 use Rattle.sample.specs.Sample.{sampleOf}
 use Rattle.fit.specs.declared.Fitted.{Fitted}
 use Rattle.fit.specs.Fitted.{fitOf, refusalOf}
 use Rattle.score.specs.Score.{meanSqResidual}
 use Rattle.quantize.specs.Quantize.{params, rowFirst}
 use Rattle.trim.specs.Trim.{usedFrom, trimRefusal}
+use Rattle.elect.specs.declared.Elected.{Elected}
+use Rattle.elect.specs.Elect.{identityParams, winnerFrom}
 use Rattle.job_task.specs.declared.Settings.{Settings}
-use Rattle.job_task.specs.Rows.{trims}
+use Rattle.job_task.specs.Rows.{elects, trims}
 use Rattle.job_model.specs.declared.Modelled.{Modelled}
 use Rattle.job_model.specs.Assemble.{typesWith, modelsWith}
 
 -- ---- what of a job's settings and of the search's words the model takes
 
--- the type: the one asked for
+-- the winner of an election among all words
+abbrev pub winner : Settings → List ℕ → Elected
+winner s ws = winnerFrom sampleOf (s .flag) ws
+
+-- the type: the elected one where the job elects, otherwise the one asked for
 abbrev pub ownType : Settings → List ℕ → ℕ
-ownType s ws = s .«gm_type»
+ownType s ws = choose (elects s) (winner s ws .«gm_type») (s .«gm_type»)
+
+-- nobody wins: the job's model is IDENTITY, and no number of it is fitted to the grid
+abbrev pub noneElected : Settings → List ℕ → Bool
+noneElected s ws = both (elects s) (eqb (winner s ws .«gm_type») 0)
 
 -- the words of the fit, and of the translation's second fit on the grid: those of the last fit made where the job trims, otherwise all of them
 abbrev pub fitWords : Settings → List ℕ → List ℕ
-fitWords s ws = choose (trims s) (usedFrom sampleOf (s .«gm_type») ws) ws
+fitWords s ws = choose (trims s) (usedFrom sampleOf (ownType s ws) ws) ws
 
--- the words of the score: all of them, whether the job trims or not
+-- the words of the score: all of them, whether the job elects or trims or not
 abbrev pub scoreWords : Settings → List ℕ → List ℕ
 scoreWords s ws = ws
 
@@ -38,13 +50,13 @@ scoreWords s ws = ws
 abbrev pub fitIn : Settings → List ℕ → Fitted
 fitIn s ws = fitOf (ownType s ws) (fitWords s ws)
 
--- what it is refused for, 0 for nothing: an elimination refuses; of a job that trims also a residual that isn't finite
+-- what it is refused for, 0 for nothing: an elimination refuses; of a job that trims also a residual that isn't finite; of a job that elects what the election is refused for
 abbrev pub modelRefusal : Settings → List ℕ → ℕ
-modelRefusal s ws = choose (trims s) (trimRefusal sampleOf (s .«gm_type») ws) (refusalOf (fitIn s ws))
+modelRefusal s ws = choose (elects s) (winner s ws .refusal) (choose (trims s) (trimRefusal sampleOf (s .«gm_type») ws) (refusalOf (fitIn s ws)))
 
 -- on the grid, x first, and as it is stored
 abbrev pub own : Settings → List ℕ → List ℤ
-own s ws = params (fitIn s ws) (s .flag) (fitWords s ws)
+own s ws = choose (noneElected s ws) identityParams (params (fitIn s ws) (s .flag) (fitWords s ws))
 
 abbrev pub stored : Settings → List ℕ → List ℤ
 stored s ws = rowFirst (ownType s ws) (own s ws)

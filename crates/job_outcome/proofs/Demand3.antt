@@ -1,14 +1,17 @@
 -- Demand 3 holds of every accepted job: blocks and header read back as what the search and the fit gave; and what attaches it to a job's contract.
 -- Assumes nothing.
-use Prim.Native.Nat.{ℕ, _*_}
+use Prim.Native.Nat.{ℕ, _*_, _≤_, _<_}
 use mathlib.Core.List.{List}
+use mathlib.Core.Logic.{_⊎_, inl, inr, ⊎-elim}
 use mathlib.Core.Path.{_≡_, refl, sym, ap, _∙_, subst}
+use native.Mathlib.Omega.{arith}
 use lib.IntN.{ℤ}
 use lib.ListN.{length, take, drop}
 use Rattle.header.specs.Reading.{ReadModels}
 use Rattle.header_read.proofs.Count.{counted}
 use Rattle.score.specs.Score.{slot}
-use Rattle.quantize.specs.Quantize.{rowFirst}
+use Rattle.fit.specs.Fitted.{typeOf}
+use Rattle.quantize.specs.Quantize.{params, rowFirst}
 use Rattle.quantize.specs.OnGrid.{gridNumberAt, NearestAt}
 use Rattle.quantize.proofs.NearestSlots.{quantized-nearest}
 use Rattle.job_model.specs.Modelled.{own, stored}
@@ -21,7 +24,7 @@ use Rattle.job_outcome.specs.Done.{Done}
 use Rattle.job_outcome.proofs.Stages.{ends-accepted, accepted-stages}
 use Rattle.job_outcome.proofs.Blocks.{blocks-read}
 use Rattle.job_outcome.proofs.Seven.{type-own, type-other, number-other}
-use Rattle.job_outcome.proofs.Written.{place-le, type-is, some-model, stored-six, own-back, header-back, bits-end}
+use Rattle.job_outcome.proofs.Written.{place-le, type-is, some-model, as-identity, as-fitted, stored-six, own-back, header-back, bits-end}
 
 module _ (j : Task) (l : Lent) (r : Ready j l) (fits : late j ≡ 0) where
   abbrev s : Sound j
@@ -56,14 +59,25 @@ module _ (j : Task) (l : Lent) (r : Ready j l) (fits : late j ≡ 0) where
         other-types = λ k h. rw back (type-other (ownPlace j) (ownType j) (j .types) (s .six) p k h);
         other-models = λ k i h m. rw back (number-other (ownPlace j) (stored (j .settings) (words j)) (j .models) (stored-six j s fits) (s .numbers) p k i h m);
         own-type = rw back (type-own (ownPlace j) (ownType j) (j .types) (s .six) p);
-        own-model = own-read;
+        own-model = λ some. own-read ∙ as-fitted j s fits some;
+        own-identity = λ none. own-read ∙ as-identity j s fits none;
       }
 
+  module _ (some : 1 ≤ ownType j) (i : ℕ) (h : i < 6) where
+    nearest-fitted : (i < 2) ⊎ (2 ≤ typeOf (fitIn j)) → NearestAt (ownType j) flag i (gridNumberAt (fitIn j) flag (fitWords j) i) (slot (params (fitIn j) flag (fitWords j)) i)
+    nearest-fitted g =
+        subst (λ (k : ℕ). NearestAt k flag i (gridNumberAt (fitIn j) flag (fitWords j) i) (slot (params (fitIn j) flag (fitWords j)) i)) (type-is j s fits some)
+        (quantized-nearest (fitIn j) flag (fitWords j) i (some-model j s fits some) (h, g))
+
+  -- none of IDENTITY, two of a TRANSLATION, six of the others
   nearest-read : NearestRead j o
   nearest-read i h g =
-      rw (own-read, words-back)
-      (subst (λ (k : ℕ). NearestAt k flag i (gridNumberAt (fitIn j) flag (fitWords j) i) (slot fitted i)) (type-is j s fits)
-      (quantized-nearest (fitIn j) flag (fitWords j) i (some-model j s fits) (h, (rw (type-is j s fits) g))))
+      ⊎-elim
+      (λ (p : (1 ≤ ownType j) × (i < 2)). rw (own-read ∙ as-fitted j s fits (p .0), words-back) (nearest-fitted (p .0) i h (inl (p .1))))
+      (λ (p : 2 ≤ ownType j).
+      let some : 1 ≤ ownType j = omega (arith, p) in
+      rw (own-read ∙ as-fitted j s fits some, words-back) (nearest-fitted some i h (inr (rw (type-is j s fits some) p))))
+      g
 
   count-read : CountRead j o
   count-read =

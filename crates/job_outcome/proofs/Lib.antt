@@ -2,11 +2,12 @@ pub mod Stages
 pub mod Samples
 pub mod Alone
 pub mod Blocks
-pub mod OwnModel
 pub mod Seven
 pub mod Written
 pub mod Refused
 pub mod Six
 pub mod Demand3
 pub mod HeaderRead
+pub mod Asked
 pub mod Untrimmed
+pub mod Electing

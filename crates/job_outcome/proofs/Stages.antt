@@ -14,7 +14,7 @@ use Rattle.laws.proofs.Refusal.{or-else-refused, or-else-none, or-else-quiet}
 use Rattle.laws.proofs.Cases.{eq-or-ne}
 use Rattle.frame_number.specs.Shutter.{closed, shutterClosed, closedRefusal}
 use Rattle.job_task.specs.Task.{Task, Lent, sizesOf}
-use Rattle.job_task.specs.Rows.{sizeRows, codeRows, modelRows, roomRows, refusalBefore, early}
+use Rattle.job_task.specs.Rows.{elects, tooLittle, sizeRows, codeRows, modelRows, roomRows, refusalBefore, early}
 use Rattle.job_outcome.specs.Outcome.{Ended, ended, late, refusal, refused, accepted, leftBySearch, leftByJob, outcome}
 
 -- ---- the three ends
@@ -97,12 +97,15 @@ module _ (j : Task) (l : Lent) where
   abbrev shutter : List Row
   shutter = row shutterClosed (closed (j .settings .frame)) ∷ []
 
-  early-never : (k : ℕ) → 0 < k → T (without k sizes) → T (without k codes) → T (without k handed) → T (without k room) → T (without k shutter) → early j l ≡ k → ⊥
+  early-never-by : (k : ℕ) → 0 < k → T (without k sizes) → T (without k codes) → T (without k handed) → (judge room ≡ k → ⊥) → T (without k shutter) → early j l ≡ k → ⊥
   unfolding refusalBefore closedRefusal
-  early-never k h a b c d f e =
+  early-never-by k h a b c d f e =
       or-else-never (judge sizes) _ k (judge-never k sizes a h)
       (or-else-never (judge codes) _ k (judge-never k codes b h) (or-else-never (judge handed) _ k (judge-never k handed c h)
-      (or-else-never (judge room) (judge shutter) k (judge-never k room d h) (judge-never k shutter f h)))) e
+      (or-else-never (judge room) (judge shutter) k d (judge-never k shutter f h)))) e
+
+  early-never : (k : ℕ) → 0 < k → T (without k sizes) → T (without k codes) → T (without k handed) → T (without k room) → T (without k shutter) → early j l ≡ k → ⊥
+  early-never k h a b c d f e = early-never-by k h a b c (judge-never k room d h) f e
 
   pub early-never-six : early j l ≡ 6 → ⊥
   early-never-six = early-never 6 (omega arith) tt tt tt tt tt
@@ -112,6 +115,17 @@ module _ (j : Task) (l : Lent) where
 
   pub early-never-sixteen : early j l ≡ 16 → ⊥
   early-never-sixteen = early-never 16 (omega arith) tt tt tt tt tt
+
+  -- a job that elects has no row 15
+  pub electing-never-fifteen : elects (j .settings) ≡ true → early j l ≡ 15 → ⊥
+  electing-never-fifteen e = early-never-by 15 (omega arith) tt tt tt (λ q. three-alone (tooLittle (sizesOf j l)) (sym (room-is e) ∙ q)) tt
+    where
+      three-alone : (b : Bool) → _≡_ {A = ℕ} (choose b 3 0) 15 → ⊥
+      three-alone true q = omega (arith, q)
+      three-alone false q = omega (arith, q)
+
+      room-is : elects (j .settings) ≡ true → _≡_ {A = ℕ} (judge room) (choose (tooLittle (sizesOf j l)) 3 0)
+      room-is e = rw e
 
   -- a number that no early row has is the second stage's
   pub refused-in-second : (k : ℕ) → (early j l ≡ k → ⊥) → refusal j l ≡ k → (early j l ≡ 0) × (late j ≡ k)

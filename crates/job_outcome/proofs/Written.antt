@@ -1,30 +1,35 @@
--- A job's seven models can be written from its start on, in 125 bytes, and are read back there: the six others pass row 7, and the fitted one is on the grid.
+-- A job's seven models can be written from its start on, in 125 bytes, and are read back there: the six others pass row 7, and its own is on the grid, or the identity.
 -- Assumes nothing.
 use Prim.Native.Nat.{ℕ, _+_, _*_, _-_, _≤_}
-use mathlib.Core.Bool.{false}
+use mathlib.Core.Bool.{true, false}
 use mathlib.Core.List.{List}
-use mathlib.Core.Path.{_≡_, ap, _∙_, subst}
+use mathlib.Core.Logic.{⊎-elim}
+use mathlib.Core.Path.{_≡_, sym, ap, _∙_, subst}
 use native.Mathlib.Omega.{arith}
 use lib.IntN.{ℤ}
 use lib.ListN.{length, take, drop}
+use Rattle.laws.proofs.Cases.{outcome, eq-or-ne}
 use Rattle.bits.proofs.Buffer.{length-putBits}
 use Rattle.models.specs.Models.{modelWrong}
 use Rattle.header.specs.Reading.{modelsRead}
 use Rattle.header.specs.Writing.{bitsPlaced, bytesFor, writeRefusal, written, headerAfter}
 use Rattle.header.proofs.Accepted.{not-refused, answer-written, bytes-written}
 use Rattle.header.proofs.RoundTrip.{Writable, round-trip, at-most-125-bytes}
+use Rattle.sample.specs.Sample.{sampleOf}
 use Rattle.fit.specs.Fitted.{typeOf}
-use Rattle.quantize.specs.Quantize.{rowFirst}
+use Rattle.quantize.specs.Quantize.{params, rowFirst}
 use Rattle.quantize.proofs.Accepted.{row-first-twice}
 use Rattle.quantize.proofs.OnGrid.{OnGrid, quantized-on-grid}
-use Rattle.job_model.specs.Modelled.{own, stored}
-use Rattle.job_model.proofs.FitOfType.{type-asked-for}
-use Rattle.job_model.proofs.Refusals.{fit-accepted}
+use Rattle.elect.specs.Elect.{identityParams}
+use Rattle.elect.proofs.OwnModel.{own-right}
+use Rattle.elect.proofs.Codable.{winner-codable}
+use Rattle.job_model.specs.Modelled.{winner, own, stored}
+use Rattle.job_model.proofs.OwnType as own-type
+use Rattle.job_model.proofs.Refusals.{fit-type}
 use Rattle.job_task.specs.Task.{Task}
-use Rattle.job_task.specs.Rows.{headerBytes}
+use Rattle.job_task.specs.Rows.{headerBytes, elects}
 use Rattle.job_task.proofs.Ready.{Sound}
 use Rattle.job_outcome.specs.Outcome.{words, ownType, fitWords, types, models, bits, fitIn, late}
-use Rattle.job_outcome.proofs.OwnModel.{own-right}
 use Rattle.job_outcome.proofs.Seven.{seven-types, types-known, all-numbers, own-six, models-right, row-first-length}
 
 module _ (j : Task) (s : Sound j) (fits : late j ≡ 0) where
@@ -40,7 +45,7 @@ module _ (j : Task) (s : Sound j) (fits : late j ≡ 0) where
   abbrev place : ℕ
   place = j .settings .reference - 1
 
-  -- the fitted model on the grid, x first, and as it is stored
+  -- the job's own model on the grid, x first, and as it is stored
   abbrev fitted : List ℤ
   fitted = own (j .settings) (words j)
 
@@ -50,21 +55,54 @@ module _ (j : Task) (s : Sound j) (fits : late j ≡ 0) where
   pub place-le : place ≤ 6
   place-le = omega (arith, s .range .some-reference, s .range .last-reference)
 
-  pub type-is : typeOf (fitIn j) ≡ kind
-  type-is = type-asked-for kind (fitWords j) (s .range .some-type) (s .range .last-type) (fit-accepted (j .settings) (words j) fits)
+  last-type : kind ≤ 3
+  last-type = own-type.last-type (j .settings) (words j) (s .range) fits
 
-  pub some-model : typeOf (fitIn j) ≡ 0 → ⊥
-  some-model e = omega (arith, type-is, s .range .some-type)
+  -- IDENTITY
+  pub as-identity : kind ≡ 0 → fitted ≡ identityParams
+  as-identity = own-type.as-identity (j .settings) (words j) (s .range) fits
 
-  on-grid : OnGrid kind flag fitted
-  on-grid = subst (λ (k : ℕ). OnGrid k flag fitted) type-is (quantized-on-grid (fitIn j) flag (fitWords j) some-model)
+  -- a fitted model
+  module _ (some : 1 ≤ kind) where
+    pub type-is : typeOf (fitIn j) ≡ kind
+    type-is = fit-type (j .settings) (words j) (s .range) fits some
+
+    pub some-model : typeOf (fitIn j) ≡ 0 → ⊥
+    some-model e = omega (arith, type-is, some)
+
+    pub as-fitted : fitted ≡ params (fitIn j) flag (fitWords j)
+    as-fitted = own-type.as-fitted (j .settings) (words j) (s .range) fits some
+
+    on-grid : OnGrid kind flag fitted
+    on-grid =
+        subst (λ (p : List ℤ). OnGrid kind flag p) (sym as-fitted)
+        (subst (λ (k : ℕ). OnGrid k flag (params (fitIn j) flag (fitWords j))) type-is (quantized-on-grid (fitIn j) flag (fitWords j) some-model))
+
+  six : length fitted ≡ 6
+  six = ⊎-elim (λ (n : kind ≡ 0). ap length (as-identity n)) (λ (h : kind ≡ 0 → ⊥). on-grid (omega (arith, h)) .six) (eq-or-ne kind 0)
 
   pub stored-six : length kept ≡ 6
-  stored-six = row-first-length kind fitted ∙ on-grid .six
+  stored-six = row-first-length kind fitted ∙ six
 
-  -- row 7 never holds of the fitted model
+  -- ---- row 7 never holds of the job's own model
+
+  elected-right : elects (j .settings) ≡ true → modelWrong kind flag kept 0 ≡ false
+  elected-right e =
+      let w = winner (j .settings) (words j) in
+      let z = sym (own-type.refusal-elected (j .settings) (words j) e) ∙ fits in
+      ap (λ (k : ℕ). modelWrong k flag (rowFirst k fitted) 0) (own-type.elected-type (j .settings) (words j) e z)
+      ∙ ap (λ (p : List ℤ). modelWrong (w .«gm_type») flag (rowFirst (w .«gm_type») p) 0) (own-type.elected-own (j .settings) (words j) e z)
+      ∙ winner-codable sampleOf flag (words j) z
+
+  asked-right : elects (j .settings) ≡ false → modelWrong kind flag kept 0 ≡ false
+  asked-right a =
+      let t = own-type.type-asked (j .settings) (words j) a in
+      let some : 1 ≤ kind = omega (arith, t, s .range .some-type a) in
+      own-right kind flag some last-type fitted (on-grid some)
+
   pub fitted-right : modelWrong kind flag kept 0 ≡ false
-  fitted-right = own-right kind flag (s .range .some-type) (s .range .last-type) fitted on-grid
+  fitted-right =
+      ⊎-elim (λ (e : elects (j .settings) ≡ true). elected-right e) (λ (a : elects (j .settings) ≡ false). asked-right a) (outcome (elects (j .settings)))
 
   -- nor of the seven
   pub writable : Writable (types j) (models j) flag (j .prior)
@@ -73,7 +111,7 @@ module _ (j : Task) (s : Sound j) (fits : late j ≡ 0) where
         seven = seven-types place kind (j .types) (s .six) place-le;
         models = all-numbers place kept (j .models) stored-six (s .numbers) place-le;
         priors = s .places;
-        known = types-known place kind (j .types) (s .six) place-le (s .known) (s .range .last-type);
+        known = types-known place kind (j .types) (s .six) place-le (s .known) last-type;
         right = models-right place kind flag (j .types) kept (j .models) (s .six) stored-six (s .numbers) place-le (s .right) fitted-right;
         within = s .within;
       }
@@ -82,7 +120,7 @@ module _ (j : Task) (s : Sound j) (fits : late j ≡ 0) where
   pub own-back : rowFirst kind (take 6 (drop (6 * place) (models j))) ≡ fitted
   own-back =
       ap (rowFirst kind) (own-six place kept (j .models) stored-six (s .numbers) place-le)
-      ∙ row-first-twice kind fitted (omega (arith, on-grid .six))
+      ∙ row-first-twice kind fitted (omega (arith, six))
 
   module _ (old : List ℕ) (room : headerBytes ≤ length old) where
     room-enough : bytesFor start (length (bits j)) ≤ length old

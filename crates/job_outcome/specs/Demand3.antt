@@ -29,6 +29,7 @@ use Rattle.header.specs.Writing.{typeBits}
 use Rattle.score.specs.Score.{meanSqResidual, slot}
 use Rattle.quantize.specs.Quantize.{params, rowFirst}
 use Rattle.quantize.specs.OnGrid.{gridNumberAt, NearestAt}
+use Rattle.elect.specs.Elect.{identityParams}
 use Rattle.job_task.specs.Task.{Task}
 use Rattle.job_model.specs.Modelled as model
 use Rattle.job_outcome.specs.Outcome.{Ended, samples, words, ownType, fitIn, fitWords}
@@ -106,11 +107,12 @@ pub record HeaderRead (j : Task) (o : Ended) : Type 0 where
   -- the six others are those handed in
   pub other-types : (k : ℕ) → k < 6 → getD (headerRead j o .types) (otherPlace j k) 0 ≡ getD (j .types) k 0
   pub other-models : (k i : ℕ) → k < 6 → i < 6 → getD (headerRead j o .params) (6 * otherPlace j k + i) (pos 0) ≡ getD (j .models) (6 * k + i) (pos 0)
-  -- at the job's reference stand its own type and the fitted model
+  -- at the job's reference stand its own type, asked for or elected, and the fitted model, or the identity where that is type 0
   pub own-type : getD (headerRead j o .types) (ownPlace j) 0 ≡ ownType j
-  pub own-model : ownRead j o ≡ params (fitIn j) (j .settings .flag) (fitWords j)
+  pub own-model : 1 ≤ ownType j → ownRead j o ≡ params (fitIn j) (j .settings .flag) (fitWords j)
+  pub own-identity : ownType j ≡ 0 → ownRead j o ≡ identityParams
 
--- ---- the grid: each grid number of the fit, two of a TRANSLATION and six of the other types, against its own slot's codable numbers
+-- ---- the grid: each grid number of the fit, none of IDENTITY, two of a TRANSLATION and six of the other types, against its own slot's codable numbers
 
 -- grid number i of the fit, over the words of the fit among those read
 abbrev pub numberRead : Task → Ended → ℕ → ℤ
@@ -118,7 +120,7 @@ numberRead j o i = gridNumberAt (fitIn j) (j .settings .flag) (model.fitWords (j
 
 abbrev pub NearestRead : Task → Ended → Type 0
 NearestRead j o =
-    (i : ℕ) → i < 6 → (i < 2) ⊎ (2 ≤ ownType j) → NearestAt (ownType j) (j .settings .flag) i (numberRead j o i) (slot (ownRead j o) i)
+    (i : ℕ) → i < 6 → ((1 ≤ ownType j) × (i < 2)) ⊎ (2 ≤ ownType j) → NearestAt (ownType j) (j .settings .flag) i (numberRead j o i) (slot (ownRead j o) i)
 
 -- ---- the count
 

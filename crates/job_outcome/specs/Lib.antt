@@ -1,4 +1,5 @@
 pub mod Outcome
 pub mod Demand3
 pub mod Done
+pub mod Asked
 pub mod Untrimmed

@@ -1,4 +1,4 @@
--- How a job that doesn't trim ends, said without trimming: its rows, its fit of all words, its report and what it leaves. The law is `as-untrimmed` of proofs/Untrimmed.
+-- How a job that neither elects nor trims ends, said without electing and trimming: its rows, its fit of all words, its report and what it leaves. The law is `as-untrimmed` of proofs/Untrimmed.
 -- Assumes nothing.
 use Prim.Native.Nat.{ℕ}
 use mathlib.Core.Bool.{Bool}
@@ -21,7 +21,7 @@ use Rattle.job_model.specs.Assemble.{typesWith, modelsWith}
 use Rattle.job_outcome.specs.declared.Report.{Report}
 use Rattle.job_outcome.specs.Outcome.{Ended, ended, samples, words, refused, leftWith, leftBySearch, blocksBy}
 
--- ---- the rows: 4 without the trim code, and no 15
+-- ---- the rows: 4 without the codes of trimming and electing, and no 15
 
 abbrev pub codes : Task → Bool
 codes j =

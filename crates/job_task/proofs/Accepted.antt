@@ -1,15 +1,15 @@
 -- What an answer of 0 says of a job: each group of rows is quiet, and a quiet row is a fact.
 -- Assumes nothing.
-use Prim.Native.Nat.{ℕ, _*_}
-use mathlib.Core.Bool.{false, not}
+use Prim.Native.Nat.{ℕ, _*_, _≤_}
+use mathlib.Core.Bool.{Bool, false, not}
 use mathlib.Core.List.{List}
-use mathlib.Core.Path.{_≡_}
+use mathlib.Core.Path.{_≡_, sym, ap, _∙_}
 use native.Mathlib.Omega.{arith}
 use borrow.Author.Tests.{ltb-false, eqb-false}
 use lib.Dec.{ltb, eqb}
 use lib.IntN.{ℤ}
 use lib.ListN.{length}
-use Rattle.laws.specs.Refusal.{judge, either}
+use Rattle.laws.specs.Refusal.{judge, choose}
 use Rattle.laws.proofs.Refusal.{neither, length-is, quiet, or-else-quiet}
 use Rattle.plane.specs.Inner.{Small}
 use Rattle.class.specs.Class.{lastClass, classOver}
@@ -25,7 +25,7 @@ use Rattle.frame_number.proofs.InUse.{in-use}
 use Rattle.job_task.specs.declared.Settings.{Settings}
 use Rattle.job_task.specs.declared.Sizes.{Sizes}
 use Rattle.job_task.specs.Task.{Task, Lent, sizesOf, searchTask, searchLent}
-use Rattle.job_task.specs.Rows.{otherTypes, otherNumbers, priorNumbers, headerBytes, sizeRows, codeRows, modelRows, roomRows, refusalBefore, early}
+use Rattle.job_task.specs.Rows.{otherTypes, otherNumbers, priorNumbers, headerBytes, elects, unlessElects, sizeRows, codeRows, modelRows, roomRows, refusalBefore, early}
 use Rattle.job_task.specs.Inner.{InRange}
 use Rattle.job_task.proofs.Ready.{Ready}
 
@@ -87,27 +87,41 @@ pub record Codes (s : Settings) (classes types : List ℕ) : Type 0 where
   pub known : typesOver types ≡ false
   pub range : InRange s
 
+-- of a job that doesn't elect
+unless-elects : (s : Settings) (b : Bool) → elects s ≡ false → unlessElects s b ≡ b
+unless-elects s b a = ap (λ (e : Bool). choose e false b) a
+
+record Asked (s : Settings) : Type 0 where
+  some : 1 ≤ s .«gm_type»
+  last : s .«gm_type» ≤ 3
+
+asked : (s : Settings) → elects s ≡ false → unlessElects s (noType (s .«gm_type»)) ≡ false → Asked s
+asked s a e =
+    let q = neither (eqb (s .«gm_type») 0) (ltb 3 (s .«gm_type»)) (sym (unless-elects s (noType (s .«gm_type»)) a) ∙ e) in
+    let some : s .«gm_type» ≡ 0 → ⊥ = eqb-false (s .«gm_type») 0 (q .0) in
+    record { some = omega arith; last = ltb-false 3 (s .«gm_type») (q .1) }
+
 codes : (s : Settings) (classes types : List ℕ) → judge (codeRows s classes types) ≡ 0 → Codes s classes types
 codes s classes types e =
     let q = quiet (codeRows s classes types) tt e in
     let four = neither (classOver lastClass classes) _ (q .0) in
-    let kind = neither (noType (s .«gm_type»)) _ (four .1) in
-    let over = neither (typesOver types) (either (ltb 1 (s .flag)) (ltb 1 (s .trim))) (kind .1) in
-    let flags = neither (ltb 1 (s .flag)) (ltb 1 (s .trim)) (over .1) in
-    let asked = neither (eqb (s .«gm_type») 0) (ltb 3 (s .«gm_type»)) (kind .0) in
-    let some : s .«gm_type» ≡ 0 → ⊥ = eqb-false (s .«gm_type») 0 (asked .0) in
+    let kind = neither (unlessElects s (noType (s .«gm_type»))) _ (four .1) in
+    let over = neither (typesOver types) _ (kind .1) in
+    let flags = neither (ltb 1 (s .flag)) _ (over .1) in
+    let codes = neither (unlessElects s (ltb 1 (s .trim))) (ltb 1 (s .elect)) (flags .1) in
     let five = neither (eqb (s .reference) 0) (ltb 7 (s .reference)) (q .1 .0) in
     let one : s .reference ≡ 0 → ⊥ = eqb-false (s .reference) 0 (five .0) in
     record {
       classed = four .0;
       known = over .0;
       range = record {
-        some-type = omega arith;
-        last-type = ltb-false 3 (s .«gm_type») (asked .1);
+        some-type = λ a. asked s a (kind .0) .some;
+        last-type = λ a. asked s a (kind .0) .last;
         some-reference = omega arith;
         last-reference = ltb-false 7 (s .reference) (five .1);
         flagged = ltb-false 1 (s .flag) (flags .0);
-        trimming = ltb-false 1 (s .trim) (flags .1);
+        trimming = λ a. ltb-false 1 (s .trim) (sym (unless-elects s (ltb 1 (s .trim)) a) ∙ codes .0);
+        electing = ltb-false 1 (s .elect) (codes .1);
         low = omega (arith, ltb-false 7 (s .start) (q .1 .1 .0));
       };
     }

@@ -1,14 +1,18 @@
 -- What the functions below the public calls ask and answer; no public contract cites it.
 -- Assumes nothing.
 use Prim.Native.Nat.{_≤_, _<_}
+use mathlib.Core.Bool.{false}
+use mathlib.Core.Path.{_≡_}
 use Rattle.job_task.specs.declared.Settings.{Settings}
+use Rattle.job_task.specs.Rows.{elects}
 
--- settings that rows 4, 5 and 14 let pass: the type asked for, the reference, the flag, the trim code, the start
+-- settings that rows 4, 5 and 14 let pass: unless the job elects the type asked for and the trim code; the reference, the flag, the elect code, the start
 pub record InRange (s : Settings) : Type 0 where
-  pub some-type : 1 ≤ s .«gm_type»
-  pub last-type : s .«gm_type» ≤ 3
+  pub some-type : elects s ≡ false → 1 ≤ s .«gm_type»
+  pub last-type : elects s ≡ false → s .«gm_type» ≤ 3
   pub some-reference : 1 ≤ s .reference
   pub last-reference : s .reference ≤ 7
   pub flagged : s .flag ≤ 1
-  pub trimming : s .trim ≤ 1
+  pub trimming : elects s ≡ false → s .trim ≤ 1
+  pub electing : s .elect ≤ 1
   pub low : s .start < 8

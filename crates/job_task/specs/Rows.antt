@@ -1,12 +1,12 @@
--- The rows of the table of refusals that a job meets before its search, in the table's order: 1, 2, 4, 5, 14, 7, 8, 3, 15, 17. docs/RULES.md, 'When a call says no'.
+-- The rows of the table of refusals that a job meets before its search, in the table's order: 1, 2, 4, 5, 14, 7, 8, 3, 15, 17. A job that elects has no 15. docs/RULES.md, 'When a call says no'.
 -- Assumes nothing.
 use Prim.Native.Nat.{ℕ, _*_}
-use mathlib.Core.Bool.{Bool, not}
+use mathlib.Core.Bool.{Bool, false, not}
 use mathlib.Core.List.{List, [], _∷_}
 use lib.Dec.{ltb, eqb}
 use lib.IntN.{ℤ}
 use lib.ListN.{length}
-use Rattle.laws.specs.Refusal.{Row, row, judge, orElse, either, both}
+use Rattle.laws.specs.Refusal.{Row, row, judge, orElse, choose, either, both}
 use Rattle.search.specs.Search.{sampleCount}
 use Rattle.class.specs.Class.{lastClass, classOver}
 use Rattle.search.specs.Refusal.{tooLarge, wrongLength, tooShort}
@@ -34,6 +34,19 @@ priorNumbers = 42
 abbrev pub headerBytes : ℕ
 headerBytes = 125
 
+-- ---- electing and trimming
+
+abbrev pub elects : Settings → Bool
+elects s = eqb (s .elect) 1
+
+-- a job that elects always trims
+abbrev pub trims : Settings → Bool
+trims s = either (elects s) (eqb (s .trim) 1)
+
+-- a job that elects takes no type, and its codes of type and trim aren't looked at
+abbrev pub unlessElects : Settings → Bool → Bool
+unlessElects s wrong = choose (elects s) false wrong
+
 -- ---- the conditions
 
 -- row 2: a plane, the classes, the six types, their 36 numbers or the prior's 42 of wrong length
@@ -42,11 +55,13 @@ wrongLengths z classes types models prior =
     either (wrongLength (z .width) (z .height) (z .input) (z .reference) classes)
     (either (not (eqb types otherTypes)) (either (not (eqb models otherNumbers)) (not (eqb prior priorNumbers))))
 
--- row 4: a class over 4; the type asked for 0 or over 3; another's type over 3; the flag over 1; the trim code over 1
+-- row 4: a class over 4; the type asked for 0 or over 3; another's type over 3; the flag over 1; the trim code over 1; the elect code over 1
 abbrev pub badCodes : Settings → List ℕ → List ℕ → Bool
 badCodes s classes types =
     either (classOver lastClass classes)
-    (either (noType (s .«gm_type»)) (either (typesOver types) (either (ltb 1 (s .flag)) (ltb 1 (s .trim)))))
+    (either (unlessElects s (noType (s .«gm_type»)))
+    (either (typesOver types)
+    (either (ltb 1 (s .flag)) (either (unlessElects s (ltb 1 (s .trim))) (ltb 1 (s .elect))))))
 
 -- row 5: a reference outside 1 to 7
 abbrev pub noReference : ℕ → Bool
@@ -58,12 +73,9 @@ tooLittle z =
     either (tooShort (z .width) (z .height) (z .«input_half») (z .«ref_half») (z .words))
     (either (ltb (z .blocks) (blockBytes * blocksOf form2 (sampleCount (z .width) (z .height)))) (ltb (z .header) headerBytes))
 
--- row 15: a job that trims has fewer samples than its type's least
-abbrev pub trims : Settings → Bool
-trims s = eqb (s .trim) 1
-
+-- row 15: a job that trims the type asked for has fewer samples than that type's least
 abbrev pub tooFewToTrim : Settings → ℕ → Bool
-tooFewToTrim s samples = both (trims s) (tooFew (s .«gm_type») samples)
+tooFewToTrim s samples = unlessElects s (both (trims s) (tooFew (s .«gm_type») samples))
 
 -- ---- the rows, in groups
 

@@ -1,6 +1,6 @@
 // What a job is handed, and the rows of the table of refusals that it meets before its search: 1, 2,
-// 4, 5, 14, 7, 8, 3, 15, 17, in the table's order (docs/RULES.md, 'Job', 'When a call says no'). In go the
-// settings, how long planes and lent buffers are, and the lists that are looked into; out comes the first
+// 4, 5, 14, 7, 8, 3, 15, 17, in the table's order (docs/RULES.md, 'Job', 'When a call says no'); a job
+// that elects takes no type and always trims, so it has no 15. In go the settings, how long planes and lent buffers are, and the lists that are looked into; out comes the first
 // row that holds, 0 for none. The rows are judged in groups; a group is a function.
 use class::LAST_CLASS;
 use forms::FORM2;
@@ -12,8 +12,10 @@ ghost use Prim.Native.Nat.{_*_, _≤_};
 ghost use lib.ListN.{length};
 ghost use Rattle.laws.specs.Refusal.{judge};
 ghost use Rattle.plane.specs.Inner.{Small};
+ghost use lib.Dec.{ltb};
 ghost use Rattle.search.specs.Search.{sampleCount};
-ghost use Rattle.job_task.specs.Rows.{wrongLengths, badCodes, noReference, tooLittle, tooFewToTrim, sizeRows, codeRows, modelRows, roomRows, refusalBefore};
+ghost use Rattle.fit.specs.Fitted.{noType};
+ghost use Rattle.job_task.specs.Rows.{wrongLengths, unlessElects, badCodes, noReference, tooLittle, tooFewToTrim, sizeRows, codeRows, modelRows, roomRows, refusalBefore};
 
 const BLOCK: usize = 16;
 
@@ -46,8 +48,9 @@ const TOO_LITTLE: u32 = 3;
 const TOO_FEW: u32 = 15;
 
 // The frame number of the blocks, the type to fit, the reference that the model is for, the flag of
-// high precision, whether the job trims (1, otherwise 0), and the bit of the header's first byte at
-// which writing begins.
+// high precision, whether the job trims (1, otherwise 0), whether it elects (1, otherwise 0: the type
+// and the trim above aren't looked at where it does), and the bit of the header's first byte at which
+// writing begins.
 #[repr(C)]
 pub struct Settings {
     pub frame: u16,
@@ -55,6 +58,7 @@ pub struct Settings {
     pub reference: u8,
     pub flag: u8,
     pub trim: u8,
+    pub elect: u8,
     pub start: usize,
 }
 
@@ -93,16 +97,34 @@ fn wrong_lengths(sizes: Sizes, classes: usize, types: usize, models: usize, prio
     prior != NUMBERS
 }
 
+fn bad_type(settings: Settings) -> bool
+    ensures { λ b. ⌜ b ≡ unlessElects settings (noType (settings .«gm_type»)) ⌝ }
+{
+    if settings.elect == 1 {
+        return false;
+    }
+    if settings.gm_type == 0 {
+        return true;
+    }
+    LAST_TYPE < settings.gm_type
+}
+
+fn bad_trim(settings: Settings) -> bool
+    ensures { λ b. ⌜ b ≡ unlessElects settings (ltb 1 (settings .trim)) ⌝ }
+{
+    if settings.elect == 1 {
+        return false;
+    }
+    1 < settings.trim
+}
+
 fn bad_codes(settings: Settings, classes: &[u8], types: &[u8]) -> bool
     ensures { λ b. ⌜ b ≡ badCodes settings (now (classes .entry)) (now (types .entry)) ⌝ }
 {
     if class::some_over(LAST_CLASS, classes) {
         return true;
     }
-    if settings.gm_type == 0 {
-        return true;
-    }
-    if LAST_TYPE < settings.gm_type {
+    if bad_type(settings) {
         return true;
     }
     if models::types_over(types) {
@@ -111,7 +133,10 @@ fn bad_codes(settings: Settings, classes: &[u8], types: &[u8]) -> bool
     if 1 < settings.flag {
         return true;
     }
-    1 < settings.trim
+    if bad_trim(settings) {
+        return true;
+    }
+    1 < settings.elect
 }
 
 fn no_reference(reference: u8) -> bool
@@ -147,6 +172,9 @@ fn too_few_to_trim(sizes: Sizes, settings: Settings) -> bool
     requires { ⌜ Small (sizes .width) (sizes .height) ⌝ }
     ensures { λ b. ⌜ b ≡ tooFewToTrim settings (sampleCount (sizes .width) (sizes .height)) ⌝ }
 {
+    if settings.elect == 1 {
+        return false;
+    }
     if settings.trim != 1 {
         return false;
     }

@@ -2,6 +2,7 @@
 // of samples: each lends that part and hands on the answer (docs/RULES.md, 'Each place and its form').
 // The array has room for one sample more than a list may have.
 
+use elect::Elected;
 use fit_numbers::FitAnswer;
 use lent_fit::Params;
 use lent_fit::ToQuantize;
@@ -20,6 +21,7 @@ ghost use Rattle.score.specs.Score.{continuousModel, scored};
 ghost use Rattle.quantize.specs.Quantize.{quantizedFrom};
 ghost use Rattle.trim.specs.Trim.{trimmedFrom, trimmedModelFrom};
 ghost use Rattle.trim_numbers.specs.Answer.{answerOf};
+ghost use Rattle.elect.specs.Elect.{electedFrom};
 ghost use Rattle.lent_fit.specs.Samples.{itself};
 
 pub fn translation_of_first(samples: [MotionSample; 4097], n: usize) -> FitAnswer
@@ -73,4 +75,11 @@ pub fn trimmed_model_of_first(
     ensures { λ r. ⌜ r ≡ trimmedModelFrom itself (codes .kind) (codes .flag) (take n samples) ⌝ }
 {
     lent_trim::belt_quantize_trimmed_samples(&samples[..n], codes)
+}
+
+pub fn elected_of_first(samples: [MotionSample; 4097], n: usize, flag: u8) -> Elected
+    requires { ⌜ n ≤ 4097 ⌝ }
+    ensures { λ r. ⌜ r ≡ electedFrom itself flag (take n samples) ⌝ }
+{
+    lent_elect::belt_elect_samples(&samples[..n], flag)
 }

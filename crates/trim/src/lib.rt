@@ -53,6 +53,12 @@ const LEAST_AFFINE: usize = 8;
 // The pattern of infinity.
 const INFINITE: u64 = 0x7ff0_0000_0000_0000;
 
+// So many patterns from the square of a cutoff the limit of the squares is looked for first.
+const BESIDE: u64 = 4;
+
+// A pattern below this has one of a finite number so far above it.
+const FAR: u64 = 0x7fef_ffff_ffff_fffc;
+
 // The last fit made, or a refusal, and how many samples it used.
 pub struct Trimmed {
     pub fitted: Fitted,
@@ -89,7 +95,8 @@ pub fn store(numbers: &mut [f64; 16384], i: usize, s: MotionSample)
     }
 }
 
-fn sample_at(numbers: &[f64; 16384], i: usize) -> MotionSample
+// Sample i of those numbers.
+pub fn sample_at(numbers: &[f64; 16384], i: usize) -> MotionSample
     requires { ⌜ i < mostSamples ⌝ }
     ensures { λ r. ⌜ r ≡ sampleAt (now (numbers .entry)) i ⌝ }
 {
@@ -102,7 +109,7 @@ fn sample_at(numbers: &[f64; 16384], i: usize) -> MotionSample
 }
 
 // A list that is too long isn't unpacked: the call refuses it.
-fn unpack(words: &[u32], numbers: &mut [f64; 16384])
+pub fn unpack(words: &[u32], numbers: &mut [f64; 16384])
     requires { ⌜ length (now numbers) ≡ mostNumbers ⌝ }
     ensures { λ _. ⌜ (length (now (words .entry)) ≤ mostSamples → samplesIn (now (numbers .exit)) (length (now (words .entry))) ≡ map sampleOf (now (words .entry))) ⌝ }
 {
@@ -352,16 +359,43 @@ fn cutoff_of(squares: &[f64], n: usize) -> f64
     three
 }
 
+// Where to cut next between lo and hi: first beside a guess, above it and then below, where it lies
+// between them, otherwise in the middle.
+fn between(lo: u64, hi: u64, guess: u64) -> u64
+    requires { ⌜ lo < hi ⌝ }
+    ensures { λ r. ⌜ lo ≤ r ⌝ }
+    ensures { λ r. ⌜ r < hi ⌝ }
+{
+    if hi == INFINITE && guess >= lo && guess < FAR {
+        return guess + BESIDE;
+    }
+    if lo == 0 && guess >= BESIDE && guess <= hi {
+        return guess - BESIDE;
+    }
+    lo + (hi - lo) / 2
+}
+
+// The pattern of a number's square, or 0.
+fn square_pattern(x: f64) -> u64 {
+    let square = x * x;
+    if square > 0.0 {
+        return f64::to_bits(square);
+    }
+    0
+}
+
 // The greatest finite number whose root is at most the cutoff, by bisecting the patterns: the root of
-// each below lo is, and of none from hi on. Minus infinity where there is none.
+// each below lo is, and of none from hi on. Minus infinity where there is none. It lies a few patterns
+// from the cutoff's square, which the search begins with.
 fn square_limit(cutoff: f64) -> f64
     requires { ⌜ Bare cutoff ⌝ }
     ensures { λ r. ⌜ Limits cutoff r ⌝ }
 {
+    let guess = square_pattern(cutoff);
     let mut lo = 0u64;
     let mut hi = INFINITE;
     while lo < hi {
-        let mid = lo + (hi - lo) / 2;
+        let mid = between(lo, hi, guess);
         if root::root(f64::from_bits(mid)) <= cutoff {
             lo = mid + 1;
         } else {

@@ -1,7 +1,8 @@
 // Replays the list of jobs: planes are made from a seed, the job is run, and its report, blocks and
-// header are compared with the Rust's. What lies behind the parts used must be as it was. Then every
-// refusal, also with two faults at once: nothing but its number is reported, and every buffer is as it
-// was, but for the half planes and words of a job that is refused with 6.
+// header are compared with the Rust's, of jobs that elect too. What lies behind the parts used must be
+// as it was. Then every refusal, also with two faults at once, of a job that asks for its type and of one
+// that elects: nothing but its number is reported, and every buffer is as it was, but for the half
+// planes and words of a job that is refused with 6.
 ghost use Prim.Native.Nat.{_≤_, _<_};
 ghost use mathlib.Core.Path.{_≡_};
 ghost use lib.ListN.{length};
@@ -18,7 +19,8 @@ const UNTOUCHED_BYTE: u8 = 165;
 const NOT_A_NUMBER: u64 = 0x7ff8_0000_0000_0000;
 
 // The picture of a case: the input plane is on its own (0), the reference mapped (1), the planes are
-// exchanged (2), or the mapped reference stands in the list (3). A mapped pel comes from row r * (64 + zoom) / 64 + shift, and so for its column.
+// exchanged (2), the mapped reference stands in the list (3), or both planes do (4). A mapped pel comes
+// from row r * (64 + zoom) / 64 + shift, and so for its column.
 struct Picture {
     seed: u32,
     mask: u32,
@@ -152,6 +154,11 @@ fn map_plane(p: Picture, first: &[u16], plane: &mut [u16]) {
 }
 
 fn make_planes(list: i32, p: Picture, input: &mut [u16], reference: &mut [u16]) {
+    if p.kind == 4 {
+        next_pels(list, &mut *reference);
+        next_pels(list, &mut *input);
+        return;
+    }
     if p.kind == 3 {
         replay::next_pels(list, &mut *reference);
         map_plane(p, reference, &mut *input);
@@ -179,6 +186,7 @@ fn next_settings(list: i32) -> Settings {
         reference: byte_of(replay::next_word(list)),
         flag: byte_of(replay::next_word(list)),
         trim: byte_of(replay::next_word(list)),
+        elect: byte_of(replay::next_word(list)),
         start: size(list),
     }
 }
@@ -521,6 +529,7 @@ struct Small {
     reference: u8,
     flag: u8,
     trim: u8,
+    elect: u8,
     start: usize,
     class: u8,
     other_type: u8,
@@ -534,14 +543,16 @@ struct Small {
     header_room: usize,
 }
 
-fn right() -> Small {
+// A job that elects has no type and no trim code: any number stands there.
+fn right(elect: u8) -> Small {
     Small {
         width: 16,
         frame: 5,
-        gm_type: 1,
+        gm_type: 1 - elect % 2,
         reference: 1,
         flag: 0,
-        trim: 0,
+        trim: elect % 2 * 2,
+        elect,
         start: 0,
         class: 0,
         other_type: 0,
@@ -586,45 +597,48 @@ fn with_code(s: Small, fault: u32) -> Small {
     if fault == 9 {
         t.trim = 2;
     }
+    if fault == 10 {
+        t.elect = 2;
+    }
     t
 }
 
 fn with_fault(s: Small, fault: u32) -> Small {
     let mut t = with_code(s, fault);
-    if fault == 10 {
+    if fault == 11 {
         t.reference = 0;
     }
-    if fault == 11 {
+    if fault == 12 {
         t.reference = 8;
     }
-    if fault == 12 {
+    if fault == 13 {
         t.start = 8;
     }
-    if fault == 13 {
+    if fault == 14 {
         t.number = 65537;
     }
-    if fault == 14 {
+    if fault == 15 {
         t.place = 8193;
     }
-    if fault == 15 {
+    if fault == 16 {
         t.half_room = 63;
     }
-    if fault == 16 {
+    if fault == 17 {
         t.word_room = 0;
     }
-    if fault == 17 {
+    if fault == 18 {
         t.block_room = 511;
     }
-    if fault == 18 {
+    if fault == 19 {
         t.header_room = 124;
     }
-    if fault == 19 {
+    if fault == 20 {
         t.trim = 1;
     }
-    if fault == 20 {
+    if fault == 21 {
         t.frame = 0;
     }
-    if fault == 21 {
+    if fault == 22 {
         t.gm_type = 2;
     }
     t
@@ -637,28 +651,28 @@ fn row_of(fault: u32) -> u32 {
     if fault < 4 {
         return 2;
     }
-    if fault < 10 {
+    if fault < 11 {
         return 4;
     }
-    if fault < 12 {
+    if fault < 13 {
         return 5;
     }
-    if fault == 12 {
+    if fault == 13 {
         return 14;
     }
-    if fault == 13 {
+    if fault == 14 {
         return 7;
     }
-    if fault == 14 {
+    if fault == 15 {
         return 8;
     }
-    if fault < 19 {
+    if fault < 20 {
         return 3;
     }
-    if fault == 19 {
+    if fault == 20 {
         return 15;
     }
-    if fault == 20 {
+    if fault == 21 {
         return 17;
     }
     6
@@ -682,6 +696,7 @@ fn small_job(
         reference: s.reference,
         flag: s.flag,
         trim: s.trim,
+        elect: s.elect,
         start: s.start,
     };
     let classes = [s.class; 1];
@@ -837,9 +852,32 @@ fn put(numbers: &mut [i32], at: usize, value: i32) {
     }
 }
 
+// Neither type nor trim code is a fault of a job that elects, and rows 15 and 6 aren't either.
+fn is_fault(elect: u8, fault: u32) -> bool {
+    if elect == 0 {
+        return true;
+    }
+    if fault == 5 {
+        return false;
+    }
+    if fault == 6 {
+        return false;
+    }
+    if fault == 9 {
+        return false;
+    }
+    if fault == 20 {
+        return false;
+    }
+    fault != 22
+}
+
 // Two faults, of which the first comes no later in the table.
-fn try_faults(first: u32, second: u32) -> bool {
-    let s = with_fault(with_fault(right(), second), first);
+fn try_faults(elect: u8, first: u32, second: u32) -> bool {
+    if !(is_fault(elect, first) && is_fault(elect, second)) {
+        return true;
+    }
+    let s = with_fault(with_fault(right(elect), second), first);
     let types = [s.other_type; 6];
     let mut models = [0i32; 36];
     let mut prior = [0i32; 42];
@@ -851,34 +889,34 @@ fn try_faults(first: u32, second: u32) -> bool {
 }
 
 // 1 for a pair of faults that failed, which gets a line.
-fn refusal_failed(first: u32, second: u32) -> u64
+fn refusal_failed(elect: u8, first: u32, second: u32) -> u64
     ensures { λ r. ⌜ r ≤ 1 ⌝ }
 {
-    if try_faults(first, second) {
+    if try_faults(elect, first, second) {
         return 0;
     }
     replay::print_failure(b"refusal", first as u64 * 100 + second as u64);
     1
 }
 
-fn failed_with(first: u32) -> u64
-    requires { ⌜ first < 22 ⌝ }
-    ensures { λ r. ⌜ r ≤ 22 ⌝ }
+fn failed_with(elect: u8, first: u32) -> u64
+    requires { ⌜ first < 23 ⌝ }
+    ensures { λ r. ⌜ r ≤ 23 ⌝ }
 {
     let mut failed = 0u64;
     let mut second = first;
-    while second < 22 {
-        failed += refusal_failed(first, second);
+    while second < 23 {
+        failed += refusal_failed(elect, first, second);
         second += 1;
     }
     failed
 }
 
-fn failed_refusals() -> u64 {
+fn failed_refusals(elect: u8) -> u64 {
     let mut failed = 0u64;
     let mut first = 1u32;
-    while first < 22 {
-        failed += failed_with(first);
+    while first < 23 {
+        failed += failed_with(elect, first);
         first += 1;
     }
     failed
@@ -893,5 +931,6 @@ fn main() {
     let count = replay::next_word(list) as u64;
     replay::print_count(b"job", count, failures(list, count));
     libc::close(list);
-    replay::print_count(b"refusal", 231, failed_refusals());
+    replay::print_count(b"refusal", 253, failed_refusals(0));
+    replay::print_count(b"refusal of an election", 153, failed_refusals(1));
 }

@@ -180,6 +180,44 @@ pub fn loose_words(random: &mut Random) -> Vec<u32> {
     (0..count).map(word).collect()
 }
 
+/// Words to elect a type of: those above, or a field of a type's motion about some middle, more or less even, with a few
+/// words that are a little off. The measure of each is drawn small and large, so that energy, gate, ratio and gain come
+/// out on either side; some have the floor's own energy.
+pub fn words_to_elect(random: &mut Random) -> Vec<u32> {
+    if random.one_in(4) {
+        return loose_words(random);
+    }
+    if random.one_in(12) {
+        // half a pel each: the energy is the floor itself
+        let (v, u) = random.pick(&[(227, 223), (219, 223), (223, 227), (223, 219)]);
+        return (0..4 + random.below(9) as u32).map(|column| column << 20 | v << 11 | u << 2).collect();
+    }
+    let count = if random.one_in(40) { MOST_SAMPLES } else { 3 + random.below(60) };
+    let across = 1 + random.below(12);
+    let kind = random.below(6);
+    let size = random.pick(&[0.5, 1.0, 3.0, 10.0]);
+    let mut near = |by: f64| by * size * random.between(-1000, 1000) as f64 / 1000.0;
+    // in eighths: the shift, and what a block further right and further down adds to u and to v
+    let (shift, right, down) = ([near(6.0), near(6.0)], [near(1.0), near(1.0)], [near(1.0), near(1.0)]);
+    let (right, down) = match kind {
+        0 => ([0.0; 2], [0.0; 2]),
+        1 | 2 => (right, [-right[1], right[0]]),
+        _ => (right, down),
+    };
+    let (loose, uneven) = (random.pick(&[0, 0, 1, 3]), random.pick(&[0, 1, 1, 2, 5]));
+    let middle = (across as f64 / 2.0, (count / across) as f64 / 2.0);
+    let word = |place: usize| {
+        let (row, column) = (place / across % 64, place % across);
+        let off = if random.below(32) < loose { random.between(-40, 40) } else { 0 };
+        let mut motion = |at: usize| {
+            let even = shift[at] + right[at] * (column as f64 - middle.0) + down[at] * (row as f64 - middle.1);
+            (223 + even as i64 + off + random.between(-uneven, uneven)).clamp(0, 446) as u32
+        };
+        (row as u32) << 26 | (column as u32) << 20 | motion(1) << 11 | motion(0) << 2
+    };
+    (0..count).map(word).collect()
+}
+
 /// Words whose sums of x·x and x·y are equal, so that an affine fit has two pivots of one magnitude to choose from:
 /// a block left of the diagonal, one right of it, as often as makes up for it, and blocks on the diagonal.
 fn words_of_a_tie(random: &mut Random) -> Vec<u32> {
@@ -250,6 +288,26 @@ pub fn loose_samples(random: &mut Random) -> Vec<[f64; 4]> {
             let (place, number) = (random.below(made.len()), random.below(4));
             made[place][number] = random.pick(&extreme);
         }
+    }
+    made
+}
+
+/// Samples to elect a type of: those to trim, or those of words to elect of, of any size, some about where squares become
+/// infinite, where energy and errors may be so while every residual is finite.
+pub fn samples_to_elect(random: &mut Random) -> Vec<[f64; 4]> {
+    if random.one_in(3) {
+        return loose_samples(random);
+    }
+    let words = words_to_elect(random);
+    let (size, far) = (random.pick(&[1.0, 1.1, 0.9, 0.3, 1e3]), random.one_in(8));
+    let sign = |i: usize| if i % 2 == 0 { 1.2e154 } else { -1.2e154 };
+    let sample = |(i, &word): (usize, &u32)| match (far, oracle::sample_of(word).map(|number| size * number)) {
+        (true, [x, y, _, v]) => [x, y, sign(i), v],
+        (false, numbers) => numbers,
+    };
+    let mut made: Vec<_> = words.iter().enumerate().map(sample).collect();
+    if !made.is_empty() && random.one_in(8) {
+        made[random.below(words.len())][random.below(4)] = odd(random);
     }
     made
 }

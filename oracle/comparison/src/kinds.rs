@@ -3,7 +3,8 @@
 use crate::inputs::{self, Scene, float, number, prior, sides, stored_model};
 use crate::random::Random;
 use belt::{
-    Buffers, Fitted, Frame, Kind as FrameKind, Lent, Model, MotionSample, Refusal, Report, Settings, StoredModel, Task,
+    Buffers, Elected, Fitted, Frame, Kind as FrameKind, Lent, Model, MotionSample, Refusal, Report, Settings,
+    StoredModel, Task,
 };
 use oracle::blocks::{self, BLOCK, Form, ONE, TWO};
 use oracle::{Models, SINGULAR, TOO_FEW, practice};
@@ -29,7 +30,7 @@ pub struct Kind {
     pub compare: fn(&mut Case) -> Result<(), String>,
 }
 
-pub const KINDS: [Kind; 29] = [
+pub const KINDS: [Kind; 32] = [
     Kind { name: "search", share: 4, compare: search },
     Kind { name: "fit translation", share: 4, compare: |case| fit(case, 1) },
     Kind { name: "fit rotation-zoom", share: 4, compare: |case| fit(case, 2) },
@@ -37,6 +38,7 @@ pub const KINDS: [Kind; 29] = [
     Kind { name: "quantized model", share: 6, compare: quantized_model },
     Kind { name: "trimmed fit", share: 8, compare: trimmed_fit },
     Kind { name: "trimmed model", share: 8, compare: trimmed_model },
+    Kind { name: "election", share: 8, compare: election },
     Kind { name: "score", share: 4, compare: score },
     Kind { name: "samples, translation", share: 4, compare: |case| fit_samples(case, 1) },
     Kind { name: "samples, rotation-zoom", share: 6, compare: |case| fit_samples(case, 2) },
@@ -45,6 +47,7 @@ pub const KINDS: [Kind; 29] = [
     Kind { name: "samples, score", share: 4, compare: score_samples },
     Kind { name: "samples, trimmed fit", share: 8, compare: trimmed_fit_samples },
     Kind { name: "samples, trimmed model", share: 8, compare: trimmed_model_samples },
+    Kind { name: "samples, election", share: 8, compare: election_samples },
     Kind { name: "quantize_global_param", share: 8, compare: grid },
     Kind { name: "header written", share: 8, compare: header_written },
     Kind { name: "header read", share: 6, compare: header_read },
@@ -52,8 +55,9 @@ pub const KINDS: [Kind; 29] = [
     Kind { name: "key frame", share: 4, compare: key_frame },
     Kind { name: "price list", share: 1, compare: price_list },
     Kind { name: "price of a frame", share: 4, compare: frame_price },
-    Kind { name: "job", share: 6, compare: |case| job(case, 0) },
-    Kind { name: "job that trims", share: 6, compare: |case| job(case, 1) },
+    Kind { name: "job", share: 6, compare: |case| job(case, 0, 0) },
+    Kind { name: "job that trims", share: 6, compare: |case| job(case, 1, 0) },
+    Kind { name: "job that elects", share: 6, compare: electing_job },
     Kind { name: "blocks of form 2, by docs/RULES.md", share: 4, compare: stored_frame },
     Kind { name: "blocks of form 1, by docs/RULES.md", share: 4, compare: old_frame },
     Kind { name: "shear, by clause 7.11.3.6", share: 6, compare: shear },
@@ -224,6 +228,35 @@ fn trimmed_model(case: &mut Case) -> Result<(), String> {
     let theirs = oracle::trimmed_or_row(kind, flag == 1, &samples(&words));
     let theirs = theirs.map(|trimmed| (Model(trimmed.params), trimmed.used));
     same("model, samples used", ours, theirs)
+}
+
+fn election(case: &mut Case) -> Result<(), String> {
+    let words = inputs::words_to_elect(&mut case.random);
+    let flag = case.random.below(2) as u8;
+    case.note("flag", flag);
+    case.note("words", &words);
+    let ours = row(belt::elect(flag, &words));
+    same("type, model, bits of the score", ours.map(elected), rust_elected(flag, &samples(&words)))
+}
+
+fn election_samples(case: &mut Case) -> Result<(), String> {
+    let samples = inputs::samples_to_elect(&mut case.random);
+    let flag = case.random.below(2) as u8;
+    case.note("flag", flag);
+    case.note("samples", &samples);
+    let ours = row(belt::elect_samples(flag, &lent(&samples)));
+    case.accepted = ours.is_ok();
+    same("type, model, bits of the score", ours.map(elected), rust_elected(flag, &samples))
+}
+
+/// An election's type, model as stored and score.
+fn elected(answer: Elected) -> (u8, StoredModel, u64) {
+    (answer.gm_type, answer.model, bits(answer.score))
+}
+
+fn rust_elected(flag: u8, samples: &[[f64; 4]]) -> Result<(u8, StoredModel, u64), u32> {
+    let answer = oracle::elect_or_row(flag == 1, samples)?;
+    Ok((answer.kind, StoredModel(answer.params), bits(answer.score)))
 }
 
 /// Samples with the layout of the library.
@@ -551,29 +584,38 @@ fn frame_number(random: &mut Random) -> u16 {
     if random.one_in(20) { blocks::CLOSED } else { random.bits() as u16 }
 }
 
+/// A job's own model by the Rust's answers: its type, as stored, and its score.
+fn own_of_the_rust(settings: Settings, samples: &[[f64; 4]]) -> Result<(u8, [i32; 6], f64), u32> {
+    let Settings { gm_type, flag, trim, elect, .. } = settings;
+    if elect == 1 {
+        let elected = oracle::elect_or_row(flag == 1, samples)?;
+        return Ok((elected.kind, elected.params, elected.score));
+    }
+    let model = match trim {
+        1 => oracle::trimmed_or_row(gm_type, flag == 1, samples)?.params,
+        _ => {
+            let fitted = oracle::fit(gm_type, samples).ok_or(SINGULAR)?;
+            oracle::quantize_model(&fitted, gm_type, flag == 1, samples)
+        }
+    };
+    Ok((gm_type, Model(model).row_first(gm_type).0, oracle::score(&model, samples)))
+}
+
 /// The composition of the Rust's answers: what a job reports and leaves.
 fn job_of_the_rust(pair: &Pair, settings: Settings, header: &Header, left: &mut Buffers) -> Result<Report, u32> {
-    let Settings { frame, gm_type, reference, flag, trim, start } = settings;
-    if trim == 1 && oracle::sample_count(pair.width, pair.height) < oracle::least_samples(gm_type) {
+    let Settings { frame, gm_type, reference, flag, trim, elect, start } = settings;
+    let trims = trim == 1 && elect == 0;
+    if trims && oracle::sample_count(pair.width, pair.height) < oracle::least_samples(gm_type) {
         return Err(TOO_FEW);
     }
     if frame == blocks::CLOSED {
         return Err(CLOSED);
     }
     let words = searched(pair, left);
-    let samples = samples(&words);
-    let model = match trim {
-        1 => oracle::trimmed_or_row(gm_type, flag == 1, &samples)?.params,
-        _ => {
-            let fitted = oracle::fit(gm_type, &samples).ok_or(SINGULAR)?;
-            oracle::quantize_model(&fitted, gm_type, flag == 1, &samples)
-        }
-    };
-    let score = oracle::score(&model, &samples);
     let place = usize::from(reference) - 1;
     let mut full = Header { flag, ..*header };
-    full.types[place] = gm_type;
-    full.params[place] = Model(model).row_first(gm_type).0;
+    let score;
+    (full.types[place], full.params[place], score) = own_of_the_rust(settings, &samples(&words))?;
     let (mut bytes, bits) = full.written(start);
     keep_before(start, &mut bytes, &left.header);
     left.header[..bytes.len()].copy_from_slice(&bytes);
@@ -582,16 +624,23 @@ fn job_of_the_rust(pair: &Pair, settings: Settings, header: &Header, left: &mut 
     Ok(Report { types: full.types, models: full.params.map(StoredModel), score, bits, samples: words.len() })
 }
 
-fn job(case: &mut Case, trim: u8) -> Result<(), String> {
+/// A type and a trim code of any number go in with an election, which looks at neither.
+fn electing_job(case: &mut Case) -> Result<(), String> {
+    let trim = case.random.bits() as u8;
+    job(case, trim, 1)
+}
+
+fn job(case: &mut Case, trim: u8, elect: u8) -> Result<(), String> {
     let pair = pair(case);
     let header = header(case);
     let random = &mut case.random;
     let settings = Settings {
         frame: frame_number(random),
-        gm_type: 1 + random.below(3) as u8,
+        gm_type: if elect == 1 { random.bits() as u8 } else { 1 + random.below(3) as u8 },
         reference: 1 + random.below(7) as u8,
         flag: header.flag,
         trim,
+        elect,
         start: start(random),
     };
     let mut ours = buffers(random, pair.width, pair.height);

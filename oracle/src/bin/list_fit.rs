@@ -5,7 +5,7 @@
 //! Of a list of samples some are written out, and come round again up to its count.
 
 use oracle::SINGULAR;
-use oracle::list::{Lcg, List, MOST_SAMPLES, tilted_words};
+use oracle::list::{Lcg, List, MOST_SAMPLES, across, loose_words, tilted_words};
 use std::{env, io};
 
 const SEED: u32 = 6;
@@ -136,12 +136,6 @@ fn orders() -> List {
     list
 }
 
-/// Words of the first row of blocks, with motions u in eighths and none down.
-fn across(eighths: &[i32]) -> Vec<u32> {
-    let word = |(place, &u): (usize, &i32)| (place as u32) << 20 | 223 << 11 | ((223 + u) as u32) << 2;
-    eighths.iter().enumerate().map(word).collect()
-}
-
 /// Fits after trimming. For each: the words, a type and a flag, at times no such codes; the refusal of the fit and the
 /// samples that it used, and the values that the type carries; the refusal of the quantized model, the samples, the model.
 fn trimmed() -> List {
@@ -187,25 +181,6 @@ fn trimmed() -> List {
         push_trimmed(&mut list, words, *kind, *flag);
     }
     list
-}
-
-/// Words of a field that moves as one, in places that rise, but for `loose` of each 32, which move on their own.
-fn loose_words(lcg: &mut Lcg, count: usize, loose: u16) -> Vec<u32> {
-    let across = (count as f64).sqrt().ceil() as usize;
-    let slopes: [i32; 6] = std::array::from_fn(|_| i32::from(lcg.below(9)) - 4);
-    let word = |place: usize| {
-        let (row, column) = ((place / across) as i32, (place % across) as i32);
-        let free = lcg.below(32) < loose;
-        let mut motion = |at: usize| match free {
-            true => u32::from(lcg.below(447)),
-            false => {
-                let even = 8 * slopes[at] + slopes[at + 1] * column / 4 + slopes[at + 2] * row / 4;
-                (223 + even + i32::from(lcg.below(3)) - 1).clamp(0, 446) as u32
-            }
-        };
-        (row as u32) << 26 | (column as u32) << 20 | motion(0) << 11 | motion(3) << 2
-    };
-    (0..count).map(word).collect()
 }
 
 fn push_trimmed(list: &mut List, words: &[u32], kind: u8, flag: u8) {

@@ -8,7 +8,7 @@ use Rattle.job_model.proofs.trimmed.Tie as tie
 returns : tie.Need-returns
 returns c =
     let e = c .before .before .before in
-    trimmed-answers (e .args .settings) (e .args .words .now) (e .pre .0) (e .pre .1) (c .before .quantize-trimmed .ensures)
+    trimmed-answers (e .args .settings) (e .args .words .now) (e .pre .asking) (e .pre .trimming) (c .before .quantize-trimmed .ensures)
 
 pub trimmed-spec : {M : Type 1} → statement M
 trimmed-spec = tie.close (tie.spec (search needs) returns)

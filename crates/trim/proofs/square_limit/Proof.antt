@@ -9,70 +9,49 @@ use Rattle.trim.proofs.square_limit.Statement.{statement}
 use Rattle.trim.proofs.square_limit.Tie as tie
 
 abbrev Inv-loop : tie.InvT-loop
-Inv-loop cutoff lo₀ hi₀ lo hi = Cutting cutoff lo hi
+Inv-loop cutoff guess lo₀ hi₀ lo hi = Cutting cutoff lo hi
 
 abbrev μ-loop : tie.MeasureT-loop
-μ-loop cutoff lo₀ hi₀ lo hi = hi - lo
-
-module _ (lo hi : ℕ) (h : lo < hi) where
-  from-lo : lo ≤ lo + (hi - lo) / 2
-  from-lo = omega arith
-
-  below-hi : lo + (hi - lo) / 2 < hi
-  below-hi = omega arith
+μ-loop cutoff guess lo₀ hi₀ lo hi = hi - lo
 
 loop-holds : tie.Need-loop-holds Inv-loop μ-loop
-loop-holds c = starts (c .args .cutoff)
-
-sub-mid : tie.Need-sub-mid Inv-loop μ-loop
-sub-mid c = let b = c .before .loop .inv .rising in omega arith
-
-add-mid : tie.Need-add-mid Inv-loop μ-loop
-add-mid c =
-    let l = c .before .loop in
-    let m = below-hi (l .lo) (l .hi) (c .loop-test .taken) in
-    let f = l .inv .finite in
-    search needs
+loop-holds c = starts (c .before .args .cutoff)
 
 float-from-bits-root : tie.Need-float-from-bits-root Inv-loop μ-loop
 float-from-bits-root c =
-    let l = c .before .loop in
-    let m = below-hi (l .lo) (l .hi) (c .loop-test .taken) in
-    let f = l .inv .finite in
-    readable (l .lo + (l .hi - l .lo) / 2) (omega arith)
+    let below = c .between .ensures .1 in
+    let f = c .before .before .loop .inv .finite in
+    readable (c .between .result) (omega arith)
 
 add-lo : tie.Need-add-lo Inv-loop μ-loop
 add-lo c =
-    let l = c .before .before .before .loop in
-    let m = below-hi (l .lo) (l .hi) (c .before .before .loop-test .taken) in
-    let f = l .inv .finite in
+    let below = c .before .before .between .ensures .1 in
+    let f = c .before .before .before .before .loop .inv .finite in
     search needs
 
 loop-less : tie.Need-loop-less Inv-loop μ-loop
 loop-less c =
-    let l = c .before .before .before .loop in
-    let t = c .before .before .loop-test .taken in
-    let m = from-lo (l .lo) (l .hi) t in
-    omega arith
+    let between = c .before .before .between .ensures in
+    let t = c .before .before .before .loop-test .taken in
+    omega (arith, between .0, between .1)
 
 loop-again : tie.Need-loop-again Inv-loop μ-loop
 loop-again c =
-    let l = c .before .before .before .loop in
-    let start = c .before .before .before .before in
-    goes-up (start .args .cutoff) (start .pre) (l .inv) (below-hi (l .lo) (l .hi) (c .before .before .loop-test .taken)) (rw (← c .before .root .ensures) (c .if1 .taken))
+    let l = c .before .before .before .before .loop in
+    let start = c .before .before .before .before .before .before in
+    goes-up (start .args .cutoff) (start .pre) (l .inv) (c .before .before .between .ensures .1) (rw (← c .before .root .ensures) (c .if1 .taken))
 
 loop-less-2 : tie.Need-loop-less-2 Inv-loop μ-loop
 loop-less-2 c =
-    let l = c .before .before .before .loop in
-    let m = below-hi (l .lo) (l .hi) (c .before .before .loop-test .taken) in
-    omega arith
+    let between = c .before .before .between .ensures in
+    omega (arith, between .0, between .1)
 
 loop-again-2 : tie.Need-loop-again-2 Inv-loop μ-loop
 loop-again-2 c =
-    let l = c .before .before .before .loop in
-    let t = c .before .before .loop-test .taken in
-    let start = c .before .before .before .before in
-    goes-down (start .args .cutoff) (start .pre) (l .inv) (from-lo (l .lo) (l .hi) t) (below-hi (l .lo) (l .hi) t) (rw (← c .before .root .ensures) (c .if1 .left))
+    let l = c .before .before .before .before .loop in
+    let start = c .before .before .before .before .before .before in
+    let between = c .before .before .between .ensures in
+    goes-down (start .args .cutoff) (start .pre) (l .inv) (between .0) (between .1) (rw (← c .before .root .ensures) (c .if1 .left))
 
 float-from-bits-result : tie.Need-float-from-bits-result Inv-loop μ-loop
 unfolding nanBits
@@ -81,7 +60,7 @@ float-from-bits-result c = tt
 returns : tie.Need-returns Inv-loop μ-loop
 returns c =
     let l = c .before .before .loop in
-    none-passes (c .before .before .before .args .cutoff) (l .inv) (c .before .loop-test .left) (c .if2 .taken)
+    none-passes (c .before .before .before .before .args .cutoff) (l .inv) (c .before .loop-test .left) (c .if2 .taken)
 
 sub-result : tie.Need-sub-result Inv-loop μ-loop
 sub-result c = let p = above-nought (c .before .before .loop .lo) (c .if2 .left) in omega arith
@@ -97,7 +76,7 @@ float-from-bits-result-2 c =
 returns-2 : tie.Need-returns-2 Inv-loop μ-loop
 returns-2 c =
     let l = c .before .before .loop in
-    some-pass (c .before .before .before .args .cutoff) (l .inv) (c .before .loop-test .left) (above-nought (l .lo) (c .if2 .left))
+    some-pass (c .before .before .before .before .args .cutoff) (l .inv) (c .before .loop-test .left) (above-nought (l .lo) (c .if2 .left))
 
 pub square-limit-spec : {M : Type 1} → statement M
 square-limit-spec =
@@ -105,9 +84,9 @@ square-limit-spec =
     (tie.spec
     Inv-loop
     μ-loop
+    (search needs)
     loop-holds
-    sub-mid
-    add-mid
+    (search needs)
     float-from-bits-root
     (search needs)
     add-lo

@@ -1,0 +1,2 @@
+pub mod Elect
+pub mod Inside

@@ -1,0 +1,238 @@
+// The election of a model: a precision flag and sample words go in; the elected type, its six numbers
+// as stored and its score come out, IDENTITY where nobody wins (`estimate_global_motion`,
+// encoder/global_motion.rs; docs/RULES.md, 'Election', rows 1, 4 and 16). Over numbers of the call's
+// own, as a fit after trimming, so sample words and lent samples share one code. Who is held is an
+// answer whose numbers are still x first.
+
+use fit::AFFINE;
+use fit::NO_SUCH_CODE;
+use fit::ROTZOOM;
+use fit::TRANSLATION;
+use grid::IDENTITY;
+use trim::NOT_FINITE;
+ghost use mathlib.Core.Path.{_≡_};
+ghost use Prim.Native.Nat.{_≤_};
+ghost use Rattle.sample.specs.Word.{mostSamples};
+ghost use Rattle.sample.specs.Sample.{sampleOf};
+ghost use Rattle.trim.specs.Inner.{itself, samplesIn};
+ghost use Rattle.elect.specs.Elect.{identityParams, errorFrom, isIdentity, invalidShear, unfit, nobody, stopped, beats, heldAfter, turn, winnerFrom, electRefusal, asStored, electedFrom};
+
+// A field of less energy than this stands still.
+const MIN_MOTION_ENERGY: f64 = 0.25;
+
+// The part of the energy that a model must explain.
+const ELECT_ENERGY_RATIO: f64 = 0.75;
+
+// A higher type's error is at most this part of the held one's, and below it by more than the gain.
+const CLASS_UPGRADE_RATIO: f64 = 0.8;
+
+const CLASS_UPGRADE_MIN_GAIN: f64 = 0.02;
+
+// A row of the table of refusals (0: none), the elected type, its six numbers as stored, and its score.
+#[repr(C)]
+pub struct Elected {
+    pub refusal: u32,
+    pub gm_type: u8,
+    pub params: [i32; 6],
+    pub score: f64,
+}
+
+// ---- errors
+
+fn identity_params() -> [i32; 6]
+    ensures { λ r. ⌜ r ≡ identityParams ⌝ }
+{
+    [0, 0, 65536, 0, 0, 65536]
+}
+
+// The score of a model, x first, over the first n samples of the numbers.
+fn error_of(params: [i32; 6], numbers: &[f64; 16384], n: usize) -> f64
+    requires { ⌜ n ≤ mostSamples ⌝ }
+    ensures { λ r. ⌜ r ≡ errorFrom itself params (samplesIn (now (numbers .entry)) n) ⌝ }
+{
+    let m = score::continuous_of_params(params);
+    let mut acc = 0.0;
+    let mut i = 0usize;
+    while i < n {
+        acc = score::score_step(m, acc, trim::sample_at(numbers, i));
+        i += 1;
+    }
+    let scored = score::score_of(acc, n);
+    scored.score
+}
+
+// ---- who is passed over
+
+fn is_identity(params: [i32; 6]) -> bool
+    ensures { λ r. ⌜ r ≡ isIdentity params ⌝ }
+{
+    !models::model_wrong(IDENTITY, 0, &params, 0)
+}
+
+// A TRANSLATION has no shear.
+fn invalid_shear(gm_type: u8, params: [i32; 6]) -> bool
+    ensures { λ r. ⌜ r ≡ invalidShear «gm_type» params ⌝ }
+{
+    if gm_type < ROTZOOM {
+        return false;
+    }
+    let shear = shear::setup_shear(gm_type, &params);
+    shear.valid == 0
+}
+
+fn unfit(gm_type: u8, params: [i32; 6]) -> bool
+    ensures { λ r. ⌜ r ≡ unfit «gm_type» params ⌝ }
+{
+    if is_identity(params) {
+        return true;
+    }
+    invalid_shear(gm_type, params)
+}
+
+// ---- who is held
+
+fn nobody(energy: f64) -> Elected
+    ensures { λ r. ⌜ r ≡ nobody energy ⌝ }
+{
+    let params = identity_params();
+    Elected {
+        refusal: 0,
+        gm_type: IDENTITY,
+        params,
+        score: energy,
+    }
+}
+
+// The answer of a call that is refused.
+pub fn stopped(number: u32) -> Elected
+    ensures { λ r. ⌜ r ≡ stopped number ⌝ }
+{
+    let params = [0i32; 6];
+    Elected {
+        refusal: number,
+        gm_type: IDENTITY,
+        params,
+        score: 0.0,
+    }
+}
+
+fn beats(err: f64, held: Elected) -> bool
+    ensures { λ r. ⌜ r ≡ beats err held ⌝ }
+{
+    if held.gm_type == IDENTITY {
+        return true;
+    }
+    if err <= CLASS_UPGRADE_RATIO * held.score {
+        return CLASS_UPGRADE_MIN_GAIN < held.score - err;
+    }
+    false
+}
+
+fn held_after(energy: f64, held: Elected, gm_type: u8, params: [i32; 6], err: f64) -> Elected
+    ensures { λ r. ⌜ r ≡ heldAfter energy held «gm_type» params err ⌝ }
+{
+    if (1.0 - ELECT_ENERGY_RATIO) * energy < err {
+        return held;
+    }
+    if beats(err, held) {
+        return Elected {
+            refusal: 0,
+            gm_type,
+            params,
+            score: err,
+        };
+    }
+    held
+}
+
+// A type's candidate takes its turn: its trimmed fit on the grid, unless that is refused or unfit.
+fn turn(
+    flag: u8,
+    numbers: &[f64; 16384],
+    n: usize,
+    energy: f64,
+    held: Elected,
+    gm_type: u8,
+) -> Elected
+    requires { ⌜ n ≤ mostSamples ⌝ }
+    ensures { λ r. ⌜ r ≡ turn itself flag (samplesIn (now (numbers .entry)) n) energy held «gm_type» ⌝ }
+{
+    if held.refusal != 0 {
+        return held;
+    }
+    let candidate = trim::trimmed_model(gm_type, flag, numbers, n);
+    if candidate.refusal == NOT_FINITE {
+        return stopped(NOT_FINITE);
+    }
+    if candidate.refusal != 0 {
+        return held;
+    }
+    let params = candidate.params;
+    if unfit(gm_type, params) {
+        return held;
+    }
+    held_after(energy, held, gm_type, params, error_of(params, numbers, n))
+}
+
+// ---- the election
+
+fn winner(flag: u8, numbers: &[f64; 16384], n: usize) -> Elected
+    requires { ⌜ n ≤ mostSamples ⌝ }
+    ensures { λ r. ⌜ r ≡ winnerFrom itself flag (samplesIn (now (numbers .entry)) n) ⌝ }
+{
+    let energy = error_of(identity_params(), numbers, n);
+    if energy < MIN_MOTION_ENERGY {
+        return nobody(energy);
+    }
+    let first = turn(flag, numbers, n, energy, nobody(energy), TRANSLATION);
+    let second = turn(flag, numbers, n, energy, first, ROTZOOM);
+    turn(flag, numbers, n, energy, second, AFFINE)
+}
+
+fn as_stored(held: Elected) -> Elected
+    ensures { λ r. ⌜ r ≡ asStored held ⌝ }
+{
+    let own = held.params;
+    let params = quantize::row_first(held.gm_type, own);
+    Elected {
+        refusal: held.refusal,
+        gm_type: held.gm_type,
+        params,
+        score: held.score,
+    }
+}
+
+// ---- the calls
+
+fn elect_refusal(flag: u8, samples: usize) -> u32
+    ensures { λ r. ⌜ r ≡ electRefusal flag samples ⌝ }
+{
+    let first = fit::list_refusal(samples);
+    if first != 0 {
+        return first;
+    }
+    if flag > 1 {
+        return NO_SUCH_CODE;
+    }
+    0
+}
+
+// Over the first n samples of the numbers.
+pub fn elected_in(flag: u8, numbers: &[f64; 16384], n: usize) -> Elected
+    ensures { λ r. ⌜ r ≡ electedFrom itself flag (samplesIn (now (numbers .entry)) n) ⌝ }
+{
+    let refusal = elect_refusal(flag, n);
+    if refusal != 0 {
+        return stopped(refusal);
+    }
+    as_stored(winner(flag, numbers, n))
+}
+
+// Over sample words.
+pub fn elect(flag: u8, words: &[u32]) -> Elected
+    ensures { λ r. ⌜ r ≡ electedFrom sampleOf flag (now (words .entry)) ⌝ }
+{
+    let mut numbers = [0.0f64; 16384];
+    trim::unpack(words, &mut numbers);
+    elected_in(flag, &numbers, words.len())
+}

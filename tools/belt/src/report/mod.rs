@@ -1,0 +1,4 @@
+//! What was measured, in words (`words`) and for programs (`json`).
+
+pub mod json;
+pub mod words;
