@@ -73,21 +73,5 @@ returns c =
 pub word-at-spec : {M : Type 1} → statement M
 word-at-spec =
     tie.close
-    (tie.spec
-    (search needs)
-    (search needs)
-    coarse-requires
-    (search needs)
-    (search needs)
-    (search needs)
-    (search needs)
-    (search needs)
-    (search needs)
-    fine-requires
-    cast-word-of
-    cast-word-of-2
-    (search needs)
-    (search needs)
-    word-of-requires
-    add-rows
-    returns)
+    (tie.spec (search needs) (search needs) coarse-requires (search needs) (search needs) (search needs) (search needs) (search needs) (search needs)
+    fine-requires cast-word-of cast-word-of-2 (search needs) (search needs) word-of-requires add-rows returns)
