@@ -4,7 +4,7 @@
 // its header reads as, in pels, zoom, degrees and slide, how many samples agree, the score and the bits;
 // then what is stored: the header's bytes and the blocks as the list program prints them; last, whether
 // all of it is right.
-ghost use Prim.Native.Nat.{_≤_, _<_};
+ghost use Prim.Native.Nat.{_<_};
 use job::Report;
 use job::Settings;
 use libc::STDOUT_FILENO;
@@ -435,12 +435,6 @@ fn verdict(is_right: bool) {
     print(b"verdict: WRONG\n\n");
 }
 
-fn least(a: usize, b: usize) -> usize
-    ensures { λ r. ⌜ (r ≤ a) × (r ≤ b) ⌝ }
-{
-    if a < b { a } else { b }
-}
-
 fn finish(
     gm_type: u8,
     r: Report,
@@ -467,7 +461,7 @@ fn finish(
     print_motion(b"measured:", measured);
     print_motion(b"header read:", stored);
     print_report(r, agreeing(measured, words));
-    let used = least((least(r.bits, MOST_BITS) + 7) / 8, header.len());
+    let used = replay::least((replay::least(r.bits, MOST_BITS) + 7) / 8, header.len());
     print_bytes(&header[0..used]);
     print_block(blocks);
     verdict(

@@ -133,3 +133,26 @@ pub fn print_count(name: &[u8], tried: u64, failed: u64) {
     io::print_decimal(STDOUT_FILENO, failed);
     io::write_all(STDOUT_FILENO, b" failed\n");
 }
+
+// ---- numbers of a list, and answers that hold none
+
+// Signed numbers as the list has them.
+pub fn next_numbers(list: i32, numbers: &mut [i32]) {
+    let mut i = 0;
+    while i < numbers.len() {
+        numbers[i] = signed(next_word(list));
+        i += 1;
+    }
+}
+
+// Every type is 0, as a refused call leaves them.
+pub fn types_zero(types: &[u8]) -> bool {
+    let mut i = 0;
+    while i < types.len() {
+        if types[i] != 0 {
+            return false;
+        }
+        i += 1;
+    }
+    true
+}

@@ -1,11 +1,11 @@
--- `worked_job::next_numbers`: each turn stores one number, and the counter rises to the slice's length. Assumes nothing.
+-- `replay::next_numbers`: each turn stores one number, and the counter rises to the slice's length. Assumes nothing.
 use Prim.Native.Nat.{_≤_, _-_}
 use mathlib.Core.Path.{_≡_, refl}
 use native.Mathlib.Omega.{arith}
 use lib.ListN.{length, length-set}
 use borrow.Author.Needs.{needs}
-use Rattle.worked_job.proofs.next_numbers.Statement.{statement}
-use Rattle.worked_job.proofs.next_numbers.Tie as tie
+use Rattle.replay.proofs.next_numbers.Statement.{statement}
+use Rattle.replay.proofs.next_numbers.Tie as tie
 
 abbrev Inv-loop : tie.InvT-loop
 Inv-loop list numbers₀ i₀ numbers i = (i ≤ length numbers₀) × (length numbers ≡ length numbers₀)
