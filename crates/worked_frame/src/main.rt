@@ -65,11 +65,7 @@ fn identity() -> [i32; 43]
     ensures { λ r. ⌜ 43 ≡ length r ⌝ }
 {
     let mut numbers = [0i32; 43];
-    let mut i = 0usize;
-    while i < 43 {
-        numbers[i] = centre_of(i);
-        i += 1;
-    }
+    replay::fill_identity(&mut numbers);
     numbers
 }
 

@@ -314,11 +314,7 @@ fn centre_of(slot: usize) -> u32 {
 
 fn identity() -> [i32; 42] {
     let mut numbers = [0i32; 42];
-    let mut i = 0usize;
-    while i < 42 {
-        numbers[i] = replay::signed(centre_of(i));
-        i += 1;
-    }
+    replay::fill_identity(&mut numbers);
     numbers
 }
 
