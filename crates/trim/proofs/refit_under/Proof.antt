@@ -23,10 +23,12 @@ returns c =
     let a = c .before .before .before .before .before .before .args in
     let kept = under (a .squares .now) (a .limit) (a .n) in
     let read = sampleAt (a .numbers .now) in
-    let begun = c .before .before .before .before .refit-begin .result in
+    let begin = c .before .before .before .before .refit-begin in
+    let begun = begin .result in
+    let sums = λ (t : Refitting). fold (reading (refitStep (t .m)) read) kept (t .sums) in
     c .refit-ends .ensures
     ∙ ap (λ (s : TranslationSums). refittingEnds (refittingOf (a .fitted) (a .flag) begun s) (a .used)) (c .before .left-under .ensures)
-    ∙ ap (λ (t : Refitting). refittingEnds (refittingOf (a .fitted) (a .flag) t (fold (reading (refitStep (t .m)) read) kept (t .sums))) (a .used)) (c .before .before .before .before .refit-begin .ensures)
+    ∙ ap (λ (t : Refitting). refittingEnds (refittingOf (a .fitted) (a .flag) t (sums t)) (a .used)) (begin .ensures)
     ∙ ap (λ (t : Refitting). refittingEnds t (a .used)) (sym (sums-apart read kept (refittingBegun (a .fitted) (a .flag))))
     ∙ ap (λ (k : ℕ). refittingEnds (fold (reading refittingStep read) kept (refittingBegun (a .fitted) (a .flag))) k) (c .before .before .before .before .before .before .pre .counted)
     ∙ walk-ends read (a .fitted) (a .flag) kept
