@@ -88,7 +88,8 @@ returns-3 c =
     let count = c .before .before .before .before .count-under in
     rw (c .cut-of2 .ensures)
     (fitted-cuts (a .numbers .now) (a .gm-type) (a .n) (a .squares .now) (a .first) (s .pre)
-    finite (limit .result) (limit .ensures) (count .result) (count .ensures) (omega (arith, c .before .before .if2 .left, c .before .before .before .least-of .ensures)) (c .before .fit-under .result) (c .before .fit-under .ensures))
+    finite (limit .result) (limit .ensures) (count .result) (count .ensures)
+    (omega (arith, c .before .before .if2 .left, c .before .before .before .least-of .ensures)) (c .before .fit-under .result) (c .before .fit-under .ensures))
 
 pub second-spec : {M : Type 1} → statement M
 second-spec =
