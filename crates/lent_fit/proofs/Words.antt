@@ -8,12 +8,11 @@ use lib.ListN.{length-map}
 use Rattle.laws.specs.Call.{answered}
 use Rattle.sample.specs.Sample.{sampleOf}
 use Rattle.fit.specs.declared.Fitted.{Fitted}
-use Rattle.fit.specs.Sums.{Summing}
+use Rattle.fit.specs.Sums.{Summing, itself}
 use Rattle.fit.specs.Fitted.{typeOf, translationBy, rotZoomBy, affineBy, translationFrom, rotZoomFrom, affineFrom, translationFit, rotZoomFit, affineFit}
 use Rattle.fit.proofs.SameSamples.{fold-map, by-samples}
 use Rattle.score.specs.Score.{continuousModel, scoreStep, scored, meanSqResidual}
 use Rattle.quantize.specs.Quantize.{linearOf, refitBy, refittedFrom, paramsOf, paramsFrom, quantizeRefusal, quantizedAs, refusedModel, quantizedFrom, quantizedModel}
-use Rattle.lent_fit.specs.Samples.{itself}
 
 module _ (ws : List ℕ) where
   pub translation-of-words : translationFrom itself (map sampleOf ws) ≡ translationFit ws

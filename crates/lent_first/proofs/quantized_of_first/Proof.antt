@@ -6,9 +6,9 @@ use lib.Dec.{lit<}
 use denote.Struct.Laws as LL
 use denote.Triple.Spec.{tripleOf}
 use denote.Triple.Table.{entered, cited}
+use Rattle.fit.specs.Sums.{itself}
 use Rattle.fit_numbers.specs.Numbers.{fittedOf}
 use Rattle.quantize.specs.Quantize.{quantizedFrom}
-use Rattle.lent_fit.specs.Samples.{itself}
 use Rattle.lent_first.proofs.OfFirstWith.{meets}
 use Rattle.lent_fit.proofs.ToQuantize as A
 use Rattle.lent_fit.proofs.ToQuantize.Laws as A′

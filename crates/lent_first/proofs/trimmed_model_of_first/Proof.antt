@@ -6,8 +6,8 @@ use lib.Dec.{lit<}
 use denote.Struct.Laws as LL
 use denote.Triple.Spec.{tripleOf}
 use denote.Triple.Table.{entered, cited}
+use Rattle.fit.specs.Sums.{itself}
 use Rattle.trim.specs.Trim.{trimmedModelFrom}
-use Rattle.lent_fit.specs.Samples.{itself}
 use Rattle.lent_first.proofs.OfFirstWith.{meets}
 use Rattle.lent_trim.proofs.ToTrim as A
 use Rattle.lent_trim.proofs.ToTrim.Laws as A′

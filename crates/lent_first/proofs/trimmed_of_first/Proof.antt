@@ -9,9 +9,9 @@ use denote.Builtin.{u8}
 use denote.Plain.{uint-makes, uint-tells, uint-lawful}
 use denote.Triple.Spec.{tripleOf}
 use denote.Triple.Table.{entered, cited}
+use Rattle.fit.specs.Sums.{itself}
 use Rattle.trim.specs.Trim.{trimmedFrom}
 use Rattle.trim_numbers.specs.Answer.{answerOf}
-use Rattle.lent_fit.specs.Samples.{itself}
 use Rattle.lent_first.proofs.OfFirstWith.{meets}
 use Rattle.trim_numbers.proofs.TrimmedAnswer as R
 use Rattle.trim_numbers.proofs.TrimmedAnswer.Laws as R′

@@ -14,11 +14,10 @@ use mathlib.Core.List.{List}
 use lib.ListN.{length}
 use Rattle.sample.specs.declared.MotionSample.{MotionSample}
 use Rattle.fit.specs.declared.AffineSums.{AffineSums}
-use Rattle.fit.specs.Sums.{noSums, countAs, affineTotals}
+use Rattle.fit.specs.Sums.{noSums, countAs, affineTotals, itself}
 use Rattle.fit.specs.Fitted.{fitAnswer, affineOf, affineFrom}
 use Rattle.fit.proofs.Sums.{affine-sums}
 use Rattle.fit_numbers.specs.Numbers.{numbersOf}
-use Rattle.lent_fit.specs.Samples.{itself}
 use Rattle.lent_fit.proofs.Taken.{taken-few, fit-answered}
 use Rattle.fit.specs.Inner.{taken, affineStep}
 use Rattle.lent_fit.proofs.Answers.{known0, known1, known2}

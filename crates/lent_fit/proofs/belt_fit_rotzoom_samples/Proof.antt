@@ -14,11 +14,10 @@ use mathlib.Core.List.{List}
 use lib.ListN.{length}
 use Rattle.sample.specs.declared.MotionSample.{MotionSample}
 use Rattle.fit.specs.declared.RotZoomSums.{RotZoomSums}
-use Rattle.fit.specs.Sums.{noSums, countAs, rotZoomTotals}
+use Rattle.fit.specs.Sums.{noSums, countAs, rotZoomTotals, itself}
 use Rattle.fit.specs.Fitted.{fitAnswer, rotZoomOf, rotZoomFrom}
 use Rattle.fit.proofs.Sums.{rotZoom-sums}
 use Rattle.fit_numbers.specs.Numbers.{numbersOf}
-use Rattle.lent_fit.specs.Samples.{itself}
 use Rattle.lent_fit.proofs.Taken.{taken-few, fit-answered}
 use Rattle.fit.specs.Inner.{taken, rotZoomStep}
 use Rattle.lent_fit.proofs.Answers.{known0, known1, known2}

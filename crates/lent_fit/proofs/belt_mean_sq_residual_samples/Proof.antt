@@ -10,9 +10,9 @@ use denote.Struct.Laws as LL
 use denote.Triple.Spec.{tripleOf}
 use denote.Triple.Table.{entered, cited}
 use Rattle.fit.specs.Inner.{taken}
+use Rattle.fit.specs.Sums.{itself}
 use Rattle.score.specs.Score.{continuousModel, scoreOf, scored}
 use Rattle.score.specs.Inner.{scoringStep}
-use Rattle.lent_fit.specs.Samples.{itself}
 use Rattle.lent_fit.specs.Inner.{scoringOf}
 use Rattle.lent_fit.proofs.Scored.{score-answered}
 use Rattle.lent_fit.proofs.Taken.{taken-few}

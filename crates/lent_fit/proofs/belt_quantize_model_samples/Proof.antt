@@ -10,10 +10,10 @@ use denote.Struct.Laws as LL
 use denote.Triple.Spec.{tripleOf}
 use denote.Triple.Table.{entered, cited}
 use Rattle.fit.specs.Inner.{taken}
+use Rattle.fit.specs.Sums.{itself}
 use Rattle.fit_numbers.specs.Numbers.{fittedOf}
 use Rattle.quantize.specs.Quantize.{quantizedFrom}
 use Rattle.quantize.specs.Inner.{refittingStep, refittingEnds}
-use Rattle.lent_fit.specs.Samples.{itself}
 use Rattle.lent_fit.specs.Inner.{refittingOf}
 use Rattle.lent_fit.proofs.Quantized.{quantize-answered}
 use Rattle.lent_fit.proofs.Taken.{taken-few}

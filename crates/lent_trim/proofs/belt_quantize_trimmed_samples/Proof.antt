@@ -10,8 +10,9 @@ use denote.Struct.Laws as LL
 use denote.Triple.Spec.{tripleOf}
 use denote.Triple.Table.{entered, cited}
 use Rattle.fit.specs.Inner.{taken}
+use Rattle.fit.specs.Sums.{itself}
 use Rattle.trim.specs.Trim.{trimmedModelFrom}
-use Rattle.trim.specs.Inner.{itself, mostNumbers, samplesIn, stored}
+use Rattle.trim.specs.Inner.{mostNumbers, samplesIn, stored}
 use Rattle.lent_fit.proofs.Taken.{taken-few}
 use Rattle.lent_fit.proofs.Answers.{known1}
 use Rattle.lent_trim.proofs.Walk.{meets}

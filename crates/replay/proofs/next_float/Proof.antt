@@ -1,9 +1,9 @@
--- `worked_elect::next_float`: bits up to those of infinity, but for the sign, are a float's.
+-- `replay::next_float`: bits up to those of infinity, but for the sign, are a float's.
 -- Assumes nothing.
-use Rattle.worked_elect.proofs.Numbers.{up-to-infinity}
+use Rattle.replay.proofs.Numbers.{up-to-infinity}
 use borrow.Author.Needs.{needs}
-use Rattle.worked_elect.proofs.next_float.Statement.{statement}
-use Rattle.worked_elect.proofs.next_float.Tie as tie
+use Rattle.replay.proofs.next_float.Statement.{statement}
+use Rattle.replay.proofs.next_float.Tie as tie
 
 float-from-bits-result : tie.Need-float-from-bits-result
 float-from-bits-result c = up-to-infinity (c .before .next-bits .result) (c .if1 .left)

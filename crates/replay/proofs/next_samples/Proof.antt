@@ -1,9 +1,9 @@
--- `worked_elect::next_samples`: the index stays within the array.
+-- `replay::next_samples`: the index stays within the array.
 -- Assumes nothing.
 use Prim.Native.Nat.{_-_, _≤_}
 use borrow.Author.Needs.{needs}
-use Rattle.worked_elect.proofs.next_samples.Statement.{statement}
-use Rattle.worked_elect.proofs.next_samples.Tie as tie
+use Rattle.replay.proofs.next_samples.Statement.{statement}
+use Rattle.replay.proofs.next_samples.Tie as tie
 
 abbrev Inv-loop : tie.InvT-loop
 Inv-loop list written samples₀ i₀ samples i = i ≤ 4097

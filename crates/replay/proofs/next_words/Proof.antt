@@ -1,20 +1,20 @@
--- `worked_fit::copy`: writing a word keeps the length.
+-- `replay::next_words`: writing a word keeps the length.
 -- Assumes nothing.
 use lib.ListN.{length}
 use Prim.Native.Nat.{_-_}
 use mathlib.Core.Path.{_≡_}
 use borrow.Author.Needs.{needs}
-use Rattle.worked_fit.proofs.copy.Statement.{statement}
-use Rattle.worked_fit.proofs.copy.Tie as tie
+use Rattle.replay.proofs.next_words.Statement.{statement}
+use Rattle.replay.proofs.next_words.Tie as tie
 
 abbrev Inv-loop : tie.InvT-loop
-Inv-loop words₀ list i₀ words i = length words ≡ length words₀
+Inv-loop list words₀ i₀ words i = length words ≡ length words₀
 
 abbrev μ-loop : tie.MeasureT-loop
-μ-loop words₀ list i₀ words i = length words₀ - i
+μ-loop list words₀ i₀ words i = length words₀ - i
 
-pub copy-spec : {M : Type 1} → statement M
-copy-spec =
+pub next-words-spec : {M : Type 1} → statement M
+next-words-spec =
     tie.close
     (tie.spec
     Inv-loop

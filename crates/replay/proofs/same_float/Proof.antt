@@ -1,9 +1,9 @@
--- `worked_elect::same_float`: a float that equals itself has bits.
+-- `replay::same_float`: a float that equals itself has bits.
 -- Assumes nothing.
-use Rattle.worked_elect.proofs.Numbers.{equals-itself}
+use Rattle.replay.proofs.Numbers.{equals-itself}
 use borrow.Author.Needs.{needs}
-use Rattle.worked_elect.proofs.same_float.Statement.{statement}
-use Rattle.worked_elect.proofs.same_float.Tie as tie
+use Rattle.replay.proofs.same_float.Statement.{statement}
+use Rattle.replay.proofs.same_float.Tie as tie
 
 float-to-bits-result : tie.Need-float-to-bits-result
 float-to-bits-result c = equals-itself (c .before .args .x) (c .if1 .left)
