@@ -4,9 +4,11 @@ use Prim.Native.Nat.{ℕ, _+_, _*_, _^_, _≤_, _<_}
 use mathlib.Core.List.{List}
 use mathlib.Core.Path.{_≡_}
 use lib.ListN.{length}
+use Rattle.bits.specs.declared.Field.{Field}
 use Rattle.bits.specs.declared.Read.{Read}
 use Rattle.bits.specs.declared.NsWidth.{NsWidth}
 use Rattle.bits.specs.Bits.{putBits}
+use Rattle.bits.specs.Fields.{fieldBits}
 use Rattle.bits.specs.Ns.{bitLength, shortCodes}
 
 -- n bits from position j on lie in the buffer, and their positions are numbers of the machine
@@ -18,6 +20,11 @@ pub record Room (l : List ℕ) (j n : ℕ) : Type 0 where
 pub record Wrote (l : List ℕ) (j : ℕ) (bs l' : List ℕ) (j' : ℕ) : Type 0 where
   pub at : j' ≡ j + length bs
   pub buffer : l' ≡ putBits l j bs
+
+-- the bits bs as a field, whose number has no bit above its width
+pub record FieldIs (r : Field) (bs : List ℕ) : Type 0 where
+  pub bits : fieldBits (r .n) (r .value) ≡ bs
+  pub low : r .value < 2 ^ r .n
 
 -- a reading gave the number v, and the cursor behind it stands at j
 pub record ReadIs (r : Read) (v j : ℕ) : Type 0 where

@@ -4,13 +4,14 @@
 // encoder/frame_obu.rs. `specs/Reading` also states what the standard reads.
 ghost use mathlib.Core.Path.{_≡_};
 ghost use Prim.Native.Nat.{_+_, _≤_, _<_};
-ghost use lib.ListN.{length};
+ghost use lib.ListN.{length, take};
+ghost use Rattle.laws.specs.Buffer.{onto};
 ghost use Rattle.laws.specs.Refusal.{judge};
 ghost use Rattle.bits.specs.Inner.{Room, Wrote};
 ghost use Rattle.grid.specs.Inner.{PriorIn};
 ghost use Rattle.header.specs.Coefficient.{coefficientBits};
 ghost use Rattle.header.specs.Count.{slotCount, modelCount, headerCount};
-ghost use Rattle.header.specs.Inner.{ModelReady, Seven, HeaderReady, TypeFieldIs};
+ghost use Rattle.header.specs.Inner.{ModelReady, Seven, HeaderReady, TypeFieldIs, pageOf, Begins};
 ghost use Rattle.header.specs.Writing.{slotBits, typeBits, modelBits, referenceBits, headerBits, bitsPlaced, written, headerAfter};
 ghost use Rattle.header.specs.Writing.{lengthsWrong, bytesFor, tooShort, codeRows, modelRows, roomRows, writeRefusal};
 use bits::BITS_OF_A_BYTE;
@@ -96,6 +97,9 @@ fn write_type(cursor: BitCursor, header: &mut [u8], gm_type: u8) -> BitCursor
     requires { ⌜ Room (now header) (cursor .at) (length (typeBits «gm_type»)) ⌝ }
     ensures { λ r. ⌜ Wrote (now (header .entry)) (cursor .at) (typeBits «gm_type») (now (header .exit)) (r .at) ⌝ }
 {
+    if gm_type == IDENTITY {
+        return cursor.write_bit(header, 0);
+    }
     let field = type_field(gm_type);
     cursor.write_bits(header, field.n, field.value)
 }
@@ -119,7 +123,7 @@ fn write_slot(
     write_global_param(cursor, header, gm_type, flag, slot, value, from)
 }
 
-// The coefficients of the model whose six numbers begin at `first`, in the standard's order.
+// The coefficients of the model whose six numbers begin at `first`, in the standard's order: `grid::slots_of`.
 fn write_model(
     cursor: BitCursor,
     header: &mut [u8],
@@ -325,7 +329,52 @@ fn refusal_of(
     room_refusal(start, types, params, flag, prior, room)
 }
 
+// A header's bytes before its bits are in them: zeros, but for the first.
+fn page_of(first: u8) -> [u8; 125]
+    ensures { λ r. ⌜ r ≡ pageOf first ⌝ }
+{
+    let mut page = [0u8; 125];
+    page[0] = first;
+    page
+}
+
+// The first bytes of the page go to the header's front; none of the header is read.
+fn copy_bytes(page: &[u8], count: usize, header: &mut [u8])
+    requires { ⌜ (count ≤ length (now page)) × (count ≤ length (now header)) ⌝ }
+    ensures { λ _. ⌜ now (header .exit) ≡ onto (take count (now (page .entry))) (now (header .entry)) ⌝ }
+{
+    let mut i = 0;
+    while i < count {
+        header[i] = page[i];
+        i += 1;
+    }
+}
+
+// The bits from bit `start` on, then zeros up to the end of the last byte, over a first byte whose bits
+// before the start are those of `before`; how many bits they are without the zeros.
+fn write_after(
+    before: u8,
+    start: usize,
+    types: &[u8],
+    params: &[i32],
+    flag: u8,
+    prior: &[i32],
+    header: &mut [u8],
+) -> usize
+    requires { ⌜ HeaderReady (now types) (now params) (now prior) × Begins start before (now header) × (bytesFor start (length (headerBits (now types) (now params) flag (now prior))) ≤ length (now header)) ⌝ }
+    ensures { λ r. ⌜ (r ≡ length (headerBits (now (types .entry)) (now (params .entry)) flag (now (prior .entry))))
+        × (now (header .exit) ≡ bitsPlaced start (headerBits (now (types .entry)) (now (params .entry)) flag (now (prior .entry))) (now (header .entry))) ⌝ }
+{
+    let mut page = page_of(before);
+    let end = write_references(BitCursor::new(start), &mut page, types, flag, params, prior);
+    let bits = end.at - start;
+    let last = end.byte_align(&mut page);
+    copy_bytes(&page, last.at / BITS_OF_A_BYTE, header);
+    bits
+}
+
 // The bits from bit `start` on, then zeros up to the end of the last byte; how many bits they are without the zeros.
+// They are put together apart: of the header only the bits before the start are looked at.
 fn write_header(
     start: usize,
     types: &[u8],
@@ -338,10 +387,10 @@ fn write_header(
     ensures { λ r. ⌜ (r ≡ length (headerBits (now (types .entry)) (now (params .entry)) flag (now (prior .entry))))
         × (now (header .exit) ≡ bitsPlaced start (headerBits (now (types .entry)) (now (params .entry)) flag (now (prior .entry))) (now (header .entry))) ⌝ }
 {
-    let end = write_references(BitCursor::new(start), header, types, flag, params, prior);
-    let bits = end.at - start;
-    end.byte_align(header);
-    bits
+    if start == 0 {
+        return write_after(0, start, types, params, flag, prior, header);
+    }
+    write_after(header[0], start, types, params, flag, prior, header)
 }
 
 // Seven types and models in rising order of reference, the flag, a prior for each number, and the bit

@@ -3,18 +3,17 @@
 // 5.9.26 to 5.9.29 of the standard; `recenter` to `encode_unsigned_subexp_with_ref` of
 // encoder/frame_obu.rs, `inverse_recenter` to `decode_unsigned_subexp_with_ref` of
 // uncompressed_header_tail.rs. Symbols are counted from 0: low is 0, and mx is S.
-ghost use mathlib.Core.List.{_∷_};
 ghost use mathlib.Core.Path.{_≡_};
 ghost use Prim.Native.Nat.{_+_, _*_, _^_, _≤_, _<_};
-ghost use lib.ListN.{length, replicate};
+ghost use lib.ListN.{length};
 ghost use Rattle.bits.specs.Bits.{bitAt};
-ghost use Rattle.bits.specs.Fields.{fieldBits};
-ghost use Rattle.bits.specs.Inner.{Room, Wrote, ReadIs};
+ghost use Rattle.bits.specs.Inner.{Room, Wrote, FieldIs, ReadIs};
 ghost use Rattle.subexp.specs.Recenter.{recenter, inverseRecenter, codeOf, symbolOf};
 ghost use Rattle.subexp.specs.Inner.{rungBits, rungStart, rungStep, lastRung, climbs, Rung, OnRung, rungCode, ClimbIs};
 ghost use Rattle.subexp.specs.Ladder.{subexp, subexpBits};
 ghost use Rattle.subexp.specs.Coefficient.{symbol, symbolBits};
 use bits::BitCursor;
+use bits::Field;
 use bits::Read;
 
 // k of clause 5.9.28: the bits that count the numbers of the first rung.
@@ -106,16 +105,35 @@ fn rung_of(num_syms: u32, v: u32) -> u32
     i
 }
 
-// How many bits the code of v takes on rung i.
-fn rung_code_length(num_syms: u32, v: u32, i: u32) -> u32
+// The code of v on rung i, as one field: on the last rung the ns code, on the others a subexp_more_bits
+// of 0 and subexp_bits.
+fn rung_field(num_syms: u32, v: u32, i: u32) -> Field
     requires { ⌜ OnRung «num_syms» v i ⌝ }
-    ensures { λ r. ⌜ (r ≡ length (rungCode «num_syms» v i)) × (r ≤ 32) ⌝ }
+    ensures { λ r. ⌜ FieldIs r (rungCode «num_syms» v i) × (r .n ≤ 19) ⌝ }
 {
     let mk = rung_start(i);
     if is_last(num_syms, i) {
-        return bits::ns_length(num_syms - mk, v - mk);
+        return bits::ns_field(num_syms - mk, v - mk);
     }
-    1 + rung_bits(i)
+    let b2 = rung_bits(i);
+    Field {
+        n: 1 + b2,
+        value: (v - mk) % bits::power(b2),
+    }
+}
+
+// The code of v as one field: as many subexp_more_bits of 1 as rungs are passed, then the code on its rung.
+fn subexp_field(num_syms: u32, v: u32) -> Field
+    requires { ⌜ (v < «num_syms») × («num_syms» ≤ 65536) ⌝ }
+    ensures { λ r. ⌜ FieldIs r (subexpBits «num_syms» v) × (r .n ≤ 32) ⌝ }
+{
+    let i = rung_of(num_syms, v);
+    let code = rung_field(num_syms, v, i);
+    let ones = bits::power(i) - 1;
+    Field {
+        n: i + code.n,
+        value: ones * bits::power(code.n) + code.value,
+    }
 }
 
 // How many bits the code of v takes.
@@ -123,47 +141,16 @@ pub fn subexp_length(num_syms: u32, v: u32) -> u32
     requires { ⌜ (v < «num_syms») × («num_syms» ≤ 65536) ⌝ }
     ensures { λ r. ⌜ (r ≡ length (subexpBits «num_syms» v)) × (r ≤ 64) ⌝ }
 {
-    let i = rung_of(num_syms, v);
-    i + rung_code_length(num_syms, v, i)
-}
-
-// As many subexp_more_bits of 1.
-fn write_climb(cursor: BitCursor, buffer: &mut [u8], i: u32) -> BitCursor
-    requires { ⌜ (i ≤ 16) × Room (now buffer) (cursor .at) i ⌝ }
-    ensures { λ r. ⌜ Wrote (now (buffer .entry)) (cursor .at) (replicate i 1) (now (buffer .exit)) (r .at) ⌝ }
-{
-    cursor.write_bits(buffer, i, bits::power(i) - 1)
-}
-
-// A subexp_more_bits of 0, then subexp_bits.
-fn write_stop(cursor: BitCursor, buffer: &mut [u8], b2: u32, subexp_bits: u32) -> BitCursor
-    requires { ⌜ (b2 ≤ 18) × Room (now buffer) (cursor .at) (1 + b2) ⌝ }
-    ensures { λ r. ⌜ Wrote (now (buffer .entry)) (cursor .at) (0 ∷ fieldBits b2 «subexp_bits») (now (buffer .exit)) (r .at) ⌝ }
-{
-    let stopped = cursor.write_bit(buffer, 0);
-    stopped.write_bits(buffer, b2, subexp_bits)
-}
-
-fn write_rung_code(cursor: BitCursor, buffer: &mut [u8], num_syms: u32, v: u32, i: u32) -> BitCursor
-    requires { ⌜ OnRung «num_syms» v i × Room (now buffer) (cursor .at) (length (rungCode «num_syms» v i)) ⌝ }
-    ensures { λ r. ⌜ Wrote (now (buffer .entry)) (cursor .at) (rungCode «num_syms» v i) (now (buffer .exit)) (r .at) ⌝ }
-{
-    let mk = rung_start(i);
-    let number = v - mk;
-    if is_last(num_syms, i) {
-        return cursor.write_ns(buffer, num_syms - mk, number);
-    }
-    let b2 = rung_bits(i);
-    write_stop(cursor, buffer, b2, number)
+    let field = subexp_field(num_syms, v);
+    field.n
 }
 
 pub fn encode_subexp(cursor: BitCursor, buffer: &mut [u8], num_syms: u32, v: u32) -> BitCursor
     requires { ⌜ (v < «num_syms») × («num_syms» ≤ 65536) × Room (now buffer) (cursor .at) (length (subexpBits «num_syms» v)) ⌝ }
     ensures { λ r. ⌜ Wrote (now (buffer .entry)) (cursor .at) (subexpBits «num_syms» v) (now (buffer .exit)) (r .at) ⌝ }
 {
-    let i = rung_of(num_syms, v);
-    let climbed = write_climb(cursor, buffer, i);
-    write_rung_code(climbed, buffer, num_syms, v, i)
+    let field = subexp_field(num_syms, v);
+    cursor.write_bits(buffer, field.n, field.value)
 }
 
 // The rung on which a code ends, whether that is the last one, and the cursor behind what was read
