@@ -155,8 +155,16 @@ fn byte_at(bytes: &[u8], at: usize) -> u64
     0
 }
 
-// Five bytes as a number, the first highest: a field of 32 bits lies in them, wherever in the first it begins.
-fn five_bytes(bytes: &[u8], first: usize) -> u64
+// A byte that is there.
+fn byte_in(bytes: &[u8], at: usize) -> u64
+    requires { ⌜ at < length (now bytes) ⌝ }
+    ensures { λ r. ⌜ (r ≡ field (bitAt (now (bytes .entry))) (8 * at) 8) × (r < 256) ⌝ }
+{
+    bytes[at] as u64
+}
+
+// Five bytes as a number, the first highest, with zeros past the end.
+fn five_padded(bytes: &[u8], first: usize) -> u64
     requires { ⌜ first + 5 < 2 ^ 64 ⌝ }
     ensures { λ r. ⌜ (r ≡ field (bitAt (now (bytes .entry))) (8 * first) 40) × (r < 2 ^ 40) ⌝ }
 {
@@ -165,6 +173,29 @@ fn five_bytes(bytes: &[u8], first: usize) -> u64
     let three = two * 256 + byte_at(bytes, first + 2);
     let four = three * 256 + byte_at(bytes, first + 3);
     four * 256 + byte_at(bytes, first + 4)
+}
+
+// The same where all five are there.
+fn five_inside(bytes: &[u8], first: usize) -> u64
+    requires { ⌜ first + 5 ≤ length (now bytes) ⌝ }
+    ensures { λ r. ⌜ (r ≡ field (bitAt (now (bytes .entry))) (8 * first) 40) × (r < 2 ^ 40) ⌝ }
+{
+    let one = byte_in(bytes, first);
+    let two = one * 256 + byte_in(bytes, first + 1);
+    let three = two * 256 + byte_in(bytes, first + 2);
+    let four = three * 256 + byte_in(bytes, first + 3);
+    four * 256 + byte_in(bytes, first + 4)
+}
+
+// The same: a field of 32 bits lies in them, wherever in the first it begins.
+fn five_bytes(bytes: &[u8], first: usize) -> u64
+    requires { ⌜ first + 5 < 2 ^ 64 ⌝ }
+    ensures { λ r. ⌜ (r ≡ field (bitAt (now (bytes .entry))) (8 * first) 40) × (r < 2 ^ 40) ⌝ }
+{
+    if first + 5 <= bytes.len() {
+        return five_inside(bytes, first);
+    }
+    five_padded(bytes, first)
 }
 
 // n bits of five bytes, from bit `used` on.
@@ -176,7 +207,7 @@ fn bits_inside(word: u64, used: u32, n: u32) -> u32
 }
 
 // The number of bits of n, FloorLog2(n) + 1.
-fn bit_length(n: u32) -> u32
+pub fn bit_length(n: u32) -> u32
     ensures { λ r. ⌜ (r ≡ bitLength n) × (r ≤ 32) ⌝ }
 {
     let mut x = n;

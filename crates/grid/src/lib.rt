@@ -185,6 +185,15 @@ fn lift(negative: bool, size: u64, middle: u64) -> u64
     }
 }
 
+// The same of a number that isn't taken apart: one sum.
+fn raised(num: i64, middle: u64) -> u64
+    requires { ⌜ (natAbs num ≤ middle) × (middle ≤ 4194304) ⌝ }
+    ensures is { λ r. ⌜ r ≡ natAbs (num +ℤ pos middle) ⌝ }
+    ensures small { λ r. ⌜ r ≤ 8388608 ⌝ }
+{
+    (num + middle as i64) as u64
+}
+
 // 2 ^ absBits steps: how far the codable numbers of a slot reach.
 fn reach_of(abs_bits: u32, prec_bits: u32) -> u64
     requires { ⌜ Row «abs_bits» «prec_bits» ⌝ }
@@ -210,12 +219,8 @@ fn place_among(abs_bits: u32, prec_bits: u32, round: u32, prior: i32) -> u32
     ensures { λ r. ⌜ r ≡ placeCode «abs_bits» «prec_bits» round prior ⌝ }
 {
     let num = from_centre(prior, round);
-    let lifted = lift(
-        is_negative(num),
-        magnitude(num),
-        reach_of(abs_bits, prec_bits),
-    );
-    (lifted / power_of_two(WARPEDMODEL_PREC_BITS - prec_bits)) as u32
+    let above = raised(num, reach_of(abs_bits, prec_bits));
+    (above / power_of_two(WARPEDMODEL_PREC_BITS - prec_bits)) as u32
 }
 
 // How far a symbol's number is from the centre.

@@ -9,7 +9,7 @@ ghost use lib.ListN.{length};
 ghost use Rattle.bits.specs.Bits.{bitAt};
 ghost use Rattle.bits.specs.Inner.{Room, Wrote, FieldIs, ReadIs};
 ghost use Rattle.subexp.specs.Recenter.{recenter, inverseRecenter, codeOf, symbolOf};
-ghost use Rattle.subexp.specs.Inner.{rungBits, rungStart, rungStep, lastRung, climbs, Rung, OnRung, rungCode, ClimbIs};
+ghost use Rattle.subexp.specs.Inner.{rungBits, rungStart, rungStep, lastRung, climbs, Rung, OnRung, rungCode, ClimbIs, LastIs};
 ghost use Rattle.subexp.specs.Ladder.{subexp, subexpBits};
 ghost use Rattle.subexp.specs.Coefficient.{symbol, symbolBits};
 use bits::BitCursor;
@@ -18,6 +18,13 @@ use bits::Read;
 
 // k of clause 5.9.28: the bits that count the numbers of the first rung.
 const SUBEXP_K: u32 = 3;
+
+// How many numbers the first rung has, and up to how many symbols it is the last.
+const FIRST_RUNG: u32 = 8;
+
+const FIRST_REACH: u32 = 24;
+
+const ALL_ONES: u32 = 4294967295;
 
 fn recenter(r: u32, v: u32) -> u32
     requires { ⌜ (r ≤ 65536) × (v ≤ 65536) ⌝ }
@@ -123,7 +130,7 @@ fn rung_field(num_syms: u32, v: u32, i: u32) -> Field
 }
 
 // The code of v as one field: as many subexp_more_bits of 1 as rungs are passed, then the code on its rung.
-fn subexp_field(num_syms: u32, v: u32) -> Field
+fn rungs_field(num_syms: u32, v: u32) -> Field
     requires { ⌜ (v < «num_syms») × («num_syms» ≤ 65536) ⌝ }
     ensures { λ r. ⌜ FieldIs r (subexpBits «num_syms» v) × (r .n ≤ 32) ⌝ }
 {
@@ -134,6 +141,19 @@ fn subexp_field(num_syms: u32, v: u32) -> Field
         n: i + code.n,
         value: ones * bits::power(code.n) + code.value,
     }
+}
+
+// The same. A number of the first rung, of more symbols than end there, is a subexp_more_bits of 0 and three bits.
+fn subexp_field(num_syms: u32, v: u32) -> Field
+    requires { ⌜ (v < «num_syms») × («num_syms» ≤ 65536) ⌝ }
+    ensures { λ r. ⌜ FieldIs r (subexpBits «num_syms» v) × (r .n ≤ 32) ⌝ }
+{
+    if v < FIRST_RUNG {
+        if FIRST_REACH < num_syms {
+            return Field { n: 4, value: v };
+        }
+    }
+    rungs_field(num_syms, v)
 }
 
 // How many bits the code of v takes.
@@ -161,29 +181,37 @@ struct RungRead {
     next: BitCursor,
 }
 
-// subexp_more_bits, up to the first that is 0 or to the last rung.
+// The rung on which every code ends that comes so far.
+fn last_rung(num_syms: u32) -> u32
+    requires { ⌜ (0 < «num_syms») × («num_syms» ≤ 65536) ⌝ }
+    ensures { λ r. ⌜ LastIs «num_syms» r ⌝ }
+{
+    if num_syms <= FIRST_REACH {
+        return 0;
+    }
+    bits::bit_length(num_syms - 1) - 4
+}
+
+// subexp_more_bits, up to the first that is 0 or to the last rung: the ones in front of the next 32 bits.
 fn climb(cursor: BitCursor, bytes: &[u8], num_syms: u32) -> RungRead
     requires { ⌜ (0 < «num_syms») × («num_syms» ≤ 65536) × (cursor .at + 64 < 2 ^ 64) ⌝ }
     ensures { λ r. ⌜ ClimbIs (bitAt (now (bytes .entry))) «num_syms» (cursor .at) r ⌝ }
 {
-    let mut i = 0u32;
-    let mut next = cursor;
-    while !is_last(num_syms, i) {
-        let subexp_more_bits = next.read_bit(bytes);
-        next = subexp_more_bits.next;
-        if subexp_more_bits.value == 0 {
-            return RungRead {
-                i,
-                last: false,
-                next,
-            };
-        }
-        i += 1;
+    let at = cursor.at;
+    let window = cursor.f(bytes, 32);
+    let ones = 32 - bits::bit_length(ALL_ONES - window.value);
+    let last = last_rung(num_syms);
+    if ones < last {
+        return RungRead {
+            i: ones,
+            last: false,
+            next: BitCursor::new(at + ones as usize + 1),
+        };
     }
     RungRead {
-        i,
+        i: last,
         last: true,
-        next,
+        next: BitCursor::new(at + last as usize),
     }
 }
 
@@ -199,7 +227,8 @@ fn from_start(read: Read, mk: u32) -> Read
     }
 }
 
-pub fn decode_subexp(cursor: BitCursor, bytes: &[u8], num_syms: u32) -> Read
+// The number of a code, by the rung that it ends on.
+fn rungs_read(cursor: BitCursor, bytes: &[u8], num_syms: u32) -> Read
     requires { ⌜ (0 < «num_syms») × («num_syms» ≤ 65536) × (cursor .at + 64 < 2 ^ 64) ⌝ }
     ensures { λ r. ⌜ ReadIs r (subexp (bitAt (now (bytes .entry))) (cursor .at) «num_syms» .value) (cursor .at + subexp (bitAt (now (bytes .entry))) (cursor .at) «num_syms» .bits) ⌝ }
 {
@@ -211,6 +240,21 @@ pub fn decode_subexp(cursor: BitCursor, bytes: &[u8], num_syms: u32) -> Read
         return from_start(next.ns(bytes, num_syms - mk), mk);
     }
     from_start(next.f(bytes, rung_bits(i)), mk)
+}
+
+// The same. Four bits below eight are a subexp_more_bits of 0 and a number of the first rung, of more symbols than end there.
+pub fn decode_subexp(cursor: BitCursor, bytes: &[u8], num_syms: u32) -> Read
+    requires { ⌜ (0 < «num_syms») × («num_syms» ≤ 65536) × (cursor .at + 64 < 2 ^ 64) ⌝ }
+    ensures { λ r. ⌜ ReadIs r (subexp (bitAt (now (bytes .entry))) (cursor .at) «num_syms» .value) (cursor .at + subexp (bitAt (now (bytes .entry))) (cursor .at) «num_syms» .bits) ⌝ }
+{
+    if num_syms <= FIRST_REACH {
+        return rungs_read(cursor, bytes, num_syms);
+    }
+    let first = cursor.f(bytes, 4);
+    if first.value < FIRST_RUNG {
+        return first;
+    }
+    rungs_read(cursor, bytes, num_syms)
 }
 
 // The code number of v about r; from the other end where r is nearer to that.
