@@ -4,6 +4,7 @@ pub mod Buffer
 pub mod Fields
 pub mod Words
 pub mod Alike
+pub mod HeldBack
 pub mod BitLength
 pub mod Ns
 pub mod PowerOfTwo

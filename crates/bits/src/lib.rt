@@ -10,7 +10,7 @@ ghost use mathlib.Core.Path.{_≡_};
 ghost use Rattle.bits.specs.Bits.{bitAt, bitOf, withBit, putBits};
 ghost use Rattle.bits.specs.Fields.{field, fieldBits, padBits};
 ghost use Rattle.bits.specs.Ns.{ns, nsBits, bitLength};
-ghost use Rattle.bits.specs.Inner.{Room, Wrote, FieldIs, ReadIs, NsWidthIs};
+ghost use Rattle.bits.specs.Inner.{Room, Wrote, FieldIs, ReadIs, NsWidthIs, Ready, Put, heldBits};
 
 pub const BITS_OF_A_BYTE: usize = 8;
 
@@ -352,5 +352,56 @@ impl BitCursor {
             value: 2 * v.value - m + extra_bit.value,
             next: end,
         }
+    }
+}
+
+// A cursor that holds its last bits back: what comes next joins them while one field takes both.
+pub struct Pen {
+    pub at: usize,
+    pub held: Field,
+}
+
+impl Pen {
+    pub fn new(at: usize) -> Self
+        ensures { λ r. ⌜ (r .at ≡ at) × (r .held .n ≡ 0) × (r .held .value ≡ 0) ⌝ }
+    {
+        Self {
+            at,
+            held: Field { n: 0, value: 0 },
+        }
+    }
+
+    // The field's bits behind those that are held.
+    pub fn put(self, buffer: &mut [u8], field: Field) -> Pen
+        requires { ⌜ (field .n ≤ 32) × (field .value < 2 ^ field .n) × Ready (now buffer) self (field .n) ⌝ }
+        ensures { λ r. ⌜ Put (now (buffer .entry)) self (fieldBits (field .n) (field .value)) (now (buffer .exit)) r ⌝ }
+    {
+        let at = self.at;
+        let held = self.held;
+        let n = held.n + field.n;
+        if n <= 32 {
+            let both = held.value as u64 * wide_power(field.n) + field.value as u64;
+            return Pen {
+                at,
+                held: Field {
+                    n,
+                    value: both as u32,
+                },
+            };
+        }
+        let next = BitCursor { at }.write_bits(buffer, held.n, held.value);
+        Pen {
+            at: next.at,
+            held: field,
+        }
+    }
+
+    // What is held is written too.
+    pub fn lift(self, buffer: &mut [u8]) -> BitCursor
+        requires { ⌜ Ready (now buffer) self 0 ⌝ }
+        ensures { λ r. ⌜ Wrote (now (buffer .entry)) (self .at) (heldBits self) (now (buffer .exit)) (r .at) ⌝ }
+    {
+        let held = self.held;
+        BitCursor { at: self.at }.write_bits(buffer, held.n, held.value)
     }
 }

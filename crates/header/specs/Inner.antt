@@ -6,11 +6,9 @@ use mathlib.Core.Path.{_≡_}
 use mathlib.Core.List.{List}
 use lib.IntN.{ℤ}
 use lib.ListN.{length, getD, set, replicate}
-use Rattle.bits.specs.Fields.{fieldBits}
 use Rattle.grid.specs.Symbols.{priorOut}
 use Rattle.models.specs.Models.{typesOver, priorsOut}
-use Rattle.header.specs.Writing.{slotOf, typeBits}
-use Rattle.header.specs.declared.TypeField.{TypeField}
+use Rattle.header.specs.Writing.{slotOf}
 
 -- the six priors from `first` on are in range
 pub record ValidPrior (qs : List ℤ) (first : ℕ) : Type 0 where
@@ -32,11 +30,6 @@ pub record Seven (types : List ℕ) (ps qs : List ℤ) : Type 0 where
 pub record HeaderReady (types : List ℕ) (ps qs : List ℤ) : Type 0 where
   pub all : Seven types ps qs
   pub within : priorsOut qs ≡ false
-
--- the type bits as a field
-pub record TypeFieldIs (gmType : ℕ) (r : TypeField) : Type 0 where
-  pub bits : fieldBits (r .n) (r .value) ≡ typeBits gmType
-  pub few : r .n ≤ 3
 
 -- a page of zeros, but for its first byte
 abbrev pub pageOf : ℕ → List ℕ

@@ -7,13 +7,14 @@ ghost use mathlib.Core.Path.{_≡_};
 ghost use Prim.Native.Nat.{_+_, _*_, _^_, _≤_, _<_};
 ghost use lib.ListN.{length};
 ghost use Rattle.bits.specs.Bits.{bitAt};
-ghost use Rattle.bits.specs.Inner.{Room, Wrote, FieldIs, ReadIs};
+ghost use Rattle.bits.specs.Inner.{Ready, Put, FieldIs, ReadIs};
 ghost use Rattle.subexp.specs.Recenter.{recenter, inverseRecenter, codeOf, symbolOf};
 ghost use Rattle.subexp.specs.Inner.{rungBits, rungStart, rungStep, lastRung, climbs, Rung, OnRung, rungCode, ClimbIs, LastIs};
 ghost use Rattle.subexp.specs.Ladder.{subexp, subexpBits};
 ghost use Rattle.subexp.specs.Coefficient.{symbol, symbolBits};
 use bits::BitCursor;
 use bits::Field;
+use bits::Pen;
 use bits::Read;
 
 // k of clause 5.9.28: the bits that count the numbers of the first rung.
@@ -165,12 +166,11 @@ pub fn subexp_length(num_syms: u32, v: u32) -> u32
     field.n
 }
 
-pub fn encode_subexp(cursor: BitCursor, buffer: &mut [u8], num_syms: u32, v: u32) -> BitCursor
-    requires { ⌜ (v < «num_syms») × («num_syms» ≤ 65536) × Room (now buffer) (cursor .at) (length (subexpBits «num_syms» v)) ⌝ }
-    ensures { λ r. ⌜ Wrote (now (buffer .entry)) (cursor .at) (subexpBits «num_syms» v) (now (buffer .exit)) (r .at) ⌝ }
+pub fn encode_subexp(pen: Pen, buffer: &mut [u8], num_syms: u32, v: u32) -> Pen
+    requires { ⌜ (v < «num_syms») × («num_syms» ≤ 65536) × Ready (now buffer) pen (length (subexpBits «num_syms» v)) ⌝ }
+    ensures { λ r. ⌜ Put (now (buffer .entry)) pen (subexpBits «num_syms» v) (now (buffer .exit)) r ⌝ }
 {
-    let field = subexp_field(num_syms, v);
-    cursor.write_bits(buffer, field.n, field.value)
+    pen.put(buffer, subexp_field(num_syms, v))
 }
 
 // The rung on which a code ends, whether that is the last one, and the cursor behind what was read
@@ -287,18 +287,12 @@ pub fn unsigned_subexp_length(mx: u32, r: u32, v: u32) -> u32
     subexp_length(mx, code_of(mx, r, v))
 }
 
-pub fn encode_unsigned_subexp_with_ref(
-    cursor: BitCursor,
-    buffer: &mut [u8],
-    mx: u32,
-    r: u32,
-    v: u32,
-) -> BitCursor
-    requires { ⌜ (r < mx) × (v < mx) × (mx ≤ 65536) × Room (now buffer) (cursor .at) (length (symbolBits mx r v)) ⌝ }
-    ensures { λ next. ⌜ Wrote (now (buffer .entry)) (cursor .at) (symbolBits mx r v) (now (buffer .exit)) (next .at) ⌝ }
+pub fn encode_unsigned_subexp_with_ref(pen: Pen, buffer: &mut [u8], mx: u32, r: u32, v: u32) -> Pen
+    requires { ⌜ (r < mx) × (v < mx) × (mx ≤ 65536) × Ready (now buffer) pen (length (symbolBits mx r v)) ⌝ }
+    ensures { λ next. ⌜ Put (now (buffer .entry)) pen (symbolBits mx r v) (now (buffer .exit)) next ⌝ }
 {
     let x = code_of(mx, r, v);
-    encode_subexp(cursor, buffer, mx, x)
+    encode_subexp(pen, buffer, mx, x)
 }
 
 pub fn decode_unsigned_subexp_with_ref(cursor: BitCursor, bytes: &[u8], mx: u32, r: u32) -> Read

@@ -31,8 +31,8 @@ loop-holds : tie.Need-loop-holds Inv-loop μ-loop
 unfolding modelCount
 loop-holds c =
     let t = c .before .type-field in
-    let n : t .result .n ≡ length (typeBits (c .before .before .before .before .args .gm-type)) = sym (length-fieldBits (t .result .n) (t .result .value)) ∙ ap length (t .ensures .bits) in
-    (rw n, t .ensures .few, omega arith)
+    let n : t .result .n ≡ length (typeBits (c .before .before .before .before .args .gm-type)) = sym (length-fieldBits (t .result .n) (t .result .value)) ∙ ap length (t .ensures .0 .bits) in
+    (rw n, t .ensures .1, omega arith)
 
 array-read-slot-length : tie.Need-array-read-slot-length Inv-loop μ-loop
 array-read-slot-length c =
