@@ -3,15 +3,15 @@
 use Prim.Native.Nat.{ℕ, zero, suc, _+_, _-_, _*_, _/_, _%_, _^_, _≤_, _<_}
 use mathlib.Core.List.{List, [], _∷_, _++_}
 use mathlib.Core.Logic.{⊎-elim}
-use mathlib.Core.Path.{_≡_, refl, ap, sym, subst, _∙_}
+use mathlib.Core.Path.{_≡_, refl, ap, sym, _∙_}
 use native.Mathlib.Nat.{mod-eq-of-lt}
 use native.Mathlib.Omega.{arith}
-use lib.ListN.{length, getD, take, drop, set, take-append-drop}
+use lib.ListN.{length, getD, take, drop, take-append-drop}
 use lib.Pow.{shr-shr}
 use lib.Seq.{ext-getD, getD-take, length-take-le, getD-set-same, getD-set-other, set-out}
 use Rattle.laws.specs.Buffer.{onto}
 use Rattle.laws.proofs.Cases.{lt-or-le, eq-or-ne}
-use Rattle.bits.specs.Bits.{bitOf, withBit, bitAt, putBit, putBits}
+use Rattle.bits.specs.Bits.{withBit, bitAt, putBit, putBits}
 use Rattle.bits.specs.Fields.{field}
 use Rattle.bits.proofs.Held.{AreBits}
 use Rattle.bits.proofs.Byte.{withBit-byte}

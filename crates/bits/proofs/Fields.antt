@@ -1,7 +1,7 @@
 -- A field that was written is read back, takes as many bits as it has, and is put together from two.
 -- Assumes nothing.
 use Prim.Native.Nat.{ℕ, zero, suc, _+_, _-_, _*_, _/_, _%_, _^_, _≤_, _<_}
-use mathlib.Core.List.{List, _++_}
+use mathlib.Core.List.{_++_}
 use mathlib.Core.Path.{_≡_, refl, ap, sym, _∙_, subst}
 use native.Mathlib.Nat.{add-zero, zero-add, le-refl, mod-eq-of-lt, mod-lt, pow-suc, mod-one, mul-add-mod-self-right}
 use native.Mathlib.Omega.{arith}

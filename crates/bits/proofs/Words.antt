@@ -4,7 +4,7 @@
 use Prim.Native.Nat.{ℕ, zero, suc, _+_, _-_, _*_, _/_, _%_, _^_, _≤_, _<_}
 use mathlib.Core.List.{List, _∷_, _++_}
 use mathlib.Core.Path.{_≡_, refl, ap, sym, _∙_, subst}
-use native.Mathlib.Nat.{add-zero, mod-eq-of-lt, mod-lt, mod-one, div-one, pow-suc, zero-mul, zero-add}
+use native.Mathlib.Nat.{add-zero, mod-eq-of-lt, mod-lt, mod-one, zero-mul, zero-add}
 use native.Mathlib.Omega.{arith}
 use lib.ListN.{length, getD, set}
 use lib.Arith.{digits-lt}

@@ -1,12 +1,12 @@
 -- A header put together on a page of its own and laid onto the lent bytes is the header put there: the page's first byte has the bits before the start,
 -- and the zeros behind the header's last bit fill its last byte.
 -- Assumes nothing.
-use Prim.Native.Nat.{ℕ, zero, suc, _+_, _-_, _*_, _/_, _^_, _≤_, _<_}
+use Prim.Native.Nat.{ℕ, zero, suc, _+_, _*_, _/_, _^_, _≤_, _<_}
 use mathlib.Core.List.{List, _++_}
-use mathlib.Core.Path.{_≡_, refl, ap, sym, _∙_}
+use mathlib.Core.Path.{_≡_, ap, sym, _∙_}
 use native.Mathlib.Omega.{arith}
 use lib.Dec.{lit<}
-use lib.ListN.{length, getD, take, set, replicate, length-append}
+use lib.ListN.{length, take, replicate, length-append}
 use Rattle.laws.specs.Buffer.{onto}
 use Rattle.bits.specs.Bits.{putBits}
 use Rattle.bits.specs.Fields.{padBits, padding}

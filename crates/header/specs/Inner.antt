@@ -7,7 +7,7 @@ use mathlib.Core.List.{List}
 use lib.IntN.{ℤ}
 use lib.ListN.{length, getD, set, replicate}
 use Rattle.grid.specs.Symbols.{priorOut}
-use Rattle.models.specs.Models.{typesOver, priorsOut}
+use Rattle.models.specs.Models.{priorsOut}
 use Rattle.header.specs.Writing.{slotOf}
 
 -- the six priors from `first` on are in range

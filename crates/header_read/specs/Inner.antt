@@ -6,7 +6,7 @@ use mathlib.Core.Path.{_≡_}
 use mathlib.Core.List.{List}
 use lib.Dec.{ltb}
 use lib.IntN.{ℤ, pos, natAbs}
-use lib.ListN.{length, getD, set, take}
+use lib.ListN.{length, getD, take}
 use Rattle.laws.specs.Call.{answered}
 use Rattle.laws.specs.Refusal.{choose, judge}
 use Rattle.models.specs.Models.{priorsOut}

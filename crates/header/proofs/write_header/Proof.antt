@@ -1,6 +1,6 @@
 -- `write_header`: the bits before the start are the header's own; where there are none, its first byte isn't looked at.
 -- Assumes nothing.
-use Prim.Native.Nat.{ℕ, _/_, _-_, _^_, _<_}
+use Prim.Native.Nat.{ℕ, _/_, _^_, _<_}
 use mathlib.Core.List.{List}
 use mathlib.Core.Path.{_≡_, refl}
 use native.Mathlib.Omega.{arith}

@@ -2,12 +2,11 @@
 use borrow.Author.Needs.{needs}
 use Rattle.subexp.proofs.rung_field.Statement.{statement}
 use Rattle.subexp.proofs.rung_field.Tie as tie
-use Prim.Native.Nat.{ℕ, _-_, _%_, _^_, _<_}
+use Prim.Native.Nat.{ℕ, _-_}
 use mathlib.Core.List.{List}
-use mathlib.Core.Path.{_≡_, ap, sym, _∙_, subst}
+use mathlib.Core.Path.{sym, _∙_, subst}
 use native.Mathlib.Omega.{arith}
 use lib.Pow.{pow-pos}
-use Rattle.bits.specs.Fields.{fieldBits}
 use Rattle.bits.specs.Inner.{FieldIs}
 use Rattle.bits.proofs.Words.{zero-in-front, low-in-front}
 use Rattle.subexp.proofs.Climbing.{last-code, stop-code}

@@ -3,12 +3,10 @@ use borrow.Author.Needs.{needs}
 use Rattle.subexp.proofs.rungs_field.Statement.{statement}
 use Rattle.subexp.proofs.rungs_field.Tie as tie
 use Prim.Native.Nat.{ℕ, _+_, _-_, _*_, _^_, _≤_, _<_}
-use mathlib.Core.List.{List, _++_}
 use mathlib.Core.Path.{_≡_, sym, _∙_}
 use native.Mathlib.Omega.{arith}
 use lib.ListN.{replicate}
 use lib.Pow.{pow-pos, pow-mono, ones-lt}
-use Rattle.bits.specs.Fields.{fieldBits}
 use Rattle.bits.specs.Inner.{FieldIs}
 use Rattle.bits.specs.declared.Field.{Field}
 use Rattle.bits.proofs.Words.{field-behind, join-lt}
