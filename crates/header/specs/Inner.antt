@@ -31,6 +31,11 @@ pub record HeaderReady (types : List ℕ) (ps qs : List ℤ) : Type 0 where
   pub all : Seven types ps qs
   pub within : priorsOut qs ≡ false
 
+-- n identities from reference r on
+pub record Identities (types : List ℕ) (r n : ℕ) : Type 0 where
+  pub within : r + n ≤ length types
+  pub each : (i : ℕ) → i < n → getD types (r + i) 0 ≡ 0
+
 -- a page of zeros, but for its first byte
 abbrev pub pageOf : ℕ → List ℕ
 pageOf first = set (replicate 125 0) 0 first

@@ -11,7 +11,7 @@ ghost use Rattle.bits.specs.Inner.{Room, Wrote, FieldIs, Ready, Put};
 ghost use Rattle.grid.specs.Inner.{PriorIn};
 ghost use Rattle.header.specs.Coefficient.{coefficientBits};
 ghost use Rattle.header.specs.Count.{slotCount, modelCount, headerCount};
-ghost use Rattle.header.specs.Inner.{ModelReady, Seven, HeaderReady, pageOf, Begins};
+ghost use Rattle.header.specs.Inner.{ModelReady, Seven, HeaderReady, Identities, pageOf, Begins};
 ghost use Rattle.header.specs.Writing.{slotBits, typeBits, modelBits, referenceBits, headerBits, bitsPlaced, written, headerAfter};
 ghost use Rattle.header.specs.Writing.{lengthsWrong, bytesFor, tooShort, codeRows, modelRows, roomRows, writeRefusal};
 use bits::BITS_OF_A_BYTE;
@@ -158,7 +158,22 @@ fn write_reference(
     write_model(next, header, gm_type, flag, params, prior, first)
 }
 
-// References 1 to 7, one behind the other.
+// How many identities follow one another from reference r on.
+fn identities(types: &[u8], r: usize) -> usize
+    requires { ⌜ r ≤ length (now types) ⌝ }
+    ensures { λ n. ⌜ Identities (now (types .entry)) r n ⌝ }
+{
+    let mut n = 0;
+    while r + n < types.len() {
+        if types[r + n] != IDENTITY {
+            return n;
+        }
+        n += 1;
+    }
+    n
+}
+
+// References 1 to 7, one behind the other. A run of identities is a field of zeros.
 fn write_references(
     pen: Pen,
     header: &mut [u8],
@@ -173,8 +188,18 @@ fn write_references(
     let mut next = pen;
     let mut r = 0;
     while r < REFERENCES {
-        next = write_reference(next, header, types[r], flag, params, prior, SLOTS * r);
-        r += 1;
+        let n = identities(types, r);
+        if n == 0 {
+            next = write_reference(next, header, types[r], flag, params, prior, SLOTS * r);
+            r += 1;
+        } else {
+            let zeros = Field {
+                n: n as u32,
+                value: 0,
+            };
+            next = next.put(header, zeros);
+            r += n;
+        }
     }
     next
 }
