@@ -11,7 +11,6 @@ use lib.Dec.{eqb, lit≤}
 use lib.Ieee.{Float, lt}
 use Rattle.laws.specs.Loops.{fold}
 use Rattle.laws.specs.Refusal.{choose}
-use Rattle.laws.proofs.Cases.{eq-or-ne}
 use Rattle.sample.specs.declared.MotionSample.{MotionSample}
 use Rattle.trim.specs.declared.TrimmedModel.{TrimmedModel}
 use Rattle.elect.specs.declared.Elected.{Elected}

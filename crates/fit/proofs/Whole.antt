@@ -3,7 +3,7 @@
 -- Assumes nothing.
 use Prim.Native.Nat.{ℕ, _+_, _*_, _^_, _≤_}
 use mathlib.Core.List.{List}
-use mathlib.Core.Path.{_≡_, refl, sym, ap, _∙_, subst}
+use mathlib.Core.Path.{_≡_, refl, sym, _∙_, subst}
 use native.Mathlib.Nat.{zero-add}
 use native.Mathlib.Omega.{arith}
 use lib.Dec.{lit≤}
@@ -16,10 +16,9 @@ use Rattle.laws.proofs.Signed.{natAbs-add-le, natAbs-sub-le}
 use Rattle.laws.proofs.Stands.{ofInt-stands, add-exact, sub-exact, div-exact, stands-once}
 use Rattle.sample.specs.Word.{mostSamples, rowOf, colOf, vOf, uOf}
 use Rattle.sample.specs.Sample.{eighthsOf, eight}
-use Rattle.tally.specs.declared.Fields.{Fields}
 use Rattle.tally.specs.Tally.{Words, counted, countOver, productOf, motionsOf, fieldsOf}
-use Rattle.tally.specs.Inner.{mostCount, SmallMotions, SmallFields}
-use Rattle.tally.proofs.Counted.{Form, formAt, formOver, counted-small, motions-small, fields-small}
+use Rattle.tally.specs.Inner.{mostCount, SmallFields}
+use Rattle.tally.proofs.Counted.{Form, formAt, formOver, counted-small, fields-small}
 use Rattle.tally.proofs.Apart.{apart, apart-times, form-sum, sum-of-sums, sum-of-differences}
 use Rattle.fit.specs.Sums.{translationTotals, rotZoomTotals, affineTotals, translationSums, rotZoomSums, affineSums}
 use Rattle.fit.specs.Inner.{two, four, sixteen, wholeOver, centreSum, motionSum, productSum, momentSum, translationOver, rotZoomOver, affineOver}

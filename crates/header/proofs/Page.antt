@@ -27,7 +27,8 @@ page-bytes : (first : ℕ) → first < 2 ^ 8 → Bytes (pageOf first)
 page-bytes first h zero = h
 page-bytes first h (suc i) = zero-bytes 124 i
 
-module _ (start before : ℕ) (old : List ℕ) (b : Begins start before old) (xs : List ℕ) (few : length xs ≤ 987) (roomy : bytesFor start (length xs) ≤ length old) (page : List ℕ) (fresh : page ≡ pageOf before) where
+module _ (start before : ℕ) (old : List ℕ) (b : Begins start before old) (xs : List ℕ) (few : length xs ≤ 987) (roomy : bytesFor start (length xs) ≤ length old) (page : List ℕ)
+    (fresh : page ≡ pageOf before) where
   paged : length page ≡ 125
   paged = ap length fresh
 

@@ -395,7 +395,8 @@ fn write_after(
     prior: &[i32],
     header: &mut [u8],
 ) -> usize
-    requires { ⌜ HeaderReady (now types) (now params) (now prior) × Begins start before (now header) × (bytesFor start (length (headerBits (now types) (now params) flag (now prior))) ≤ length (now header)) ⌝ }
+    requires { ⌜ HeaderReady (now types) (now params) (now prior) × Begins start before (now header)
+        × (bytesFor start (length (headerBits (now types) (now params) flag (now prior))) ≤ length (now header)) ⌝ }
     ensures { λ r. ⌜ (r ≡ length (headerBits (now (types .entry)) (now (params .entry)) flag (now (prior .entry))))
         × (now (header .exit) ≡ bitsPlaced start (headerBits (now (types .entry)) (now (params .entry)) flag (now (prior .entry))) (now (header .entry))) ⌝ }
 {

@@ -35,9 +35,6 @@ refusal-shown (suc n) p = rw (ne-eqb (suc n) 0 (omega arith))
 pub refusal-is : (f : Fitted) (flag : ℕ) (ws : List ℕ) → quantizedModel f flag ws .refusal ≡ quantizeRefusal f flag (length ws)
 refusal-is f flag ws = refusal-shown (quantizeRefusal f flag (length ws)) (params f flag ws)
 
-pub accepted-params : (f : Fitted) (flag : ℕ) (ws : List ℕ) → quantizedModel f flag ws .refusal ≡ 0 → quantizedModel f flag ws .params ≡ params f flag ws
-accepted-params f flag ws e = rw (sym (refusal-is f flag ws) ∙ e)
-
 -- ---- the row-first form
 
 twice : (b : Bool) (x y : ℤ) (p : List ℤ) → choose b (exchange (choose b (exchange (x ∷ y ∷ p)) (x ∷ y ∷ p))) (choose b (exchange (x ∷ y ∷ p)) (x ∷ y ∷ p)) ≡ x ∷ y ∷ p

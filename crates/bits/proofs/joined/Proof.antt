@@ -26,7 +26,8 @@ steps byte used n value q p o hb hn eq ep eo =
       is = refl;
     })
 
-at : (c : tie.After-wide-power3) → Steps (c .before .before .before .args .byte) (c .before .before .before .args .used) (c .before .before .before .args .n) (c .before .before .before .args .value) (c .before .before .wide-power .result) (c .before .wide-power2 .result) (c .wide-power3 .result)
+at : (c : tie.After-wide-power3) → Steps (c .before .before .before .args .byte) (c .before .before .before .args .used) (c .before .before .before .args .n)
+    (c .before .before .before .args .value) (c .before .before .wide-power .result) (c .before .wide-power2 .result) (c .wide-power3 .result)
 at c =
     let a = c .before .before .before .args in
     steps (a .byte) (a .used) (a .n) (a .value) (c .before .before .wide-power .result) (c .before .wide-power2 .result) (c .wide-power3 .result)
@@ -38,7 +39,8 @@ div-before c = rw (c .wide-power .ensures) (pow-pos _)
 mul-result : tie.Need-mul-result
 mul-result c =
     let a = c .before .before .args in
-    let s = steps (a .byte) (a .used) (a .n) (a .value) (c .before .wide-power .result) (c .wide-power2 .result) (2 ^ a .n) (omega arith) (c .before .before .pre .1) (c .before .wide-power .ensures) (c .wide-power2 .ensures) refl in
+    let s = steps (a .byte) (a .used) (a .n) (a .value) (c .before .wide-power .result) (c .wide-power2 .result) (2 ^ a .n) (omega arith) (c .before .before .pre .1)
+        (c .before .wide-power .ensures) (c .wide-power2 .ensures) refl in
     omega (arith, s .front)
 
 rem-result : tie.Need-rem-result

@@ -14,10 +14,14 @@ nothing-before : (start : ℕ) (header : List ℕ) → start ≡ 0 → getD head
 nothing-before start header e h = record { low = omega arith; byte = omega arith; front = rw e (let z : 0 ≡ getD header 0 0 / 2 ^ 8 = omega arith in z) }
 
 write-after-requires : tie.Need-write-after-requires
-write-after-requires c κs = (c .before .before .before .before .pre .0, nothing-before _ _ (c .before .if1 .taken) (omega (arith, c .before .before .slice-known .given 0)), c .before .before .before .before .pre .2)
+write-after-requires c κs =
+    let pre = c .before .before .before .before .pre in
+    (pre .0, nothing-before _ _ (c .before .if1 .taken) (omega (arith, c .before .before .slice-known .given 0)), pre .2)
 
 write-after-requires-2 : tie.Need-write-after-requires-2
-write-after-requires-2 c κs = (c .before .before .before .before .before .pre .0, record { low = c .before .before .before .before .before .pre .1; byte = omega (arith, c .before .before .before .slice-known .given 0); front = refl }, c .before .before .before .before .before .pre .2)
+write-after-requires-2 c κs =
+    let pre = c .before .before .before .before .before .pre in
+    (pre .0, record { low = pre .1; byte = omega (arith, c .before .before .before .slice-known .given 0); front = refl }, pre .2)
 
 returns : tie.Need-returns
 returns c = c .before .before .write-after .ensures

@@ -54,21 +54,23 @@ array-read-write-slot c =
 
 write-slot-requires : tie.Need-write-slot-requires Inv-loop μ-loop
 write-slot-requires c κs =
+    let pre = c .before .before .before .before .before .before .pre in
     let a = c .before .before .before .before .before .before .args in
     let s = c .before .before .before .before .slots-of in
     let l = c .before .before .loop in (
-      c .before .before .before .before .before .before .pre .0,
+      pre .0,
       slot-known (a .gm-type) (s .result) (s .ensures) (l .i) (c .before .loop-test .taken),
-      ready (a .flag) (a .params .now) (a .prior .now) (a .gm-type) (a .first) (s .result) (s .ensures) (l .i) (c .before .loop-test .taken) (l .inv .1) (c .before .before .before .before .before .before .pre .1),
+      ready (a .flag) (a .params .now) (a .prior .now) (a .gm-type) (a .first) (s .result) (s .ensures) (l .i) (c .before .loop-test .taken) (l .inv .1) (pre .1),
     )
 
 loop-again : tie.Need-loop-again Inv-loop μ-loop
 loop-again c =
+    let loop-test = c .before .before .before .before .loop-test in
     let a = c .before .before .before .before .before .before .before .before .before .args in
     let s = c .before .before .before .before .before .before .before .slots-of in
     let l = c .before .before .before .before .before .loop in (
-      omega (arith, c .before .before .before .before .loop-test .taken),
-      more (a .flag) (a .params .now) (a .prior .now) (a .gm-type) (a .first) (s .result) (s .ensures) (l .i) (c .before .before .before .before .loop-test .taken) (l .inv .1) _ _ (c .before .before .write-slot .ensures),
+      omega (arith, loop-test .taken),
+      more (a .flag) (a .params .now) (a .prior .now) (a .gm-type) (a .first) (s .result) (s .ensures) (l .i) (loop-test .taken) (l .inv .1) _ _ (c .before .before .write-slot .ensures),
     )
 
 same-length : tie.Need-same-length Inv-loop μ-loop

@@ -82,32 +82,38 @@ mul-write-reference c = omega (arith, c .before .before .before .before .loop-te
 
 write-reference-requires : tie.Need-write-reference-requires Inv-loop μ-loop
 write-reference-requires c κs =
+    let loop-test = c .before .before .before .before .loop-test in
+    let pre = c .before .before .before .before .before .before .before .before .pre in
     let a = c .before .before .before .before .before .before .before .before .args in
     let l = c .before .before .before .before .before .loop in
-    let more-bits = left-more (a .flag) (a .types .now) (a .params .now) (a .prior .now) (l .r) (c .before .before .before .before .loop-test .taken) in (
-      model-ready (a .types .now) (a .params .now) (a .prior .now) (l .r) (c .before .before .before .before .before .before .before .before .pre .0) (c .before .before .before .before .loop-test .taken),
-      ready (a .flag) (a .types .now) (a .params .now) (a .prior .now) (l .r) (l .r + 1) (one (a .flag) (a .types .now) (a .params .now) (a .prior .now) (l .r)) more-bits (l .inv .1) (c .before .before .before .before .before .before .before .before .pre .1),
+    let more-bits = left-more (a .flag) (a .types .now) (a .params .now) (a .prior .now) (l .r) (loop-test .taken) in (
+      model-ready (a .types .now) (a .params .now) (a .prior .now) (l .r) (pre .0) (loop-test .taken),
+      ready (a .flag) (a .types .now) (a .params .now) (a .prior .now) (l .r) (l .r + 1) (one (a .flag) (a .types .now) (a .params .now) (a .prior .now) (l .r)) more-bits (l .inv .1) (pre .1),
     )
 
 loop-again : tie.Need-loop-again Inv-loop μ-loop
 loop-again c =
+    let loop-test = c .before .before .before .before .before .before .before .loop-test in
     let a = c .before .before .before .before .before .before .before .before .before .before .before .args in
     let l = c .before .before .before .before .before .before .before .before .loop in
-    let more-bits = left-more (a .flag) (a .types .now) (a .params .now) (a .prior .now) (l .r) (c .before .before .before .before .before .before .before .loop-test .taken) in
-    (omega arith, more (a .flag) (a .types .now) (a .params .now) (a .prior .now) (l .r) (l .r + 1) (one (a .flag) (a .types .now) (a .params .now) (a .prior .now) (l .r)) more-bits (l .inv .1) _ _ (c .before .before .write-reference .ensures))
+    let more-bits = left-more (a .flag) (a .types .now) (a .params .now) (a .prior .now) (l .r) (loop-test .taken) in
+    (omega arith, more (a .flag) (a .types .now) (a .params .now) (a .prior .now) (l .r) (l .r + 1) (one (a .flag) (a .types .now) (a .params .now) (a .prior .now) (l .r)) more-bits
+        (l .inv .1) _ _ (c .before .before .write-reference .ensures))
 
 cast-t17 : tie.Need-cast-t17 Inv-loop μ-loop
 cast-t17 c = omega (arith, c .before .identities .ensures .within, c .before .before .before .before .before .before .pre .0 .all .seven)
 
 put-requires : tie.Need-put-requires Inv-loop μ-loop
 put-requires c κs =
+    let still = c .before .before .identities in
+    let pre = c .before .before .before .before .before .before .before .pre in
     let a = c .before .before .before .before .before .before .before .args in
     let l = c .before .before .before .before .loop in
-    let n = c .before .before .identities .result in
-    let run = zeros (a .flag) (a .types .now) (a .params .now) (a .prior .now) n (l .r) (c .before .before .identities .ensures) (omega (arith, c .before .before .identities .ensures .within, c .before .before .before .before .before .before .before .pre .0 .all .seven)) in (
-      omega (arith, c .before .before .identities .ensures .within, c .before .before .before .before .before .before .before .pre .0 .all .seven),
+    let n = still .result in
+    let run = zeros (a .flag) (a .types .now) (a .params .now) (a .prior .now) n (l .r) (still .ensures) (omega (arith, still .ensures .within, pre .0 .all .seven)) in (
+      omega (arith, still .ensures .within, pre .0 .all .seven),
       pow-pos n,
-      rw (length-fieldBits n 0) at (ready (a .flag) (a .types .now) (a .params .now) (a .prior .now) (l .r) (l .r + n) (fieldBits n 0) run (l .inv .1) (c .before .before .before .before .before .before .before .pre .1)),
+      rw (length-fieldBits n 0) at (ready (a .flag) (a .types .now) (a .params .now) (a .prior .now) (l .r) (l .r + n) (fieldBits n 0) run (l .inv .1) (pre .1)),
     )
 
 add-r-2 : tie.Need-add-r-2 Inv-loop μ-loop
@@ -118,11 +124,13 @@ loop-less-2 c = omega (arith, c .before .before .before .before .if1 .left, c .b
 
 loop-again-2 : tie.Need-loop-again-2 Inv-loop μ-loop
 loop-again-2 c =
+    let still = c .before .before .before .before .before .identities in
+    let pre = c .before .before .before .before .before .before .before .before .before .before .pre in
     let a = c .before .before .before .before .before .before .before .before .before .before .args in
     let l = c .before .before .before .before .before .before .before .loop in
-    let n = c .before .before .before .before .before .identities .result in
-    let run = zeros (a .flag) (a .types .now) (a .params .now) (a .prior .now) n (l .r) (c .before .before .before .before .before .identities .ensures) (omega (arith, c .before .before .before .before .before .identities .ensures .within, c .before .before .before .before .before .before .before .before .before .before .pre .0 .all .seven)) in (
-      omega (arith, c .before .before .before .before .before .identities .ensures .within, c .before .before .before .before .before .before .before .before .before .before .pre .0 .all .seven),
+    let n = still .result in
+    let run = zeros (a .flag) (a .types .now) (a .params .now) (a .prior .now) n (l .r) (still .ensures) (omega (arith, still .ensures .within, pre .0 .all .seven)) in (
+      omega (arith, still .ensures .within, pre .0 .all .seven),
       more (a .flag) (a .types .now) (a .params .now) (a .prior .now) (l .r) (l .r + n) (fieldBits n 0) run (l .inv .1) _ _ (c .before .before .put .ensures),
     )
 
@@ -138,5 +146,6 @@ returns c =
 pub write-references-spec : {M : Type 1} → statement M
 write-references-spec =
     tie.close
-    (tie.spec Inv-loop μ-loop loop-holds identities-requires shared-slice-read-write-reference mul-write-reference write-reference-requires (search needs) (search needs) loop-again cast-t17 put-requires add-r-2 loop-less-2
+    (tie.spec Inv-loop μ-loop loop-holds identities-requires shared-slice-read-write-reference mul-write-reference write-reference-requires (search needs) (search needs) loop-again cast-t17
+        put-requires add-r-2 loop-less-2
     loop-again-2 same-length returns)

@@ -11,11 +11,14 @@ use Rattle.header.proofs.write_seven.Statement.{statement}
 use Rattle.header.proofs.write_seven.Tie as tie
 
 -- there is room behind the new pen
-ready : (c : tie.After-new) → Ready (c .before .before .before .args .header .now) (c .new .result) (length (headerBits (c .before .before .before .args .types .now) (c .before .before .before .args .params .now) (c .before .before .before .args .flag) (c .before .before .before .args .prior .now)))
+ready : (c : tie.After-new) → Ready (c .before .before .before .args .header .now) (c .new .result)
+    (length (headerBits (c .before .before .before .args .types .now) (c .before .before .before .args .params .now) (c .before .before .before .args .flag)
+    (c .before .before .before .args .prior .now)))
 ready c =
+    let a = c .before .before .before .args in
     let e = c .new .ensures in
-    let bits = headerBits (c .before .before .before .args .types .now) (c .before .before .before .args .params .now) (c .before .before .before .args .flag) (c .before .before .before .args .prior .now) in
-    ready-new (c .before .before .before .args .header .now) (c .new .result) (length bits) (e .1) (e .2) (subst (λ (j : ℕ). Room (c .before .before .before .args .header .now) j (length bits)) (sym (e .0)) (c .before .before .before .pre .1))
+    let bits = headerBits (a .types .now) (a .params .now) (a .flag) (a .prior .now) in
+    ready-new (a .header .now) (c .new .result) (length bits) (e .1) (e .2) (subst (λ (j : ℕ). Room (a .header .now) j (length bits)) (sym (e .0)) (c .before .before .before .pre .1))
 
 write-references-requires : tie.Need-write-references-requires
 write-references-requires c κs = (c .before .before .before .before .pre .0, ready (c .before))
@@ -24,7 +27,10 @@ lift-requires : tie.Need-lift-requires
 lift-requires c κs = ready-last _ (c .before .before .before .write-references .ensures) (ready (c .before .before .before .before .before))
 
 returns : tie.Need-returns
-returns c = rw (c .before .before .before .before .before .before .before .before .new .ensures .0) at (put-lifted _ (c .before .before .before .before .before .before .write-references .ensures) (c .before .before .before .before .before .before .before .before .new .ensures .1) _ _ (c .before .before .lift .ensures))
+returns c =
+    let fresh = c .before .before .before .before .before .before .before .before .new in
+    let write-references = c .before .before .before .before .before .before .write-references in
+    rw (fresh .ensures .0) at (put-lifted _ (write-references .ensures) (fresh .ensures .1) _ _ (c .before .before .lift .ensures))
 
 pub write-seven-spec : {M : Type 1} → statement M
 write-seven-spec = tie.close (tie.spec (search needs) write-references-requires lift-requires (search needs) returns)

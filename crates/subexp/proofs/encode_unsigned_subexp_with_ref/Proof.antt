@@ -13,7 +13,9 @@ encode-subexp-requires c κs =
     (c .before .code-of .ensures .1, omega arith, ready-as (a .buffer .now) (a .pen) _ _ (ap (subexpBits (a .mx)) (sym (c .before .code-of .ensures .0))) (c .before .before .before .pre .3))
 
 returns : tie.Need-returns
-returns c = put-as _ _ (ap (subexpBits (c .before .before .before .before .before .before .args .mx)) (c .before .before .before .before .code-of .ensures .0)) (c .before .before .encode-subexp .ensures)
+returns c =
+    let a = c .before .before .before .before .before .before .args in
+    put-as _ _ (ap (subexpBits (a .mx)) (c .before .before .before .before .code-of .ensures .0)) (c .before .before .encode-subexp .ensures)
 
 pub encode-unsigned-subexp-with-ref-spec : {M : Type 1} → statement M
 encode-unsigned-subexp-with-ref-spec = tie.close (tie.spec (search needs) encode-subexp-requires (search needs) returns)

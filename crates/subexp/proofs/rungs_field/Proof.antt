@@ -30,10 +30,15 @@ joined S v i code p q r f few ep eq =
       is = record { bits = field-behind i (2 ^ i - 1) code (replicate i 1) (rungCode S v i) (ones i) f ∙ sym (r .bits); low = less };
     })
 
-at : (c : tie.After-power2) → Joined (c .before .before .before .before .before .args .num-syms) (c .before .before .before .before .before .args .v) (c .before .before .before .before .rung-of .result) (c .before .before .before .rung-field .result) (c .before .before .power .result) (c .power2 .result)
+at : (c : tie.After-power2) → Joined (c .before .before .before .before .before .args .num-syms) (c .before .before .before .before .before .args .v)
+    (c .before .before .before .before .rung-of .result) (c .before .before .before .rung-field .result) (c .before .before .power .result) (c .power2 .result)
 at c =
-    joined (c .before .before .before .before .before .args .num-syms) (c .before .before .before .before .before .args .v) (c .before .before .before .before .rung-of .result) (c .before .before .before .rung-field .result) (c .before .before .power .result) (c .power2 .result)
-    (c .before .before .before .before .rung-of .ensures) (c .before .before .before .rung-field .ensures .0) (omega (arith, c .before .before .before .rung-field .ensures .1, c .before .before .before .before .rung-of .ensures .on .few)) (c .before .before .power .ensures) (c .power2 .ensures)
+    let a = c .before .before .before .before .before .args in
+    let rung-of = c .before .before .before .before .rung-of in
+    let rung-field = c .before .before .before .rung-field in
+    let power = c .before .before .power in
+    joined (a .num-syms) (a .v) (rung-of .result) (rung-field .result) (power .result) (c .power2 .result)
+    (rung-of .ensures) (rung-field .ensures .0) (omega (arith, rung-field .ensures .1, rung-of .ensures .on .few)) (power .ensures) (c .power2 .ensures)
 
 sub-ones : tie.Need-sub-ones
 sub-ones c = omega (arith, c .power .ensures, pow-pos (c .before .before .rung-of .result))
@@ -48,4 +53,7 @@ returns : tie.Need-returns
 returns c = (at (c .before) .is, omega (arith, c .before .before .before .before .rung-field .ensures .1, c .before .before .before .before .before .rung-of .ensures .on .few))
 
 pub rungs-field-spec : {M : Type 1} → statement M
-rungs-field-spec = tie.close (tie.spec (search needs) (search needs) (λ c κs. omega (arith, c .before .rung-of .ensures .on .few)) sub-ones (λ c. omega (arith, c .before .before .before .rung-of .ensures .on .few, c .before .before .rung-field .ensures .1)) (λ c κs. omega (arith, c .before .before .rung-field .ensures .1)) mul-t8 add-t9 returns)
+rungs-field-spec = tie.close
+    (tie.spec (search needs) (search needs) (λ c κs. omega (arith, c .before .rung-of .ensures .on .few)) sub-ones
+    (λ c. omega (arith, c .before .before .before .rung-of .ensures .on .few, c .before .before .rung-field .ensures .1)) (λ c κs. omega (arith, c .before .before .rung-field .ensures .1))
+    mul-t8 add-t9 returns)

@@ -2,9 +2,8 @@
 -- Assumes nothing.
 use borrow.Author.Needs.{needs}
 use Prim.Native.Nat.{_-_}
-use mathlib.Core.Path.{_≡_, refl, sym, _∙_, subst}
+use mathlib.Core.Path.{_≡_, refl, sym, subst}
 use lib.ListN.{length, take}
-use Rattle.tally.specs.declared.Fields.{Fields}
 use Rattle.tally.specs.Tally.{countOver, fieldTotals}
 use Rattle.tally.specs.Inner.{SmallFields, fieldsStep}
 use Rattle.tally.proofs.Counted.{all-words, one-more, all-counted, part-small, counted-small, fields-small}

@@ -23,7 +23,8 @@ returns-2 c =
     let place : 8 * (a .self .at / 8) + a .self .at % 8 ≡ a .self .at = omega arith in
     record {
       at = omega (arith, length-fieldBits (a .n) (a .value));
-      buffer = c .before .before .store-word2 .ensures ∙ ap (λ (w : ℕ). putBits (a .buffer .now) (8 * (a .self .at / 8)) (fieldBits (a .self .at % 8 + a .n) w)) (c .before .before .before .before .joined .ensures)
+      buffer = c .before .before .store-word2 .ensures ∙ ap (λ (w : ℕ). putBits (a .buffer .now) (8 * (a .self .at / 8)) (fieldBits (a .self .at % 8 + a .n) w))
+          (c .before .before .before .before .joined .ensures)
           ∙ put-joined (a .buffer .now) (a .self .at / 8) (a .self .at % 8) (a .n) (a .value) (omega arith) (omega arith)
           ∙ ap (λ (j : ℕ). putBits (a .buffer .now) j (fieldBits (a .n) (a .value))) place;
     }

@@ -27,8 +27,12 @@ joined h f p front back few e =
       bits = sym (field-behind (h .n) (h .value) f (fieldBits (h .n) (h .value)) (fieldBits (f .n) (f .value)) refl (record { bits = refl; low = back }));
     })
 
-at : (c : tie.After-wide-power) → Joined (c .before .before .before .before .before .before .before .args .self .held) (c .before .before .before .before .before .before .before .args .field) (c .wide-power .result)
-at c = joined (c .before .before .before .before .before .before .before .args .self .held) (c .before .before .before .before .before .before .before .args .field) (c .wide-power .result) (c .before .before .before .before .before .before .before .pre .2 .low) (c .before .before .before .before .before .before .before .pre .1) (c .before .before .if1 .taken) (c .wide-power .ensures)
+at : (c : tie.After-wide-power) → Joined (c .before .before .before .before .before .before .before .args .self .held)
+    (c .before .before .before .before .before .before .before .args .field) (c .wide-power .result)
+at c =
+    let a = c .before .before .before .before .before .before .before .args in
+    let pre = c .before .before .before .before .before .before .before .pre in
+    joined (a .self .held) (a .field) (c .wide-power .result) (pre .2 .low) (pre .1) (c .before .before .if1 .taken) (c .wide-power .ensures)
 
 mul-both : tie.Need-mul-both
 mul-both c = omega (arith, at c .small)
@@ -45,7 +49,9 @@ returns c =
     record { gone = []; wrote = record { at = omega arith; buffer = refl }; joined = both .bits; few = c .before .before .before .if1 .taken; low = both .low }
 
 returns-2 : tie.Need-returns-2
-returns-2 c = record { gone = _; wrote = c .before .before .write-bits .ensures; joined = refl; few = c .before .before .before .before .before .before .before .before .before .pre .0; low = c .before .before .before .before .before .before .before .before .before .pre .1 }
+returns-2 c =
+    let pre = c .before .before .before .before .before .before .before .before .before .pre in
+    record { gone = _; wrote = c .before .before .write-bits .ensures; joined = refl; few = pre .0; low = pre .1 }
 
 pub put-spec : {M : Type 1} → statement M
 put-spec = tie.close (tie.spec (search needs) (search needs) (search needs) mul-both (search needs) add-both cast-t14 returns (search needs) (search needs) returns-2)
