@@ -40,7 +40,7 @@ mul-result : tie.Need-mul-result
 mul-result c =
     let a = c .before .before .args in
     let s = steps (a .byte) (a .used) (a .n) (a .value) (c .before .wide-power .result) (c .wide-power2 .result) (2 ^ a .n) (omega arith) (c .before .before .pre .1)
-        (c .before .wide-power .ensures) (c .wide-power2 .ensures) refl in
+    (c .before .wide-power .ensures) (c .wide-power2 .ensures) refl in
     omega (arith, s .front)
 
 rem-result : tie.Need-rem-result

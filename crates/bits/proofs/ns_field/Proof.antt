@@ -11,8 +11,11 @@ returns c =
     let a = c .before .before .args in
     let r = c .before .ns-width .result in
     let w = c .before .ns-width .ensures in (
-      record { bits = sym (short-code (a .n) (a .v) (r .w) (r .m) (w .w) (w .m) (c .if1 .taken)); low = short-low (a .n) (a .v) (r .w) (r .m) (w .w) (w .m) (c .before .before .pre .0)
-          (c .if1 .taken) },
+      record {
+        bits = sym (short-code (a .n) (a .v) (r .w) (r .m) (w .w) (w .m) (c .if1 .taken));
+        low = short-low (a .n) (a .v) (r .w) (r .m) (w .w) (w .m) (c .before .before .pre .0)
+            (c .if1 .taken);
+      },
       omega (arith, w .most),
     )
 

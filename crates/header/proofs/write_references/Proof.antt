@@ -96,9 +96,11 @@ loop-again c =
     let loop-test = c .before .before .before .before .before .before .before .loop-test in
     let a = c .before .before .before .before .before .before .before .before .before .before .before .args in
     let l = c .before .before .before .before .before .before .before .before .loop in
-    let more-bits = left-more (a .flag) (a .types .now) (a .params .now) (a .prior .now) (l .r) (loop-test .taken) in
-    (omega arith, more (a .flag) (a .types .now) (a .params .now) (a .prior .now) (l .r) (l .r + 1) (one (a .flag) (a .types .now) (a .params .now) (a .prior .now) (l .r)) more-bits
-        (l .inv .1) _ _ (c .before .before .write-reference .ensures))
+    let more-bits = left-more (a .flag) (a .types .now) (a .params .now) (a .prior .now) (l .r) (loop-test .taken) in (
+      omega arith,
+      more (a .flag) (a .types .now) (a .params .now) (a .prior .now) (l .r) (l .r + 1) (one (a .flag) (a .types .now) (a .params .now) (a .prior .now) (l .r)) more-bits
+          (l .inv .1) _ _ (c .before .before .write-reference .ensures),
+    )
 
 cast-t17 : tie.Need-cast-t17 Inv-loop μ-loop
 cast-t17 c = omega (arith, c .before .identities .ensures .within, c .before .before .before .before .before .before .pre .0 .all .seven)
@@ -147,5 +149,5 @@ pub write-references-spec : {M : Type 1} → statement M
 write-references-spec =
     tie.close
     (tie.spec Inv-loop μ-loop loop-holds identities-requires shared-slice-read-write-reference mul-write-reference write-reference-requires (search needs) (search needs) loop-again cast-t17
-        put-requires add-r-2 loop-less-2
+    put-requires add-r-2 loop-less-2
     loop-again-2 same-length returns)

@@ -49,4 +49,4 @@ returns c =
 pub read-references-spec : {M : Type 1} → statement M
 read-references-spec =
     tie.close (tie.spec Inv-loop μ-loop loop-holds (search needs) read-reference-requires (search needs) (search needs) (search needs) store-six-requires (search needs) (search needs)
-        loop-again returns)
+    loop-again returns)

@@ -40,7 +40,7 @@ returns-2 c =
         bits =
             zero-in-front b x
             ∙ sym (stop-code (a .num-syms) (a .v) (a .i) (rung-start .result) (rung-start .ensures .0) b (c .before .rung-bits .ensures .0)
-                (sym (c .before .before .before .is-last .ensures) ∙ c .before .before .if1 .left));
+            (sym (c .before .before .before .is-last .ensures) ∙ c .before .before .if1 .left));
         low = low-in-front b x;
       },
       omega (arith, c .before .rung-bits .ensures .1),
