@@ -34,10 +34,14 @@ module _ (c : tie.After-struct-known3) where
   j = c .before .before .before .before .before .before .before .before .before .before .before .before .args .cursor .at
 
   second : c .before .before .before .before .before .before .read-bit2 .result .value ≡ g (j + 1)
-  second = c .before .before .before .before .before .before .read-bit2 .ensures .value ∙ ap g (c .before .before .before .before .before .before .before .before .before .before .read-bit .ensures .next)
+  second =
+      let one = c .before .before .before .before .before .before .before .before .before .before .read-bit in
+      c .before .before .before .before .before .before .read-bit2 .ensures .value ∙ ap g (one .ensures .next)
 
   behind-two : c .before .before .before .before .before .before .read-bit2 .result .next .at ≡ j + 2
-  behind-two = omega (arith, c .before .before .before .before .before .before .read-bit2 .ensures .next, c .before .before .before .before .before .before .before .before .before .before .read-bit .ensures .next)
+  behind-two =
+      let one = c .before .before .before .before .before .before .before .before .before .before .read-bit in
+      omega (arith, c .before .before .before .before .before .before .read-bit2 .ensures .next, one .ensures .next)
 
   third : c .before .before .read-bit3 .result .value ≡ g (j + 2)
   third = c .before .before .read-bit3 .ensures .value ∙ ap g behind-two
@@ -47,12 +51,14 @@ module _ (c : tie.After-struct-known3) where
 
 returns-3 : tie.Need-returns-3
 returns-3 c =
-    translation-typed (g (c .before)) (j (c .before)) _ (λ z. c .before .before .before .before .before .before .before .before .if1 .left (c .before .before .before .before .before .before .before .before .before .before .before .read-bit .ensures .value ∙ z))
+    let one = c .before .before .before .before .before .before .before .before .before .before .before .read-bit in
+    translation-typed (g (c .before)) (j (c .before)) _ (λ z. c .before .before .before .before .before .before .before .before .if1 .left (one .ensures .value ∙ z))
     (λ z. c .before .before .before .before .if2 .left (second (c .before) ∙ z)) (sym (third (c .before)) ∙ c .if3 .taken) refl (behind-three (c .before))
 
 returns-4 : tie.Need-returns-4
 returns-4 c =
-    affine-typed (g (c .before)) (j (c .before)) _ (λ z. c .before .before .before .before .before .before .before .before .if1 .left (c .before .before .before .before .before .before .before .before .before .before .before .read-bit .ensures .value ∙ z))
+    let one = c .before .before .before .before .before .before .before .before .before .before .before .read-bit in
+    affine-typed (g (c .before)) (j (c .before)) _ (λ z. c .before .before .before .before .before .before .before .before .if1 .left (one .ensures .value ∙ z))
     (λ z. c .before .before .before .before .if2 .left (second (c .before) ∙ z)) (λ z. c .if3 .left (third (c .before) ∙ z)) refl (behind-three (c .before))
 
 pub read-type-spec : {M : Type 1} → statement M
