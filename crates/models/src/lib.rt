@@ -102,18 +102,7 @@ fn slots_wrong(gm_type: u8, flag: u8, params: &[i32], first: usize) -> bool
     false
 }
 
-// That model, whatever its type. TRANSLATION is named, so that the compiler knows what its slots hold.
-fn carried_wrong(gm_type: u8, flag: u8, params: &[i32], first: usize) -> bool
-    requires { ⌜ first + 6 ≤ length (now params) ⌝ }
-    ensures { λ r. ⌜ r ≡ modelWrong «gm_type» flag (now (params .entry)) first ⌝ }
-{
-    if gm_type == TRANSLATION {
-        return slots_wrong(TRANSLATION, flag, params, first);
-    }
-    slots_wrong(gm_type, flag, params, first)
-}
-
-// The same. IDENTITY is named apart, so that a walk over identities calls nothing.
+// That model. The types that fill most slots are named, so that the compiler knows what their slots hold.
 pub fn model_wrong(gm_type: u8, flag: u8, params: &[i32], first: usize) -> bool
     requires { ⌜ first + 6 ≤ length (now params) ⌝ }
     ensures { λ r. ⌜ r ≡ modelWrong «gm_type» flag (now (params .entry)) first ⌝ }
@@ -121,7 +110,10 @@ pub fn model_wrong(gm_type: u8, flag: u8, params: &[i32], first: usize) -> bool
     if gm_type == IDENTITY {
         return slots_wrong(IDENTITY, flag, params, first);
     }
-    carried_wrong(gm_type, flag, params, first)
+    if gm_type == TRANSLATION {
+        return slots_wrong(TRANSLATION, flag, params, first);
+    }
+    slots_wrong(gm_type, flag, params, first)
 }
 
 // As many models as there are types.
