@@ -1,4 +1,5 @@
-//! Hands the compiler's name and flags to the program that prints them.
+//! Hands the compiler's name and flags to the program that prints them, and links the two writers of a field, which
+//! `run` makes by `rt staticlib placing`.
 
 use std::env;
 use std::process::Command;
@@ -10,4 +11,9 @@ fn main() {
     println!("cargo:rustc-env=BENCH_OPT_LEVEL={}", env::var("OPT_LEVEL").expect("cargo names its level"));
     let flags = env::var("CARGO_ENCODED_RUSTFLAGS").unwrap_or_default().replace('\u{1f}', " ");
     println!("cargo:rustc-env=BENCH_RUSTFLAGS={flags}");
+    let package = env::var("CARGO_MANIFEST_DIR").expect("cargo names the package's folder");
+    let folder = format!("{package}/../target/staticlib");
+    println!("cargo:rerun-if-changed={folder}/libplacing.a");
+    println!("cargo:rustc-link-search=native={folder}");
+    println!("cargo:rustc-link-lib=static=placing");
 }

@@ -10,6 +10,7 @@ use crate::frames;
 use crate::header::{Distance, Header};
 use crate::inputs::{self, AFFINE, FRAME, HIGH_PRECISION, IDENTITY, PARAMS, ROTZOOM, Scene, TRANSLATION, carried};
 use crate::job::Job;
+use crate::placing::{Field, Way, place};
 
 /// What a ratio is held to.
 const NOISE: f64 = 0.20;
@@ -21,6 +22,11 @@ const SUMS: f64 = 1.1;
 const WHOLE_SUMS: f64 = 0.6;
 const SMALL_FITS: f64 = 1.2;
 const TRIMMED: f64 = 1.5;
+const HEADER_WRITTEN_NEAR: f64 = 1.4;
+const HEADER_WRITTEN_FAR: f64 = 0.85;
+const HEADER_READ_NEAR: f64 = 1.2;
+const HEADER_READ_FAR: f64 = 0.7;
+const IDENTITIES_READ: f64 = 2.2;
 
 #[derive(Clone, Copy)]
 pub enum Case {
@@ -38,6 +44,9 @@ pub enum Case {
     ReadFrame(u8, usize),
     WriteHeader(u8, Distance),
     ReadHeader(u8, Distance),
+    /// Fields of a width, and the fields of a header: a word at a time against one bit after the other.
+    PlaceFields(u32),
+    PlaceHeader(u8, Distance),
     WholeJob(u8, usize, usize),
     ElectingJob(usize, usize),
 }
@@ -58,6 +67,7 @@ pub fn all() -> Vec<Case> {
     let counts = [16, 1024, 4096];
     let kinds = [TRANSLATION, ROTZOOM, AFFINE];
     let header_kinds = [IDENTITY, TRANSLATION, AFFINE];
+    let widths = [1, 3, 8, 17, 32];
     let job_sides = [(64, 64), (640, 480), (1024, 1024)];
     let mut cases = Vec::new();
     cases.extend(Scene::ALL.iter().flat_map(|&scene| sides.map(|(width, height)| Search(scene, width, height))));
@@ -74,6 +84,8 @@ pub fn all() -> Vec<Case> {
     cases.extend([2, 1].iter().flat_map(|&form| counts.map(|n| ReadFrame(form, n))));
     cases.extend(header_kinds.iter().flat_map(|&kind| Distance::ALL.map(|prior| WriteHeader(kind, prior))));
     cases.extend(header_kinds.iter().flat_map(|&kind| Distance::ALL.map(|prior| ReadHeader(kind, prior))));
+    cases.extend(widths.map(PlaceFields));
+    cases.extend(header_kinds.iter().flat_map(|&kind| Distance::ALL.map(|prior| PlaceHeader(kind, prior))));
     cases.extend(kinds.iter().flat_map(|&kind| job_sides.map(|(width, height)| WholeJob(kind, width, height))));
     cases.push(ElectingJob(640, 480));
     cases
@@ -100,6 +112,10 @@ impl fmt::Display for Case {
             ReadFrame(form, n) => write!(f, "read_both | form {form}, {n} samples"),
             WriteHeader(kind, prior) => write!(f, "header write | seven {}, prior {}", type_name(kind), prior.name()),
             ReadHeader(kind, prior) => write!(f, "header read | seven {}, prior {}", type_name(kind), prior.name()),
+            PlaceFields(width) => write!(f, "word / one by one | fields of {width}"),
+            PlaceHeader(kind, prior) => {
+                write!(f, "word / one by one | fields of seven {}, prior {}", type_name(kind), prior.name())
+            }
             WholeJob(kind, width, height) => write!(f, "job | {}, textured {width}×{height}", type_name(kind)),
             ElectingJob(width, height) => write!(f, "job | electing, textured {width}×{height}"),
         }
@@ -121,6 +137,11 @@ impl Case {
             Fit(_, 4096) => Some(WHOLE_SUMS),
             FitSamples(_, 4096) | Score(4096) | ScoreSamples(4096) => Some(SUMS),
             QuantizeTrimmed(_, 4096) | Elect(4096) => Some(TRIMMED),
+            WriteHeader(IDENTITY, _) | WriteHeader(_, Distance::Near) => Some(HEADER_WRITTEN_NEAR),
+            WriteHeader(_, Distance::Far) => Some(HEADER_WRITTEN_FAR),
+            ReadHeader(IDENTITY, _) => Some(IDENTITIES_READ),
+            ReadHeader(_, Distance::Near) => Some(HEADER_READ_NEAR),
+            ReadHeader(_, Distance::Far) => Some(HEADER_READ_FAR),
             _ => None,
         }
     }
@@ -146,6 +167,8 @@ impl Case {
             ReadFrame(form, n) => read_frame(form, n),
             WriteHeader(kind, prior) => write_header(kind, prior),
             ReadHeader(kind, prior) => read_header(kind, prior),
+            PlaceFields(width) => place_fields((0..FIELDS).map(|k| (width, 0x9e37_79b1u32.wrapping_mul(k))).collect()),
+            PlaceHeader(kind, prior) => place_fields(Header::new(kind, prior).fields()),
             WholeJob(kind, width, height) => whole_job(Job::new(kind, width, height), width, height),
             ElectingJob(width, height) => whole_job(Job::electing(width, height), width, height),
         }
@@ -502,6 +525,29 @@ fn read_header(kind: u8, distance: Distance) -> Sides {
         }),
         rust: Box::new(move || {
             black_box(black_box(&header).rust_read(black_box(&rust_bytes)));
+        }),
+        ready: None,
+    }
+}
+
+/// How many fields of one width are placed in a call.
+const FIELDS: u32 = 24;
+/// The bit that the first begins at.
+const FIRST: usize = 3;
+
+fn place_fields(fields: Vec<Field>) -> Sides {
+    let (mut ours, mut one_by_one) = ([0xff; belt::HEADER_BYTES], [0xff; belt::HEADER_BYTES]);
+    let end = place(Way::Word, &fields, &mut ours, FIRST);
+    assert_eq!(place(Way::OneByOne, &fields, &mut one_by_one, FIRST), end);
+    assert_eq!(ours, one_by_one);
+
+    let old_fields = fields.clone();
+    Sides {
+        ours: Box::new(move || {
+            black_box(place(Way::Word, black_box(&fields), black_box(&mut ours), FIRST));
+        }),
+        rust: Box::new(move || {
+            black_box(place(Way::OneByOne, black_box(&old_fields), black_box(&mut one_by_one), FIRST));
         }),
         ready: None,
     }

@@ -4,7 +4,8 @@ use belt::{Refusal, StoredModel};
 use oracle::Models;
 use oracle::list::Lcg;
 
-use crate::inputs::{HIGH_PRECISION, ROTZOOM, TRANSLATION, carried};
+use crate::inputs::{HIGH_PRECISION, IDENTITY, ROTZOOM, TRANSLATION, carried};
+use crate::placing::Field;
 
 /// How far the prior is from the models.
 #[derive(Clone, Copy)]
@@ -26,12 +27,14 @@ impl Distance {
     }
 }
 
-/// Seven models as stored, at high precision, and their prior.
+/// Seven models as stored, at high precision, and their prior; both once more in the form that ours takes.
 #[derive(Clone, Copy)]
 pub struct Header {
     pub types: [u8; 7],
     pub models: Models,
     pub prior: Models,
+    stored: [StoredModel; 7],
+    stored_prior: [StoredModel; 7],
 }
 
 impl Header {
@@ -39,8 +42,8 @@ impl Header {
     pub fn new(kind: u8, distance: Distance) -> Self {
         assert_ne!(kind, ROTZOOM);
         let mut lcg = Lcg(u32::from(kind));
-        let mut header = Self { types: [kind; 7], models: [oracle::IDENTITY; 7], prior: [oracle::IDENTITY; 7] };
-        for (model, prior) in header.models.iter_mut().zip(&mut header.prior) {
+        let (mut models, mut priors) = ([oracle::IDENTITY; 7], [oracle::IDENTITY; 7]);
+        for (model, prior) in models.iter_mut().zip(&mut priors) {
             for slot in 0..6 {
                 let middle = oracle::IDENTITY[slot];
                 if slot < carried(kind) {
@@ -54,20 +57,42 @@ impl Header {
                 };
             }
         }
-        header
+        let (stored, stored_prior) = (models.map(StoredModel), priors.map(StoredModel));
+        Self { types: [kind; 7], models, prior: priors, stored, stored_prior }
     }
 
     pub fn write(&self, room: &mut [u8]) -> Result<usize, Refusal> {
-        let (models, prior) = (self.models.map(StoredModel), self.prior.map(StoredModel));
-        belt::encode_inter_global_motion(&self.types, &models, HIGH_PRECISION, &prior, 0, room)
+        belt::encode_inter_global_motion(&self.types, &self.stored, HIGH_PRECISION, &self.stored_prior, 0, room)
     }
 
     pub fn rust_write(&self) -> (Vec<u8>, usize) {
         oracle::write_header(&self.types, &self.models, true, &self.prior, 0)
     }
 
+    /// The header's fields in their order: a reference's type bits, then a field for each of its coefficients.
+    pub fn fields(&self) -> Vec<Field> {
+        let (bytes, bits) = self.rust_write();
+        let field = |at: usize, width: u32| (at..at + width as usize).fold(0, |v, i| 2 * v + bit(&bytes, i));
+        let (mut at, mut fields) = (0, Vec::new());
+        for kind in self.types {
+            let symbols = if kind == TRANSLATION { 2 * (1 << 9) + 1 } else { 2 * (1 << 12) + 1 };
+            let mut widths = vec![if kind == IDENTITY { 1 } else { 3 }];
+            let mut end = at + widths[0] as usize;
+            for _ in 0..carried(kind) {
+                widths.push(code_width(&field, end, symbols));
+                end += widths[widths.len() - 1] as usize;
+            }
+            for width in widths {
+                fields.push((width, field(at, width)));
+                at += width as usize;
+            }
+        }
+        assert_eq!(at, bits);
+        fields
+    }
+
     pub fn read(&self, bytes: &[u8]) -> Result<belt::Models, Refusal> {
-        belt::read_global_motion_params(bytes, 0, HIGH_PRECISION, &self.prior.map(StoredModel))
+        belt::read_global_motion_params(bytes, 0, HIGH_PRECISION, &self.stored_prior)
     }
 
     pub fn rust_read(&self, bytes: &[u8]) -> Option<([u8; 7], Models, usize)> {
@@ -86,5 +111,28 @@ fn step(kind: u8, slot: usize) -> i32 {
         (TRANSLATION, 0 | 1) => 1 << 13,
         (_, 0 | 1) => 1 << 10,
         _ => 1 << 1,
+    }
+}
+
+fn bit(bytes: &[u8], at: usize) -> u32 {
+    u32::from(bytes[at / 8] >> (7 - at % 8)) & 1
+}
+
+/// How many bits the code at a position has: clause 5.9.28.
+fn code_width(field: &impl Fn(usize, u32) -> u32, at: usize, symbols: u32) -> u32 {
+    let (mut rung, mut start) = (0, 0);
+    loop {
+        let width = if rung == 0 { 3 } else { rung + 2 };
+        if symbols <= start + 3 * (1 << width) {
+            let left = symbols - start;
+            let most = u32::BITS - left.leading_zeros();
+            let short = field(at + rung as usize, most - 1) < (1 << most) - left;
+            return rung + most - u32::from(short);
+        }
+        if field(at + rung as usize, 1) == 0 {
+            return rung + 1 + width;
+        }
+        rung += 1;
+        start += 1 << width;
     }
 }

@@ -9,6 +9,7 @@ mod frames;
 mod header;
 mod inputs;
 mod job;
+mod placing;
 mod timing;
 
 use std::time::Instant;
@@ -77,8 +78,9 @@ fn measure(file: &str) {
     fs::write(file, page).expect("the page's folder is there");
 }
 
-/// The calls that aren't measured give the Rust's answers too.
+/// The calls that aren't measured give the Rust's answers too, and both writers of a field the same bytes.
 fn compare_the_rest() {
+    placing::compare();
     for value in (-5_000_000..5_000_000).step_by(997).chain([i32::MIN, i32::MAX, 0, 65_535, 65_537]) {
         for (kind, flag, slot) in [(0, 0, 0), (1, 0, 0), (1, 1, 1), (2, 1, 2), (3, 0, 3), (3, 1, 5)] {
             let rust = oracle::quantize_global_param(kind, flag == 1, usize::from(slot), value);
@@ -126,6 +128,8 @@ fn head() -> String {
          a far one is at the other end of the range and gives long codes; seven identities have no codes, and ours only judges their prior. \
          Ours judges models, prior and room before it writes, and the Rust doesn't. \
          The Rust reads bits by the stand-in of `oracle/src/stand_ins.rs`, one at a time, since its own bit reader isn't published.\n\n\
+         'Word / one by one' has no Rust: a field put into its bytes at once is divided by the same field put there bit by bit, \
+         both proved to the same promise (`crates/placing`); 24 fields of a width from bit 3 on, or the fields of a header.\n\n\
          A job is measured against the composition of the Rust's parts: search, words, fit, quantization, score, \
          blocks by `bench/src/frames.rs`, and header. Its fit takes the samples of its search as they are; a job that elects has \
          `estimate_global_motion` there, and a score of the elected model. \

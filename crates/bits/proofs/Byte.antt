@@ -42,7 +42,7 @@ module _ (x k b : ℕ) (bit : b < 2) where
       mul-le (suc zero) p h = omega arith
       mul-le (suc (suc c)) p h = absurd (omega arith)
 
-  shifted : withBit x k b ≡ (x / 2 ^ (k + 1) * 2 + b) * 2 ^ k + x % 2 ^ k
+  pub shifted : withBit x k b ≡ (x / 2 ^ (k + 1) * 2 + b) * 2 ^ k + x % 2 ^ k
   shifted = rw (power-step k) (omega arith)
 
   pub bitOf-same : bitOf (withBit x k b) k ≡ b
@@ -52,7 +52,7 @@ module _ (x k b : ℕ) (bit : b < 2) where
   above d =
       rw (← shr-shr (withBit x k b) (k + 1) d, ← shr-shr x (k + 1) d, high (x / 2 ^ (k + 1)) (k + 1) tail-lt)
 
-  low-same : withBit x k b % 2 ^ k ≡ x % 2 ^ k
+  pub low-same : withBit x k b % 2 ^ k ≡ x % 2 ^ k
   low-same = rw (shifted, low (x / 2 ^ (k + 1) * 2 + b) k (mod-lt x (pow-pos k)))
 
 -- a bit is one of the low bits

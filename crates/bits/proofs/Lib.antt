@@ -2,6 +2,10 @@ pub mod Held
 pub mod Byte
 pub mod Buffer
 pub mod Fields
+pub mod Words
+pub mod Alike
+pub mod HeldBack
 pub mod BitLength
 pub mod Ns
 pub mod PowerOfTwo
+pub mod Worked

@@ -28,12 +28,6 @@ module _ (n v w m : ℕ) (ew : w ≡ bitLength n) (em : m ≡ shortCodes n) wher
   unfolding nsBits
   long-code h = rw (← em, le-ltb v m h, ew)
 
-  pub short-length : v < m → length (nsBits n v) ≡ w - 1
-  short-length h = ap length (short-code h) ∙ length-fieldBits (w - 1) v
-
-  pub long-length : m ≤ v → length (nsBits n v) ≡ w
-  long-length h = ap length (long-code h) ∙ length-fieldBits w (v + m)
-
   module _ (g : ℕ → ℕ) (j : ℕ) (ev : v ≡ field g j (w - 1)) where
     pub short-read : v < m → ns g j n ≡ record { value = v; bits = w - 1 }
     unfolding ns
@@ -55,6 +49,14 @@ widths n pos =
     let h : Length n (bitLength n) = bitLength-length n in
     let whole : suc (bitLength n - 1) ≡ bitLength n = omega (arith, bitLength-step n pos) in
     record { whole = whole; twice = ap (λ (m : ℕ). 2 ^ m) (sym whole) ∙ pow-suc 2 (bitLength n - 1); over = h .below; under = h .least pos }
+
+-- the number of a code has no bit above the code's width
+module _ (n v w m : ℕ) (ew : w ≡ bitLength n) (em : m ≡ shortCodes n) (h : v < n) where
+  pub short-low : v < m → v < 2 ^ (w - 1)
+  short-low l = let s = widths n (omega arith) in rw ew (omega (arith, em, s .twice, s .under))
+
+  pub long-low : v + m < 2 ^ w
+  long-low = let s = widths n (omega arith) in rw ew (omega (arith, em, s .over))
 
 module _ (g : ℕ → ℕ) (bits : (i : ℕ) → g i < 2) (j n : ℕ) (pos : 0 < n) where
   abbrev w : ℕ

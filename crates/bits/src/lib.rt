@@ -3,19 +3,28 @@
 // cursor behind it and the buffer with those bits and no other bit changed. docs/RULES.md, 'Header' and
 // 'Rust forms to recast'; standard 4.10.2, 4.10.7; encoder/bitwriter.rs.
 
-ghost use Prim.Native.Nat.{_+_, _*_, _/_, _%_, _^_, _≤_, _<_};
+ghost use Prim.Native.Nat.{_+_, _-_, _*_, _/_, _%_, _^_, _≤_, _<_};
 ghost use lib.ListN.{length};
 ghost use mathlib.Core.List.{[], _∷_};
 ghost use mathlib.Core.Path.{_≡_};
-ghost use Rattle.bits.specs.Bits.{bitAt, bitOf, withBit};
+ghost use Rattle.bits.specs.Bits.{bitAt, bitOf, withBit, putBits};
 ghost use Rattle.bits.specs.Fields.{field, fieldBits, padBits};
 ghost use Rattle.bits.specs.Ns.{ns, nsBits, bitLength};
-ghost use Rattle.bits.specs.Inner.{Room, Wrote, ReadIs, NsWidthIs};
+ghost use Rattle.bits.specs.Inner.{Room, Wrote, FieldIs, ReadIs, NsWidthIs, Ready, Put, heldBits};
 
 pub const BITS_OF_A_BYTE: usize = 8;
 
+// The same, as a width.
+const BYTE: u32 = 8;
+
 pub struct BitCursor {
     pub at: usize,
+}
+
+// A width, and a number of no more bits.
+pub struct Field {
+    pub n: u32,
+    pub value: u32,
 }
 
 // A number read, and the cursor behind it.
@@ -69,8 +78,136 @@ fn bit_at(bytes: &[u8], at: usize) -> u32
     0
 }
 
+// 2 to the power of k, among 64 bits.
+fn wide_power(k: u32) -> u64
+    requires { ⌜ k ≤ 32 ⌝ }
+    ensures { λ r. ⌜ r ≡ 2 ^ k ⌝ }
+{
+    1u64 << k
+}
+
+fn low_byte(word: u64) -> u8
+    ensures { λ r. ⌜ r ≡ word % 2 ^ 8 ⌝ }
+{
+    (word % 256) as u8
+}
+
+// The byte with the low k bits of word as its first.
+fn with_front(byte: u8, k: u32, word: u64) -> u8
+    requires { ⌜ k ≤ 8 ⌝ }
+    ensures { λ r. ⌜ r ≡ word % 2 ^ k * 2 ^ (8 - k) + byte % 2 ^ (8 - k) ⌝ }
+{
+    let whole = byte as u64;
+    let rest = wide_power(BYTE - k);
+    let kept = whole % rest;
+    (word % wide_power(k) * rest + kept) as u8
+}
+
+// A byte's first bits and, behind them, the low n bits of value: one field that begins with the byte.
+fn joined(byte: u8, used: u32, n: u32, value: u32) -> u64
+    requires { ⌜ (used ≤ 8) × (n ≤ 32) ⌝ }
+    ensures { λ r. ⌜ r ≡ byte / 2 ^ (8 - used) * 2 ^ n + value % 2 ^ n ⌝ }
+{
+    let before = byte as u64 / wide_power(BYTE - used);
+    before * wide_power(n) + value as u64 % wide_power(n)
+}
+
+// A whole byte, which isn't read.
+fn store_byte(buffer: &mut [u8], at: usize, word: u64)
+    requires { ⌜ at < length (now buffer) ⌝ }
+    ensures { λ _. ⌜ now (buffer .exit) ≡ putBits (now (buffer .entry)) (8 * at) (fieldBits 8 word) ⌝ }
+{
+    buffer[at] = low_byte(word);
+}
+
+// The first bits of a byte; the others stay.
+fn store_front(buffer: &mut [u8], at: usize, k: u32, word: u64)
+    requires { ⌜ (k ≤ 8) × (at < length (now buffer)) ⌝ }
+    ensures { λ _. ⌜ now (buffer .exit) ≡ putBits (now (buffer .entry)) (8 * at) (fieldBits k word) ⌝ }
+{
+    buffer[at] = with_front(buffer[at], k, word);
+}
+
+// The low n bits of word, from the first bit of a byte on.
+fn store_word(buffer: &mut [u8], first: usize, n: u32, word: u64)
+    requires { ⌜ (n ≤ 64) × (8 * first + n ≤ 8 * length (now buffer)) ⌝ }
+    ensures { λ _. ⌜ now (buffer .exit) ≡ putBits (now (buffer .entry)) (8 * first) (fieldBits n word) ⌝ }
+{
+    let mut at = first;
+    let mut left = n;
+    while BYTE <= left {
+        left -= BYTE;
+        store_byte(buffer, at, word >> left);
+        at += 1;
+    }
+    if 0 < left {
+        store_front(buffer, at, left, word);
+    }
+}
+
+// A byte as a number, 0 past the end.
+fn byte_at(bytes: &[u8], at: usize) -> u64
+    ensures { λ r. ⌜ (r ≡ field (bitAt (now (bytes .entry))) (8 * at) 8) × (r < 256) ⌝ }
+{
+    if at < bytes.len() {
+        return bytes[at] as u64;
+    }
+    0
+}
+
+// A byte that is there.
+fn byte_in(bytes: &[u8], at: usize) -> u64
+    requires { ⌜ at < length (now bytes) ⌝ }
+    ensures { λ r. ⌜ (r ≡ field (bitAt (now (bytes .entry))) (8 * at) 8) × (r < 256) ⌝ }
+{
+    bytes[at] as u64
+}
+
+// Five bytes as a number, the first highest, with zeros past the end.
+fn five_padded(bytes: &[u8], first: usize) -> u64
+    requires { ⌜ first + 5 < 2 ^ 64 ⌝ }
+    ensures { λ r. ⌜ (r ≡ field (bitAt (now (bytes .entry))) (8 * first) 40) × (r < 2 ^ 40) ⌝ }
+{
+    let one = byte_at(bytes, first);
+    let two = one * 256 + byte_at(bytes, first + 1);
+    let three = two * 256 + byte_at(bytes, first + 2);
+    let four = three * 256 + byte_at(bytes, first + 3);
+    four * 256 + byte_at(bytes, first + 4)
+}
+
+// The same where all five are there.
+fn five_inside(bytes: &[u8], first: usize) -> u64
+    requires { ⌜ first + 5 ≤ length (now bytes) ⌝ }
+    ensures { λ r. ⌜ (r ≡ field (bitAt (now (bytes .entry))) (8 * first) 40) × (r < 2 ^ 40) ⌝ }
+{
+    let one = byte_in(bytes, first);
+    let two = one * 256 + byte_in(bytes, first + 1);
+    let three = two * 256 + byte_in(bytes, first + 2);
+    let four = three * 256 + byte_in(bytes, first + 3);
+    four * 256 + byte_in(bytes, first + 4)
+}
+
+// The same: a field of 32 bits lies in them, wherever in the first it begins.
+fn five_bytes(bytes: &[u8], first: usize) -> u64
+    requires { ⌜ first + 5 < 2 ^ 64 ⌝ }
+    ensures { λ r. ⌜ (r ≡ field (bitAt (now (bytes .entry))) (8 * first) 40) × (r < 2 ^ 40) ⌝ }
+{
+    if first + 5 <= bytes.len() {
+        return five_inside(bytes, first);
+    }
+    five_padded(bytes, first)
+}
+
+// n bits of five bytes, from bit `used` on.
+fn bits_inside(word: u64, used: u32, n: u32) -> u32
+    requires { ⌜ (used < 8) × (n ≤ 32) ⌝ }
+    ensures { λ r. ⌜ r ≡ word / 2 ^ (40 - used - n) % 2 ^ n ⌝ }
+{
+    ((word >> (5 * BYTE - used - n)) % wide_power(n)) as u32
+}
+
 // The number of bits of n, FloorLog2(n) + 1.
-fn bit_length(n: u32) -> u32
+pub fn bit_length(n: u32) -> u32
     ensures { λ r. ⌜ (r ≡ bitLength n) × (r ≤ 32) ⌝ }
 {
     let mut x = n;
@@ -97,16 +234,18 @@ fn ns_width(n: u32) -> NsWidth
     NsWidth { w, m: power(w) - n }
 }
 
-// How many bits the ns code of v takes.
-pub fn ns_length(n: u32, v: u32) -> u32
-    requires { ⌜ (0 < n) × (n ≤ 65536) ⌝ }
-    ensures { λ r. ⌜ (r ≡ length (nsBits n v)) × (r ≤ 17) ⌝ }
+// The ns code of v, as one field.
+pub fn ns_field(n: u32, v: u32) -> Field
+    requires { ⌜ (v < n) × (n ≤ 65536) ⌝ }
+    ensures { λ r. ⌜ FieldIs r (nsBits n v) × (r .n ≤ 17) ⌝ }
 {
     let width = ns_width(n);
-    if v < width.m {
-        return width.w - 1;
+    let w = width.w;
+    let m = width.m;
+    if v < m {
+        return Field { n: w - 1, value: v };
     }
-    width.w
+    Field { n: w, value: v + m }
 }
 
 impl BitCursor {
@@ -132,13 +271,20 @@ impl BitCursor {
         requires { ⌜ (n ≤ 32) × Room (now buffer) (self .at) n ⌝ }
         ensures { λ r. ⌜ Wrote (now (buffer .entry)) (self .at) (fieldBits n value) (now (buffer .exit)) (r .at) ⌝ }
     {
-        let mut cursor = self;
-        let mut left = n;
-        while 0 < left {
-            left -= 1;
-            cursor = cursor.write_bit(buffer, bit_of(value, left));
+        let at = self.at;
+        let first = at / BITS_OF_A_BYTE;
+        let used = (at % BITS_OF_A_BYTE) as u32;
+        if used == 0 {
+            store_word(buffer, first, n, value as u64);
+            return BitCursor {
+                at: at + n as usize,
+            };
         }
-        cursor
+        let word = joined(buffer[first], used, n, value);
+        store_word(buffer, first, used + n, word);
+        BitCursor {
+            at: at + n as usize,
+        }
     }
 
     // The number v of n symbols, by clause 4.10.7.
@@ -146,14 +292,8 @@ impl BitCursor {
         requires { ⌜ (v < n) × (n ≤ 65536) × Room (now buffer) (self .at) (length (nsBits n v)) ⌝ }
         ensures { λ r. ⌜ Wrote (now (buffer .entry)) (self .at) (nsBits n v) (now (buffer .exit)) (r .at) ⌝ }
     {
-        let width = ns_width(n);
-        let w = width.w;
-        let m = width.m;
-        if v < m {
-            self.write_bits(buffer, w - 1, v)
-        } else {
-            self.write_bits(buffer, w, v + m)
-        }
+        let field = ns_field(n, v);
+        self.write_bits(buffer, field.n, field.value)
     }
 
     // Zero bits up to the end of the byte.
@@ -182,18 +322,14 @@ impl BitCursor {
         requires { ⌜ (n ≤ 32) × (self .at + n < 2 ^ 64) ⌝ }
         ensures { λ r. ⌜ ReadIs r (field (bitAt (now (bytes .entry))) (self .at) n) (self .at + n) ⌝ }
     {
-        let mut cursor = self;
-        let mut value = 0u32;
-        let mut left = n;
-        while 0 < left {
-            let bit = cursor.read_bit(bytes);
-            value = 2 * value + bit.value;
-            cursor = bit.next;
-            left -= 1;
-        }
+        let at = self.at;
+        let used = (at % BITS_OF_A_BYTE) as u32;
+        let word = five_bytes(bytes, at / BITS_OF_A_BYTE);
         Read {
-            value,
-            next: cursor,
+            value: bits_inside(word, used, n),
+            next: BitCursor {
+                at: at + n as usize,
+            },
         }
     }
 
@@ -216,5 +352,56 @@ impl BitCursor {
             value: 2 * v.value - m + extra_bit.value,
             next: end,
         }
+    }
+}
+
+// A cursor that holds its last bits back: what comes next joins them while one field takes both.
+pub struct Pen {
+    pub at: usize,
+    pub held: Field,
+}
+
+impl Pen {
+    pub fn new(at: usize) -> Self
+        ensures { λ r. ⌜ (r .at ≡ at) × (r .held .n ≡ 0) × (r .held .value ≡ 0) ⌝ }
+    {
+        Self {
+            at,
+            held: Field { n: 0, value: 0 },
+        }
+    }
+
+    // The field's bits behind those that are held.
+    pub fn put(self, buffer: &mut [u8], field: Field) -> Pen
+        requires { ⌜ (field .n ≤ 32) × (field .value < 2 ^ field .n) × Ready (now buffer) self (field .n) ⌝ }
+        ensures { λ r. ⌜ Put (now (buffer .entry)) self (fieldBits (field .n) (field .value)) (now (buffer .exit)) r ⌝ }
+    {
+        let at = self.at;
+        let held = self.held;
+        let n = held.n + field.n;
+        if n <= 32 {
+            let both = held.value as u64 * wide_power(field.n) + field.value as u64;
+            return Pen {
+                at,
+                held: Field {
+                    n,
+                    value: both as u32,
+                },
+            };
+        }
+        let next = BitCursor { at }.write_bits(buffer, held.n, held.value);
+        Pen {
+            at: next.at,
+            held: field,
+        }
+    }
+
+    // What is held is written too.
+    pub fn lift(self, buffer: &mut [u8]) -> BitCursor
+        requires { ⌜ Ready (now buffer) self 0 ⌝ }
+        ensures { λ r. ⌜ Wrote (now (buffer .entry)) (self .at) (heldBits self) (now (buffer .exit)) (r .at) ⌝ }
+    {
+        let held = self.held;
+        BitCursor { at: self.at }.write_bits(buffer, held.n, held.value)
     }
 }

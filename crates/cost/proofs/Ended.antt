@@ -12,8 +12,9 @@ use lib.ListN.{length, drop, drop-of-length-le}
 use lib.Seq.{drop-cons}
 use borrow.Author.Tests.{ltb-false, lt-ltb, le-ltb}
 use Rattle.laws.specs.Loops.{sum}
-use Rattle.plane.specs.Plane.{listing}
-use Rattle.plane.proofs.Listing.{length-listing, getD-listing}
+use Rattle.laws.specs.Parts.{listing}
+use Rattle.laws.proofs.Filling.{length-listing}
+use Rattle.plane.proofs.Listing.{getD-listing}
 use Rattle.cost.specs.declared.Added.{Added}
 use Rattle.cost.specs.Ended.{total, added, ended}
 use Rattle.cost.specs.Inner.{Sums}

@@ -6,28 +6,48 @@ use mathlib.Core.Path.{_≡_, _∙_}
 use native.Mathlib.Omega.{arith}
 use lib.IntN.{ℤ}
 use lib.ListN.{take, drop, getD}
+use Rattle.laws.proofs.Loops.{sum-same}
+use Rattle.laws.proofs.Filling.{listing-same}
+use Rattle.laws.specs.Parts.{listing}
 use Rattle.plane.specs.declared.Place.{Place}
 use Rattle.plane.specs.declared.Offset.{Offset}
-use Rattle.plane.specs.Plane.{listing, pelAt, down, right}
+use Rattle.plane.specs.Plane.{pelAt, down, right}
 use Rattle.plane.specs.Clamp.{displaced, offset}
-use Rattle.plane.specs.Inner.{windowOf}
+use Rattle.plane.specs.Inner.{windowOf, Is}
 use Rattle.plane.proofs.Halves.{part-at}
-use Rattle.plane.proofs.Listing.{listing-same}
 use Rattle.plane.proofs.Windows.{window-at, displaced-same, displaced-none}
 use Rattle.cost.specs.Cost.{blockCost, eighthsCost, rowCost, bilinearCost, bilinearRowCost, predicted, whole, fraction}
-use Rattle.cost.specs.Ended.{total, rowCosts, eighthsCosts}
-use Rattle.cost.specs.Inner.{rowDifference, bilinearDifference, windowCost, windowCosts, bilinearWindowCost, bilinearWindowCosts, wholeIn, fractionOf, Reached}
-use Rattle.cost.proofs.Ended.{total-listing}
+use Rattle.cost.specs.Ended.{total, added, ended, rowCosts, eighthsCosts}
+use Rattle.cost.specs.Inner.{rowDifference, bilinearDifference, windowCost, windowCosts, bilinearWindowCost, bilinearWindowCosts, wholeIn, fractionOf, Reached, Sums}
+use Rattle.cost.proofs.Ended.{Left, next, stops, all, total-listing}
 use Rattle.cost.proofs.Stored.{whole-of-stored, fraction-of-stored}
-use Rattle.cost.proofs.Sum.{sum-same}
 
 -- the row as the code cuts it out
-pub row-laid : (n side : ℕ) (block window : List ℕ) (y x i : ℕ) →
+abbrev cut : (n side : ℕ) (block window : List ℕ) (y x i : ℕ) → ℕ
+cut n side block window y x i =
     rowDifference n (take (i * n + n - i * n) (drop (i * n) block)) (take ((y + i) * side + x + n - ((y + i) * side + x)) (drop ((y + i) * side + x) window))
-    ≡ windowCost n side block window y x i
+
+row-laid : (n side : ℕ) (block window : List ℕ) (y x i : ℕ) → cut n side block window y x i ≡ windowCost n side block window y x i
 unfolding rowDifference windowCost
 row-laid n side block window y x i =
     sum-same _ _ n (λ j g. rw (part-at block (i * n) n j g, part-at window ((y + i) * side + x) n j g))
+
+-- what a loop over the rows of a block of any side keeps, whatever its window's side
+pub record Laid (n side b : ℕ) (block window : List ℕ) (y x best start i cost : ℕ) : Type 0 where
+  pub rows : Left best start (windowCost n side block window y x) n b i cost
+
+module _ {n side b : ℕ} {block window : List ℕ} {y x best start i cost : ℕ} (a : Laid n side b block window y x best start i cost) where
+  pub row-next : {d : ℕ} → i < n → Is (cut n side block window y x i) b d → cost + d < best → Laid n side b block window y x best start (i + 1) (cost + d)
+  row-next l is h = record { rows = next (a .rows) l (is .same ∙ row-laid n side block window y x i) (is .small) h }
+
+  pub row-stops : {d : ℕ} → i < n → Is (cut n side block window y x i) b d → best ≤ cost + d → start + b * n ≤ 16777472 →
+      Sums n (ended best start 0 (windowCosts n side block window y x)) (added (cost + d) (i + 1))
+  unfolding windowCosts
+  row-stops l is h k = stops (a .rows) l (is .same ∙ row-laid n side block window y x i) (is .small) h k
+
+  pub rows-all : n ≤ i → start + b * n ≤ 16777472 → Sums n (ended best start 0 (windowCosts n side block window y x)) (added cost i)
+  unfolding windowCosts
+  rows-all l k = all (a .rows) l k
 
 pub bilinear-row-laid : (n side : ℕ) (block window : List ℕ) (y x fy fx i : ℕ) →
     bilinearDifference n

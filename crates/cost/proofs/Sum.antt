@@ -1,15 +1,11 @@
--- Sums whose terms agree, and a sum that a loop adds up term by term, with its bound.
+-- A sum that a loop adds up term by term, with its bound.
 -- Assumes nothing.
-use Prim.Native.Nat.{ℕ, zero, suc, _+_, _*_, _≤_, _<_}
+use Prim.Native.Nat.{ℕ, _+_, _*_, _≤_, _<_}
 use mathlib.Core.Path.{_≡_, refl, sym, ap, subst, _∙_}
 use native.Mathlib.Omega.{arith}
 use Rattle.laws.specs.Loops.{sum}
 use Rattle.laws.proofs.Loops.{sum-step}
 use Rattle.plane.specs.Inner.{Is}
-
-pub sum-same : (f g : ℕ → ℕ) (n : ℕ) → ((i : ℕ) → i < n → f i ≡ g i) → sum f n ≡ sum g n
-sum-same f g zero h = refl
-sum-same f g (suc n) h = rw (sum-same f g n (λ i l. h i (omega arith)), h n (omega arith))
 
 -- s adds up the first i of n terms, each at most b
 pub record Adds (f : ℕ → ℕ) (b n i s : ℕ) : Type 0 where

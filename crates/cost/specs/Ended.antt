@@ -5,8 +5,9 @@ use mathlib.Core.List.{List, [], _∷_}
 use lib.Dec.{ltb}
 use lib.IntN.{ℤ}
 use Rattle.laws.specs.Refusal.{choose}
+use Rattle.laws.specs.Parts.{listing}
 use Rattle.plane.specs.declared.Place.{Place}
-use Rattle.plane.specs.Plane.{listing, down}
+use Rattle.plane.specs.Plane.{down}
 use Rattle.cost.specs.declared.Added.{Added}
 use Rattle.cost.specs.Cost.{rowCost, bilinearRowCost, whole, fraction}
 

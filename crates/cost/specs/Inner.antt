@@ -5,8 +5,8 @@ use mathlib.Core.List.{List}
 use mathlib.Core.Path.{_≡_}
 use lib.ListN.{length, getD}
 use Rattle.laws.specs.Loops.{sum}
+use Rattle.laws.specs.Parts.{listing}
 use Rattle.plane.specs.declared.Offset.{Offset}
-use Rattle.plane.specs.Plane.{listing}
 use Rattle.plane.specs.Difference.{difference}
 use Rattle.cost.specs.declared.Added.{Added}
 use Rattle.cost.specs.Cost.{bilinear}

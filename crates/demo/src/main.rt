@@ -4,7 +4,7 @@
 // its header reads as, in pels, zoom, degrees and slide, how many samples agree, the score and the bits;
 // then what is stored: the header's bytes and the blocks as the list program prints them; last, whether
 // all of it is right.
-ghost use Prim.Native.Nat.{_≤_, _<_};
+ghost use Prim.Native.Nat.{_<_};
 use job::Report;
 use job::Settings;
 use libc::STDOUT_FILENO;
@@ -154,24 +154,6 @@ fn true_motion(gm_type: u8) -> [i32; 6] {
         return [-30720, 0, ONE, 4096, 0, ONE];
     }
     [0, 0, ONE, 0, 0, ONE]
-}
-
-fn identity_at(slot: usize) -> i32 {
-    if slot == 2 {
-        return 65536;
-    }
-    if slot == 5 {
-        return 65536;
-    }
-    0
-}
-
-fn fill_identity(numbers: &mut [i32]) {
-    let mut i = 0;
-    while i < numbers.len() {
-        numbers[i] = identity_at(i % 6);
-        i += 1;
-    }
 }
 
 // ---- what is printed
@@ -453,12 +435,6 @@ fn verdict(is_right: bool) {
     print(b"verdict: WRONG\n\n");
 }
 
-fn least(a: usize, b: usize) -> usize
-    ensures { λ r. ⌜ (r ≤ a) × (r ≤ b) ⌝ }
-{
-    if a < b { a } else { b }
-}
-
 fn finish(
     gm_type: u8,
     r: Report,
@@ -485,7 +461,7 @@ fn finish(
     print_motion(b"measured:", measured);
     print_motion(b"header read:", stored);
     print_report(r, agreeing(measured, words));
-    let used = least((least(r.bits, MOST_BITS) + 7) / 8, header.len());
+    let used = replay::least((replay::least(r.bits, MOST_BITS) + 7) / 8, header.len());
     print_bytes(&header[0..used]);
     print_block(blocks);
     verdict(
@@ -544,8 +520,8 @@ fn show(gm_type: u8) {
     let mut prior = [0i32; 42];
     let mut models = [0i32; 36];
     fill_frames(gm_type, &mut input, &mut reference);
-    fill_identity(&mut prior);
-    fill_identity(&mut models);
+    replay::fill_identity(&mut prior);
+    replay::fill_identity(&mut models);
     print(b"a belt of ");
     print_type(gm_type);
     print(b"\n");

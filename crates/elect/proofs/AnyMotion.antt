@@ -12,7 +12,7 @@ use Rattle.fit.specs.Fitted.{typeOf}
 use Rattle.grid_number.specs.GridNumber.{gridNumber}
 use Rattle.quantize.specs.declared.Linear.{Linear}
 use Rattle.quantize.specs.declared.Motion.{Motion}
-use Rattle.quantize.specs.Quantize.{slotOf, linearOf, refitted, refittedFrom, paramsOf, params, paramsFrom}
+use Rattle.quantize.specs.Quantize.{slotOf, linearOf, refitted, refittedFrom, paramsOf, paramsFrom}
 use Rattle.quantize.proofs.OnGrid.{OnGrid, CodableAt, each-of-six, quantized-on-grid}
 
 module _ (kind flag : ℕ) (l : Linear) (s t : Motion) (g : OnGrid kind flag (paramsOf kind flag l s)) where

@@ -25,7 +25,7 @@ use Rattle.trim.specs.declared.TrimmedModel.{TrimmedModel}
 use Rattle.trim.specs.Trim.{residualsFrom, firstFrom, usedFrom, lastFrom, fewRefusal, flagRefusal, residualRefusal, trimRefusal, trimmedModelAs, trimmedModelRefusal}
 use Rattle.trim.specs.Inner.{refusedModel}
 use Rattle.elect.specs.declared.Elected.{Elected}
-use Rattle.elect.specs.Elect.{identityParams, energyFrom, candidateFrom, nobody, winnerFrom, asStored}
+use Rattle.elect.specs.Elect.{identityParams, energyFrom, nobody, winnerFrom, asStored}
 use Rattle.elect.specs.Inside.{Inside}
 use Rattle.elect.proofs.AnyMotion.{from-on-grid}
 use Rattle.elect.proofs.OwnModel.{own-right}

@@ -11,7 +11,6 @@ use lib.Dec.{eqb, lit≤}
 use lib.Ieee.{Float, lt}
 use Rattle.laws.specs.Loops.{fold}
 use Rattle.laws.specs.Refusal.{choose}
-use Rattle.laws.proofs.Cases.{eq-or-ne}
 use Rattle.sample.specs.declared.MotionSample.{MotionSample}
 use Rattle.trim.specs.declared.TrimmedModel.{TrimmedModel}
 use Rattle.elect.specs.declared.Elected.{Elected}
@@ -120,7 +119,8 @@ module _ {A : Type 0} (read : A → MotionSample) (flag : ℕ) (xs : List A) (en
   turns-stay [] h n e = e
   turns-stay (kind ∷ kinds) h n e = turns-stay kinds (turn read flag xs energy h kind) (turn-numbered h n kind) (turn-stays h n kind e)
 
-  turns-sixteen : (before after : List ℕ) (kind : ℕ) (h : Elected) → Numbered h → candidateFrom read flag xs kind .refusal ≡ 16 → fold (turn read flag xs energy) (before ++ (kind ∷ after)) h .refusal ≡ 16
+  turns-sixteen : (before after : List ℕ) (kind : ℕ) (h : Elected) → Numbered h → candidateFrom read flag xs kind .refusal ≡ 16
+      → fold (turn read flag xs energy) (before ++ (kind ∷ after)) h .refusal ≡ 16
   turns-sixteen [] after kind h n e = turns-stay after (turn read flag xs energy h kind) (turn-numbered h n kind) (turn-sixteen h n kind e)
   turns-sixteen (b ∷ before) after kind h n e = turns-sixteen before after kind (turn read flag xs energy h b) (turn-numbered h n b) e
 
@@ -148,7 +148,8 @@ module _ {A : Type 0} (read : A → MotionSample) (flag : ℕ) (xs : List A) whe
       (λ e. turns-numbered read flag xs energy types (nobody energy) (inl refl))
 
   -- 16 of any type ends the call
-  pub sixteen-ends : (before after : List ℕ) (kind : ℕ) → types ≡ before ++ (kind ∷ after) → lt energy floor ≡ false → candidateFrom read flag xs kind .refusal ≡ 16 → winnerFrom read flag xs .refusal ≡ 16
+  pub sixteen-ends : (before after : List ℕ) (kind : ℕ) → types ≡ before ++ (kind ∷ after) → lt energy floor ≡ false
+      → candidateFrom read flag xs kind .refusal ≡ 16 → winnerFrom read flag xs .refusal ≡ 16
   unfolding winnerFrom
   sixteen-ends before after kind split moving e =
       ap (λ (b : Bool). choose b (nobody energy) (fold (turn read flag xs energy) types (nobody energy)) .refusal) moving

@@ -18,17 +18,18 @@ use Rattle.laws.proofs.Cases.{lt-or-le}
 use Rattle.laws.proofs.Refusal.{or-else-quiet}
 use Rattle.sample.specs.declared.MotionSample.{MotionSample}
 use Rattle.sample.specs.Word.{mostSamples}
-use Rattle.fit.specs.Sums.{reading}
+use Rattle.fit.specs.Sums.{reading, itself}
 use Rattle.fit.specs.Fitted.{listRefusal}
 use Rattle.fit.proofs.Accepted.{list-few}
 use Rattle.fit.proofs.SameSamples.{fold-map}
 use Rattle.score.specs.Score.{continuousModel, scoreStep, scoreOf}
 use Rattle.trim.specs.declared.TrimmedModel.{TrimmedModel}
 use Rattle.trim.specs.Trim.{flagRefusal}
-use Rattle.trim.specs.Inner.{itself, samplesIn}
+use Rattle.trim.specs.Inner.{samplesIn}
 use Rattle.trim.proofs.Mapped.{model-mapped, length-samplesIn}
 use Rattle.elect.specs.declared.Elected.{Elected}
-use Rattle.elect.specs.Elect.{floor, identityParams, errorFrom, energyFrom, candidateFrom, unfit, nobody, stopped, heldAfter, byNumber, judged, turn, types, winnerFrom, electRefusal, asStored, electedFrom}
+use Rattle.elect.specs.Elect.{floor, identityParams, errorFrom, energyFrom, candidateFrom, unfit, nobody, stopped}
+use Rattle.elect.specs.Elect.{heldAfter, byNumber, judged, turn, types, winnerFrom, electRefusal, asStored, electedFrom}
 
 module _ {A : Type 0} (read : A → MotionSample) where
   pub error-mapped : (p : List ℤ) (xs : List A) → errorFrom itself p (map read xs) ≡ errorFrom read p xs

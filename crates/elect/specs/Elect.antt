@@ -1,4 +1,6 @@
--- The election of a model (`estimate_global_motion`), over a list whose elements are read as samples: the energy of the motion, the candidate of each type in rising order, which of them are passed over, and who is held at the end. docs/RULES.md, 'Election'.
+-- The election of a model (`estimate_global_motion`), over a list whose elements are read as samples: the energy of the
+-- motion, the candidate of each type in rising order, which of them are passed over, and who is held at the end.
+-- docs/RULES.md, 'Election'.
 -- Assumes nothing.
 use Prim.Native.Nat.{ℕ}
 use mathlib.Core.Bool.{Bool, false, not}

@@ -14,7 +14,8 @@ ghost use mathlib.Core.Path.{_≡_};
 ghost use Prim.Native.Nat.{_≤_};
 ghost use Rattle.sample.specs.Word.{mostSamples};
 ghost use Rattle.sample.specs.Sample.{sampleOf};
-ghost use Rattle.trim.specs.Inner.{itself, samplesIn};
+ghost use Rattle.fit.specs.Sums.{itself};
+ghost use Rattle.trim.specs.Inner.{samplesIn};
 ghost use Rattle.elect.specs.Elect.{identityParams, errorFrom, isIdentity, invalidShear, unfit, nobody, stopped, beats, heldAfter, turn, winnerFrom, electRefusal, asStored, electedFrom};
 
 // A field of less energy than this stands still.

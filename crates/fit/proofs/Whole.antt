@@ -3,7 +3,7 @@
 -- Assumes nothing.
 use Prim.Native.Nat.{ℕ, _+_, _*_, _^_, _≤_}
 use mathlib.Core.List.{List}
-use mathlib.Core.Path.{_≡_, refl, sym, ap, _∙_, subst}
+use mathlib.Core.Path.{_≡_, refl, sym, _∙_, subst}
 use native.Mathlib.Nat.{zero-add}
 use native.Mathlib.Omega.{arith}
 use lib.Dec.{lit≤}
@@ -16,10 +16,9 @@ use Rattle.laws.proofs.Signed.{natAbs-add-le, natAbs-sub-le}
 use Rattle.laws.proofs.Stands.{ofInt-stands, add-exact, sub-exact, div-exact, stands-once}
 use Rattle.sample.specs.Word.{mostSamples, rowOf, colOf, vOf, uOf}
 use Rattle.sample.specs.Sample.{eighthsOf, eight}
-use Rattle.tally.specs.declared.Fields.{Fields}
 use Rattle.tally.specs.Tally.{Words, counted, countOver, productOf, motionsOf, fieldsOf}
-use Rattle.tally.specs.Inner.{mostCount, SmallMotions, SmallFields}
-use Rattle.tally.proofs.Counted.{Form, formAt, formOver, counted-small, motions-small, fields-small}
+use Rattle.tally.specs.Inner.{mostCount, SmallFields}
+use Rattle.tally.proofs.Counted.{Form, formAt, formOver, counted-small, fields-small}
 use Rattle.tally.proofs.Apart.{apart, apart-times, form-sum, sum-of-sums, sum-of-differences}
 use Rattle.fit.specs.Sums.{translationTotals, rotZoomTotals, affineTotals, translationSums, rotZoomSums, affineSums}
 use Rattle.fit.specs.Inner.{two, four, sixteen, wholeOver, centreSum, motionSum, productSum, momentSum, translationOver, rotZoomOver, affineOver}
@@ -148,6 +147,13 @@ module _ (ws : List ℕ) (words : Words ws) (few : length ws ≤ mostSamples) wh
   abbrev momentsBelow : (ℕ → ℕ) → ℕ
   momentsBelow f = 7136 * counted f ws + 3345 * n
 
+  -- the sums of products of two centres' coordinates, and of a centre's with a motion's
+  abbrev products : (ℕ → ℕ) → (ℕ → ℕ) → Float
+  products f g = productSum (counted (productOf f g) ws) (counted f ws) (counted g ws) n
+
+  abbrev moments : (ℕ → ℕ) → (ℕ → ℕ) → Float
+  moments f h = momentSum (counted (productOf f h) ws) (counted f ws) (counted h ws) n
+
   pub x-sum : centreSum (counted colOf ws) n ≡ summed sumX ws
   x-sum = stands-is sumX row-x _ (centres-whole ws colOf) (centre-stands n few (counted colOf ws) (small .c))
 
@@ -160,60 +166,60 @@ module _ (ws : List ℕ) (words : Words ws) (few : length ws ≤ mostSamples) wh
   pub v-sum : motionSum (counted vOf ws) n ≡ summed sumV ws
   v-sum = stands-is sumV row-v _ (motions-whole ws vOf) (motion-stands n few (counted vOf ws) (small .v))
 
-  xx-stands : Stands 2 (apart (productsAbove colOf colOf) 0) (productSum (counted (productOf colOf colOf) ws) (counted colOf ws) (counted colOf ws) n)
+  xx-stands : Stands 2 (apart (productsAbove colOf colOf) 0) (products colOf colOf)
   xx-stands = product-stands n few (counted (productOf colOf colOf) ws) (counted colOf ws) (counted colOf ws) (small .cc) (small .c) (small .c)
 
-  pub xx-sum : productSum (counted (productOf colOf colOf) ws) (counted colOf ws) (counted colOf ws) n ≡ summed sumXX ws
+  pub xx-sum : products colOf colOf ≡ summed sumXX ws
   xx-sum = stands-is sumXX row-xx _ (products-whole ws colOf colOf) xx-stands
 
-  xy-stands : Stands 2 (apart (productsAbove colOf rowOf) 0) (productSum (counted (productOf colOf rowOf) ws) (counted colOf ws) (counted rowOf ws) n)
+  xy-stands : Stands 2 (apart (productsAbove colOf rowOf) 0) (products colOf rowOf)
   xy-stands = product-stands n few (counted (productOf colOf rowOf) ws) (counted colOf ws) (counted rowOf ws) (small .cr) (small .c) (small .r)
 
-  pub xy-sum : productSum (counted (productOf colOf rowOf) ws) (counted colOf ws) (counted rowOf ws) n ≡ summed sumXY ws
+  pub xy-sum : products colOf rowOf ≡ summed sumXY ws
   xy-sum = stands-is sumXY row-xy _ (products-whole ws colOf rowOf) xy-stands
 
-  yy-stands : Stands 2 (apart (productsAbove rowOf rowOf) 0) (productSum (counted (productOf rowOf rowOf) ws) (counted rowOf ws) (counted rowOf ws) n)
+  yy-stands : Stands 2 (apart (productsAbove rowOf rowOf) 0) (products rowOf rowOf)
   yy-stands = product-stands n few (counted (productOf rowOf rowOf) ws) (counted rowOf ws) (counted rowOf ws) (small .rr) (small .r) (small .r)
 
-  pub yy-sum : productSum (counted (productOf rowOf rowOf) ws) (counted rowOf ws) (counted rowOf ws) n ≡ summed sumYY ws
+  pub yy-sum : products rowOf rowOf ≡ summed sumYY ws
   yy-sum = stands-is sumYY row-yy _ (products-whole ws rowOf rowOf) yy-stands
 
-  xu-stands : Stands 4 (apart (momentsAbove colOf uOf) (momentsBelow colOf)) (momentSum (counted (productOf colOf uOf) ws) (counted colOf ws) (counted uOf ws) n)
+  xu-stands : Stands 4 (apart (momentsAbove colOf uOf) (momentsBelow colOf)) (moments colOf uOf)
   xu-stands = moment-stands n few (counted (productOf colOf uOf) ws) (counted colOf ws) (counted uOf ws) (small .cu) (small .c) (small .u)
 
-  pub xu-sum : momentSum (counted (productOf colOf uOf) ws) (counted colOf ws) (counted uOf ws) n ≡ summed sumXU ws
+  pub xu-sum : moments colOf uOf ≡ summed sumXU ws
   xu-sum = stands-is sumXU row-xu _ (moments-whole ws colOf uOf) xu-stands
 
-  xv-stands : Stands 4 (apart (momentsAbove colOf vOf) (momentsBelow colOf)) (momentSum (counted (productOf colOf vOf) ws) (counted colOf ws) (counted vOf ws) n)
+  xv-stands : Stands 4 (apart (momentsAbove colOf vOf) (momentsBelow colOf)) (moments colOf vOf)
   xv-stands = moment-stands n few (counted (productOf colOf vOf) ws) (counted colOf ws) (counted vOf ws) (small .cv) (small .c) (small .v)
 
-  pub xv-sum : momentSum (counted (productOf colOf vOf) ws) (counted colOf ws) (counted vOf ws) n ≡ summed sumXV ws
+  pub xv-sum : moments colOf vOf ≡ summed sumXV ws
   xv-sum = stands-is sumXV row-xv _ (moments-whole ws colOf vOf) xv-stands
 
-  yu-stands : Stands 4 (apart (momentsAbove rowOf uOf) (momentsBelow rowOf)) (momentSum (counted (productOf rowOf uOf) ws) (counted rowOf ws) (counted uOf ws) n)
+  yu-stands : Stands 4 (apart (momentsAbove rowOf uOf) (momentsBelow rowOf)) (moments rowOf uOf)
   yu-stands = moment-stands n few (counted (productOf rowOf uOf) ws) (counted rowOf ws) (counted uOf ws) (small .ru) (small .r) (small .u)
 
-  pub yu-sum : momentSum (counted (productOf rowOf uOf) ws) (counted rowOf ws) (counted uOf ws) n ≡ summed sumYU ws
+  pub yu-sum : moments rowOf uOf ≡ summed sumYU ws
   yu-sum = stands-is sumYU row-yu _ (moments-whole ws rowOf uOf) yu-stands
 
-  yv-stands : Stands 4 (apart (momentsAbove rowOf vOf) (momentsBelow rowOf)) (momentSum (counted (productOf rowOf vOf) ws) (counted rowOf ws) (counted vOf ws) n)
+  yv-stands : Stands 4 (apart (momentsAbove rowOf vOf) (momentsBelow rowOf)) (moments rowOf vOf)
   yv-stands = moment-stands n few (counted (productOf rowOf vOf) ws) (counted rowOf ws) (counted vOf ws) (small .rv) (small .r) (small .v)
 
-  pub yv-sum : momentSum (counted (productOf rowOf vOf) ws) (counted rowOf ws) (counted vOf ws) n ≡ summed sumYV ws
+  pub yv-sum : moments rowOf vOf ≡ summed sumYV ws
   yv-sum = stands-is sumYV row-yv _ (moments-whole ws rowOf vOf) yv-stands
 
-  pub q-sum : productSum (counted (productOf colOf colOf) ws) (counted colOf ws) (counted colOf ws) n ⊕ productSum (counted (productOf rowOf rowOf) ws) (counted rowOf ws) (counted rowOf ws) n ≡ summed sumQ ws
+  pub q-sum : products colOf colOf ⊕ products rowOf rowOf ≡ summed sumQ ws
   q-sum =
       stands-is sumQ row-q _ (sum-of-sums (λ w. xHalves w *ℤ xHalves w) (λ w. yHalves w *ℤ yHalves w) ws ∙ both-added (products-whole ws colOf colOf) (products-whole ws rowOf rowOf))
       (sum-stands (lit≤ tt) (productsAbove colOf colOf) 0 (productsAbove rowOf rowOf) 0 xx-stands yy-stands (omega (arith, small .cc, small .rr, small .c, small .r)))
 
-  pub p1-sum : momentSum (counted (productOf colOf uOf) ws) (counted colOf ws) (counted uOf ws) n ⊕ momentSum (counted (productOf rowOf vOf) ws) (counted rowOf ws) (counted vOf ws) n ≡ summed sumP1 ws
+  pub p1-sum : moments colOf uOf ⊕ moments rowOf vOf ≡ summed sumP1 ws
   p1-sum =
       stands-is sumP1 row-p1 _ (sum-of-sums (λ w. xHalves w *ℤ uEighths w) (λ w. yHalves w *ℤ vEighths w) ws ∙ both-added (moments-whole ws colOf uOf) (moments-whole ws rowOf vOf))
       (sum-stands (lit≤ tt) (momentsAbove colOf uOf) (momentsBelow colOf) (momentsAbove rowOf vOf) (momentsBelow rowOf) xu-stands yv-stands
       (omega (arith, small .cu, small .rv, small .u, small .v, small .c, small .r)))
 
-  pub p2-sum : momentSum (counted (productOf rowOf uOf) ws) (counted rowOf ws) (counted uOf ws) n ⊖ momentSum (counted (productOf colOf vOf) ws) (counted colOf ws) (counted vOf ws) n ≡ summed sumP2 ws
+  pub p2-sum : moments rowOf uOf ⊖ moments colOf vOf ≡ summed sumP2 ws
   p2-sum =
       stands-is sumP2 row-p2 _ (sum-of-differences (λ w. yHalves w *ℤ uEighths w) (λ w. xHalves w *ℤ vEighths w) ws ∙ both-taken (moments-whole ws rowOf uOf) (moments-whole ws colOf vOf))
       (difference-stands (lit≤ tt) (momentsAbove rowOf uOf) (momentsBelow rowOf) (momentsAbove colOf vOf) (momentsBelow colOf) yu-stands xv-stands

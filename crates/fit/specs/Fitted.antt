@@ -1,4 +1,5 @@
--- The three fits of a list whose elements are read as samples, their refusals, and the number and values of each case of the answer.
+-- The three fits of a list whose elements are read as samples, their refusals, and the number and values of each case
+-- of the answer.
 -- Assumes nothing.
 use Prim.Native.Nat.{ℕ}
 use mathlib.Core.Bool.{Bool}

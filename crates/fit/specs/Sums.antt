@@ -17,6 +17,10 @@ use Rattle.fit.specs.declared.AffineSums.{AffineSums}
 abbrev pub reading : {A S : Type 0} → (S → MotionSample → S) → (A → MotionSample) → S → A → S
 reading step read s x = step s (read x)
 
+-- a list of samples is read as it stands
+abbrev pub itself : MotionSample → MotionSample
+itself s = s
+
 -- one addition of a sum
 abbrev pub plus : {A : Type 0} → (A → Float) → Float → A → Float
 plus term a x = a ⊕ term x

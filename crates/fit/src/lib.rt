@@ -1,8 +1,9 @@
 // The three fits of motion models: a slice of sample words goes in, a fitted model or a refusal comes
 // out. Sums, elimination and back-substitution in binary64, one rounding an operation, samples first
-// to last; the sums of words are exact, and so are taken in whole numbers: `fit_translation`, `fit_rotzoom`, `fit_affine` (encoder/global_motion.rs); docs/RULES.md,
-// 'Records' (Model), 'Fits and score', rows 1, 4 and 6. A walk over samples themselves begins with the
-// `begin` of its fit, takes its `step` for each sample and ends with its `ends`.
+// to last; the sums of words are exact, and so are taken in whole numbers: `fit_translation`,
+// `fit_rotzoom`, `fit_affine` (encoder/global_motion.rs); docs/RULES.md, 'Records' (Model), 'Fits and
+// score', rows 1, 4 and 6. A walk over samples themselves begins with the `begin` of its fit, takes its
+// `step` for each sample and ends with its `ends`.
 
 use sample::MOST_SAMPLES;
 use sample::MotionSample;

@@ -1,18 +1,12 @@
 // A fitted model as the numbers that pass to and from C: its refusal and six numbers, and the model of
 // a type code and six numbers.
+use fit::AFFINE;
 use fit::Fitted;
+use fit::NO_SUCH_CODE;
+use fit::ROTZOOM;
+use fit::TRANSLATION;
 ghost use mathlib.Core.Path.{_≡_};
 ghost use Rattle.fit_numbers.specs.Numbers.{numbersOf, fittedOf};
-
-// The type codes of the three kinds of fitted model.
-const TRANSLATION: u8 = 1;
-
-const ROTZOOM: u8 = 2;
-
-const AFFINE: u8 = 3;
-
-// The row of the rules' table for a type that no fit has.
-const NO_SUCH_TYPE: u32 = 4;
 
 // A fitted model in numbers: two of a translation, four of a rotation-zoom, six of an affine model,
 // zeros after them.
@@ -89,5 +83,5 @@ pub fn fitted_of(kind: u8, numbers: [f64; 6]) -> Fitted
             m5: numbers[5],
         };
     }
-    Fitted::Refused(NO_SUCH_TYPE)
+    Fitted::Refused(NO_SUCH_CODE)
 }

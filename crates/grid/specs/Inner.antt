@@ -1,15 +1,21 @@
 -- What the functions below the public calls ask and answer; no public contract cites it.
 -- Assumes nothing.
-use Prim.Native.Nat.{ℕ, _*_, _/_, _^_, _≤_, _<_}
-use mathlib.Core.Bool.{false}
+use Prim.Native.Nat.{ℕ, _*_, _/_, _%_, _^_, _≤_, _<_}
+use mathlib.Core.Bool.{Bool, true, false, not}
 use mathlib.Core.Path.{_≡_}
+use lib.Dec.{ltb, eqb}
 use lib.IntN.{ℤ, pos, natAbs, _+ℤ_, _-ℤ_}
 use lib.ListN.{length, take}
+use Rattle.laws.specs.Refusal.{choose}
 use Rattle.grid.specs.Grid.{step, absBits, precBits, centre, Row}
 use Rattle.grid.specs.Slots.{slotsOf}
 use Rattle.grid.specs.Symbols.{symbols, symbolOf, place, priorOut}
 use Rattle.grid.specs.declared.SlotOrder.{SlotOrder}
 use Rattle.grid.specs.declared.SlotSymbols.{SlotSymbols}
+
+-- beyond the last codable number, or not a whole number of steps from the centre: a number that isn't its own quantization
+abbrev pub offGrid : ℕ → ℕ → ℕ → ℤ → Bool
+offGrid abs prec c z = choose (ltb (2 ^ abs * step prec) (natAbs (z -ℤ pos c))) true (not (eqb (natAbs (z -ℤ pos c) % step prec) 0))
 
 pub record Symbol (abs prec c t : ℕ) : Type 0 where
   pub row : Row abs prec

@@ -6,7 +6,7 @@ ghost use Prim.Native.Nat.{_*_, _^_, _<_, _≤_};
 ghost use lib.IntN.{pos, natAbs, _-ℤ_, _+ℤ_, _*ℤ_};
 ghost use Rattle.grid.specs.Grid.{paramBits, absBits, precBits, centre, negative, step, nearestOrdinal, signed, quantize, quantized, Row, rejected, answer};
 ghost use Rattle.grid.specs.Symbols.{symbols, symbolOf, numberOf};
-ghost use Rattle.grid.specs.Inner.{Symbol, Prior, placeCode, PriorIn, SymbolsIs, SymbolIs, SlotsIs};
+ghost use Rattle.grid.specs.Inner.{offGrid, Symbol, Prior, placeCode, PriorIn, SymbolsIs, SymbolIs, SlotsIs};
 
 // Fraction bits of a model's numbers.
 const WARPEDMODEL_PREC_BITS: u32 = 16;
@@ -185,6 +185,15 @@ fn lift(negative: bool, size: u64, middle: u64) -> u64
     }
 }
 
+// The same of a number that isn't taken apart: one sum.
+fn raised(num: i64, middle: u64) -> u64
+    requires { ⌜ (natAbs num ≤ middle) × (middle ≤ 4194304) ⌝ }
+    ensures is { λ r. ⌜ r ≡ natAbs (num +ℤ pos middle) ⌝ }
+    ensures small { λ r. ⌜ r ≤ 8388608 ⌝ }
+{
+    (num + middle as i64) as u64
+}
+
 // 2 ^ absBits steps: how far the codable numbers of a slot reach.
 fn reach_of(abs_bits: u32, prec_bits: u32) -> u64
     requires { ⌜ Row «abs_bits» «prec_bits» ⌝ }
@@ -210,12 +219,8 @@ fn place_among(abs_bits: u32, prec_bits: u32, round: u32, prior: i32) -> u32
     ensures { λ r. ⌜ r ≡ placeCode «abs_bits» «prec_bits» round prior ⌝ }
 {
     let num = from_centre(prior, round);
-    let lifted = lift(
-        is_negative(num),
-        magnitude(num),
-        reach_of(abs_bits, prec_bits),
-    );
-    (lifted / power_of_two(WARPEDMODEL_PREC_BITS - prec_bits)) as u32
+    let above = raised(num, reach_of(abs_bits, prec_bits));
+    (above / power_of_two(WARPEDMODEL_PREC_BITS - prec_bits)) as u32
 }
 
 // How far a symbol's number is from the centre.
@@ -291,6 +296,26 @@ pub fn nearest_number(gm_type: u8, flag: u8, slot: u8, value: i32) -> i32
 {
     let bits = global_param_bits(gm_type, flag, slot);
     snap(bits.abs_bits, bits.prec_bits, centre_of(slot), value)
+}
+
+// Whether a number isn't codable: beyond the last codable one, or not a whole number of steps from the centre.
+fn off_among(abs_bits: u32, prec_bits: u32, round: u32, value: i32) -> bool
+    requires { ⌜ Row «abs_bits» «prec_bits» ⌝ }
+    ensures { λ r. ⌜ r ≡ offGrid «abs_bits» «prec_bits» round value ⌝ }
+{
+    let size = magnitude(from_centre(value, round));
+    if reach_of(abs_bits, prec_bits) < size {
+        return true;
+    }
+    size % power_of_two(WARPEDMODEL_PREC_BITS - prec_bits) != 0
+}
+
+// A number that isn't a codable one of its slot.
+pub fn off_grid(gm_type: u8, flag: u8, slot: u8, value: i32) -> bool
+    ensures { λ r. ⌜ r ≡ offGrid (absBits «gm_type» flag slot) (precBits «gm_type» flag slot) (centre slot) value ⌝ }
+{
+    let bits = global_param_bits(gm_type, flag, slot);
+    off_among(bits.abs_bits, bits.prec_bits, centre_of(slot), value)
 }
 
 fn refused(number: u32) -> Quantized

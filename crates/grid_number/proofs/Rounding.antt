@@ -1,6 +1,6 @@
 -- Cutting twice a magnitude, adding one and halving rounds it half away from zero; from 2 ^ 31 on the limit is the answer.
 -- Assumes nothing.
-use Prim.Native.Nat.{ℕ, zero, suc, _+_, _-_, _*_, _/_, _≤_, _<_, min, zero-le}
+use Prim.Native.Nat.{ℕ, zero, suc, _+_, _*_, _/_, _≤_, _<_, min, zero-le}
 use mathlib.Core.Bool.{Bool, true, false}
 use mathlib.Core.Path.{_≡_, refl, sym, ap, _∙_, subst}
 use native.Mathlib.Nat.{le-refl, lt-of-lt-of-le, mul-right-comm, mul-lt-mul-of-pos-right, lt-of-mul-lt-mul-right, mul-le-mul-right}

@@ -6,4 +6,5 @@ pub mod Placed
 pub mod RoundTrip
 pub mod Count
 pub mod Slots
+pub mod Page
 pub mod Accepted

@@ -16,7 +16,7 @@ use Rattle.header.specs.Coefficient.{coefficientBits}
 use Rattle.header.specs.Writing.{headerBits, referenceBits, modelBits, writeRefusal, written, headerAfter}
 
 -- six identities
-abbrev identities : List ℤ
+abbrev pub identities : List ℤ
 identities =
     pos 0 ∷ pos 0 ∷ pos 65536 ∷ pos 0 ∷ pos 0 ∷ pos 65536
     ∷ pos 0 ∷ pos 0 ∷ pos 65536 ∷ pos 0 ∷ pos 0 ∷ pos 65536
@@ -25,7 +25,7 @@ identities =
     ∷ pos 0 ∷ pos 0 ∷ pos 65536 ∷ pos 0 ∷ pos 0 ∷ pos 65536
     ∷ pos 0 ∷ pos 0 ∷ pos 65536 ∷ pos 0 ∷ pos 0 ∷ pos 65536 ∷ []
 
-abbrev prior : List ℤ
+abbrev pub prior : List ℤ
 prior = pos 0 ∷ pos 0 ∷ pos 65536 ∷ pos 0 ∷ pos 0 ∷ pos 65536 ∷ identities
 
 -- reference 1 TRANSLATION (8192, −8192), the rest identity

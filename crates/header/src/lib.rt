@@ -4,17 +4,20 @@
 // encoder/frame_obu.rs. `specs/Reading` also states what the standard reads.
 ghost use mathlib.Core.Path.{_≡_};
 ghost use Prim.Native.Nat.{_+_, _≤_, _<_};
-ghost use lib.ListN.{length};
+ghost use lib.ListN.{length, take};
+ghost use Rattle.laws.specs.Buffer.{onto};
 ghost use Rattle.laws.specs.Refusal.{judge};
-ghost use Rattle.bits.specs.Inner.{Room, Wrote};
+ghost use Rattle.bits.specs.Inner.{Room, Wrote, FieldIs, Ready, Put};
 ghost use Rattle.grid.specs.Inner.{PriorIn};
 ghost use Rattle.header.specs.Coefficient.{coefficientBits};
 ghost use Rattle.header.specs.Count.{slotCount, modelCount, headerCount};
-ghost use Rattle.header.specs.Inner.{ModelReady, Seven, HeaderReady, TypeFieldIs};
+ghost use Rattle.header.specs.Inner.{ModelReady, Seven, HeaderReady, Identities, pageOf, Begins};
 ghost use Rattle.header.specs.Writing.{slotBits, typeBits, modelBits, referenceBits, headerBits, bitsPlaced, written, headerAfter};
 ghost use Rattle.header.specs.Writing.{lengthsWrong, bytesFor, tooShort, codeRows, modelRows, roomRows, writeRefusal};
 use bits::BITS_OF_A_BYTE;
 use bits::BitCursor;
+use bits::Field;
+use bits::Pen;
 use grid::IDENTITY;
 use grid::ROTZOOM;
 use grid::TRANSLATION;
@@ -55,54 +58,48 @@ pub fn global_param_length(gm_type: u8, flag: u8, slot: u8, value: i32, prior: i
 }
 
 fn write_global_param(
-    cursor: BitCursor,
+    pen: Pen,
     header: &mut [u8],
     gm_type: u8,
     flag: u8,
     slot: u8,
     value: i32,
     prior: i32,
-) -> BitCursor
-    requires { ⌜ PriorIn slot prior × Room (now header) (cursor .at) (length (coefficientBits «gm_type» flag slot value prior)) ⌝ }
-    ensures { λ r. ⌜ Wrote (now (header .entry)) (cursor .at) (coefficientBits «gm_type» flag slot value prior) (now (header .exit)) (r .at) ⌝ }
+) -> Pen
+    requires { ⌜ PriorIn slot prior × Ready (now header) pen (length (coefficientBits «gm_type» flag slot value prior)) ⌝ }
+    ensures { λ r. ⌜ Put (now (header .entry)) pen (coefficientBits «gm_type» flag slot value prior) (now (header .exit)) r ⌝ }
 {
     let s = grid::symbols_of(gm_type, flag, slot, prior);
     let t = grid::symbol_of(gm_type, flag, slot, value);
-    subexp::encode_unsigned_subexp_with_ref(cursor, header, s.mx, s.r, t)
+    subexp::encode_unsigned_subexp_with_ref(pen, header, s.mx, s.r, t)
 }
 
 // is_global, is_rot_zoom and is_translation, as far as they are written.
-struct TypeField {
-    n: u32,
-    value: u32,
-}
-
-fn type_field(gm_type: u8) -> TypeField
-    ensures { λ r. ⌜ TypeFieldIs «gm_type» r ⌝ }
+fn type_field(gm_type: u8) -> Field
+    ensures { λ r. ⌜ FieldIs r (typeBits «gm_type») × (r .n ≤ 3) ⌝ }
 {
     if gm_type == IDENTITY {
-        return TypeField { n: 1, value: 0 };
+        return Field { n: 1, value: 0 };
     }
     if gm_type == ROTZOOM {
-        return TypeField { n: 2, value: 3 };
+        return Field { n: 2, value: 3 };
     }
     if gm_type == TRANSLATION {
-        return TypeField { n: 3, value: 5 };
+        return Field { n: 3, value: 5 };
     }
-    TypeField { n: 3, value: 4 }
+    Field { n: 3, value: 4 }
 }
 
-fn write_type(cursor: BitCursor, header: &mut [u8], gm_type: u8) -> BitCursor
-    requires { ⌜ Room (now header) (cursor .at) (length (typeBits «gm_type»)) ⌝ }
-    ensures { λ r. ⌜ Wrote (now (header .entry)) (cursor .at) (typeBits «gm_type») (now (header .exit)) (r .at) ⌝ }
+fn write_type(pen: Pen, header: &mut [u8], gm_type: u8) -> Pen
+    requires { ⌜ Ready (now header) pen (length (typeBits «gm_type»)) ⌝ }
+    ensures { λ r. ⌜ Put (now (header .entry)) pen (typeBits «gm_type») (now (header .exit)) r ⌝ }
 {
-    let field = type_field(gm_type);
-    cursor.write_bits(header, field.n, field.value)
+    pen.put(header, type_field(gm_type))
 }
 
 // The slot of the model whose six numbers begin at `first`.
 fn write_slot(
-    cursor: BitCursor,
+    pen: Pen,
     header: &mut [u8],
     gm_type: u8,
     flag: u8,
@@ -110,32 +107,32 @@ fn write_slot(
     prior: &[i32],
     first: usize,
     slot: u8,
-) -> BitCursor
-    requires { ⌜ ModelReady (now params) (now prior) first × (slot < 6) × Room (now header) (cursor .at) (length (slotBits flag (now params) (now prior) «gm_type» first slot)) ⌝ }
-    ensures { λ r. ⌜ Wrote (now (header .entry)) (cursor .at) (slotBits flag (now (params .entry)) (now (prior .entry)) «gm_type» first slot) (now (header .exit)) (r .at) ⌝ }
+) -> Pen
+    requires { ⌜ ModelReady (now params) (now prior) first × (slot < 6) × Ready (now header) pen (length (slotBits flag (now params) (now prior) «gm_type» first slot)) ⌝ }
+    ensures { λ r. ⌜ Put (now (header .entry)) pen (slotBits flag (now (params .entry)) (now (prior .entry)) «gm_type» first slot) (now (header .exit)) r ⌝ }
 {
     let value = params[first + slot as usize];
     let from = prior[first + slot as usize];
-    write_global_param(cursor, header, gm_type, flag, slot, value, from)
+    write_global_param(pen, header, gm_type, flag, slot, value, from)
 }
 
-// The coefficients of the model whose six numbers begin at `first`, in the standard's order.
+// The coefficients of the model whose six numbers begin at `first`, in the standard's order: `grid::slots_of`.
 fn write_model(
-    cursor: BitCursor,
+    pen: Pen,
     header: &mut [u8],
     gm_type: u8,
     flag: u8,
     params: &[i32],
     prior: &[i32],
     first: usize,
-) -> BitCursor
-    requires { ⌜ ModelReady (now params) (now prior) first × Room (now header) (cursor .at) (length (modelBits flag (now params) (now prior) «gm_type» first)) ⌝ }
-    ensures { λ r. ⌜ Wrote (now (header .entry)) (cursor .at) (modelBits flag (now (params .entry)) (now (prior .entry)) «gm_type» first) (now (header .exit)) (r .at) ⌝ }
+) -> Pen
+    requires { ⌜ ModelReady (now params) (now prior) first × Ready (now header) pen (length (modelBits flag (now params) (now prior) «gm_type» first)) ⌝ }
+    ensures { λ r. ⌜ Put (now (header .entry)) pen (modelBits flag (now (params .entry)) (now (prior .entry)) «gm_type» first) (now (header .exit)) r ⌝ }
 {
     let slots = grid::slots_of(gm_type);
     let order = slots.order;
     let count = slots.count;
-    let mut next = cursor;
+    let mut next = pen;
     let mut i = 0usize;
     while i < count {
         next = write_slot(next, header, gm_type, flag, params, prior, first, order[i]);
@@ -146,40 +143,81 @@ fn write_model(
 
 // One reference: its type bits, then its coefficients.
 fn write_reference(
-    cursor: BitCursor,
+    pen: Pen,
     header: &mut [u8],
     gm_type: u8,
     flag: u8,
     params: &[i32],
     prior: &[i32],
     first: usize,
-) -> BitCursor
-    requires { ⌜ ModelReady (now params) (now prior) first × Room (now header) (cursor .at) (length (referenceBits flag (now params) (now prior) «gm_type» first)) ⌝ }
-    ensures { λ r. ⌜ Wrote (now (header .entry)) (cursor .at) (referenceBits flag (now (params .entry)) (now (prior .entry)) «gm_type» first) (now (header .exit)) (r .at) ⌝ }
+) -> Pen
+    requires { ⌜ ModelReady (now params) (now prior) first × Ready (now header) pen (length (referenceBits flag (now params) (now prior) «gm_type» first)) ⌝ }
+    ensures { λ r. ⌜ Put (now (header .entry)) pen (referenceBits flag (now (params .entry)) (now (prior .entry)) «gm_type» first) (now (header .exit)) r ⌝ }
 {
-    let next = write_type(cursor, header, gm_type);
+    let next = write_type(pen, header, gm_type);
     write_model(next, header, gm_type, flag, params, prior, first)
 }
 
-// References 1 to 7, one behind the other.
+// How many identities follow one another from reference r on.
+fn identities(types: &[u8], r: usize) -> usize
+    requires { ⌜ r ≤ length (now types) ⌝ }
+    ensures { λ n. ⌜ Identities (now (types .entry)) r n ⌝ }
+{
+    let mut n = 0;
+    while r + n < types.len() {
+        if types[r + n] != IDENTITY {
+            return n;
+        }
+        n += 1;
+    }
+    n
+}
+
+// References 1 to 7, one behind the other. A run of identities is a field of zeros.
 fn write_references(
-    cursor: BitCursor,
+    pen: Pen,
+    header: &mut [u8],
+    types: &[u8],
+    flag: u8,
+    params: &[i32],
+    prior: &[i32],
+) -> Pen
+    requires { ⌜ HeaderReady (now types) (now params) (now prior) × Ready (now header) pen (length (headerBits (now types) (now params) flag (now prior))) ⌝ }
+    ensures { λ r. ⌜ Put (now (header .entry)) pen (headerBits (now (types .entry)) (now (params .entry)) flag (now (prior .entry))) (now (header .exit)) r ⌝ }
+{
+    let mut next = pen;
+    let mut r = 0;
+    while r < REFERENCES {
+        let n = identities(types, r);
+        if n == 0 {
+            next = write_reference(next, header, types[r], flag, params, prior, SLOTS * r);
+            r += 1;
+        } else {
+            let zeros = Field {
+                n: n as u32,
+                value: 0,
+            };
+            next = next.put(header, zeros);
+            r += n;
+        }
+    }
+    next
+}
+
+// The same from bit `start` on, with no bit held back.
+fn write_seven(
+    start: usize,
     header: &mut [u8],
     types: &[u8],
     flag: u8,
     params: &[i32],
     prior: &[i32],
 ) -> BitCursor
-    requires { ⌜ HeaderReady (now types) (now params) (now prior) × Room (now header) (cursor .at) (length (headerBits (now types) (now params) flag (now prior))) ⌝ }
-    ensures { λ r. ⌜ Wrote (now (header .entry)) (cursor .at) (headerBits (now (types .entry)) (now (params .entry)) flag (now (prior .entry))) (now (header .exit)) (r .at) ⌝ }
+    requires { ⌜ HeaderReady (now types) (now params) (now prior) × Room (now header) start (length (headerBits (now types) (now params) flag (now prior))) ⌝ }
+    ensures { λ r. ⌜ Wrote (now (header .entry)) start (headerBits (now (types .entry)) (now (params .entry)) flag (now (prior .entry))) (now (header .exit)) (r .at) ⌝ }
 {
-    let mut next = cursor;
-    let mut r = 0;
-    while r < REFERENCES {
-        next = write_reference(next, header, types[r], flag, params, prior, SLOTS * r);
-        r += 1;
-    }
-    next
+    let pen = write_references(Pen::new(start), header, types, flag, params, prior);
+    pen.lift(header)
 }
 
 // How many bits the slot of that model takes.
@@ -325,7 +363,53 @@ fn refusal_of(
     room_refusal(start, types, params, flag, prior, room)
 }
 
+// A header's bytes before its bits are in them: zeros, but for the first.
+fn page_of(first: u8) -> [u8; 125]
+    ensures { λ r. ⌜ r ≡ pageOf first ⌝ }
+{
+    let mut page = [0u8; 125];
+    page[0] = first;
+    page
+}
+
+// The first bytes of the page go to the header's front; none of the header is read.
+fn copy_bytes(page: &[u8], count: usize, header: &mut [u8])
+    requires { ⌜ (count ≤ length (now page)) × (count ≤ length (now header)) ⌝ }
+    ensures { λ _. ⌜ now (header .exit) ≡ onto (take count (now (page .entry))) (now (header .entry)) ⌝ }
+{
+    let mut i = 0;
+    while i < count {
+        header[i] = page[i];
+        i += 1;
+    }
+}
+
+// The bits from bit `start` on, then zeros up to the end of the last byte, over a first byte whose bits
+// before the start are those of `before`; how many bits they are without the zeros.
+fn write_after(
+    before: u8,
+    start: usize,
+    types: &[u8],
+    params: &[i32],
+    flag: u8,
+    prior: &[i32],
+    header: &mut [u8],
+) -> usize
+    requires { ⌜ HeaderReady (now types) (now params) (now prior) × Begins start before (now header)
+        × (bytesFor start (length (headerBits (now types) (now params) flag (now prior))) ≤ length (now header)) ⌝ }
+    ensures { λ r. ⌜ (r ≡ length (headerBits (now (types .entry)) (now (params .entry)) flag (now (prior .entry))))
+        × (now (header .exit) ≡ bitsPlaced start (headerBits (now (types .entry)) (now (params .entry)) flag (now (prior .entry))) (now (header .entry))) ⌝ }
+{
+    let mut page = page_of(before);
+    let end = write_seven(start, &mut page, types, flag, params, prior);
+    let bits = end.at - start;
+    let last = end.byte_align(&mut page);
+    copy_bytes(&page, last.at / BITS_OF_A_BYTE, header);
+    bits
+}
+
 // The bits from bit `start` on, then zeros up to the end of the last byte; how many bits they are without the zeros.
+// They are put together apart: of the header only the bits before the start are looked at.
 fn write_header(
     start: usize,
     types: &[u8],
@@ -338,10 +422,10 @@ fn write_header(
     ensures { λ r. ⌜ (r ≡ length (headerBits (now (types .entry)) (now (params .entry)) flag (now (prior .entry))))
         × (now (header .exit) ≡ bitsPlaced start (headerBits (now (types .entry)) (now (params .entry)) flag (now (prior .entry))) (now (header .entry))) ⌝ }
 {
-    let end = write_references(BitCursor::new(start), header, types, flag, params, prior);
-    let bits = end.at - start;
-    end.byte_align(header);
-    bits
+    if start == 0 {
+        return write_after(0, start, types, params, flag, prior, header);
+    }
+    write_after(header[0], start, types, params, flag, prior, header)
 }
 
 // Seven types and models in rising order of reference, the flag, a prior for each number, and the bit

@@ -2,7 +2,7 @@
 -- Assumes nothing.
 use Prim.Native.Nat.{ℕ, suc, _+_, _*_, _-_, _≤_, _<_}
 use mathlib.Core.List.{List, [], _∷_, _++_, append-nil, append-assoc}
-use mathlib.Core.Path.{_≡_, refl, sym, subst, _∙_}
+use mathlib.Core.Path.{_≡_, refl, ap, sym, subst, _∙_}
 use native.Mathlib.Nat.{add-assoc}
 use native.Mathlib.Numerals.{add-one}
 use native.Mathlib.Omega.{arith}
@@ -15,7 +15,8 @@ use Rattle.laws.proofs.Placed.{placed-length}
 use Rattle.bits.specs.Bits.{bitAt}
 use Rattle.grid.proofs.Slots.{chosen}
 use Rattle.header.specs.Reading.{ReadModel, sixFilled, typeRead, typeLength, modelRead, referenceRead, referencesRead, modelsRead}
-use Rattle.header_read.specs.Inner.{NextIs, SevenIs}
+use Rattle.header_read.specs.Inner.{ModelIs, SevenIs}
+use Rattle.header_read.specs.declared.Model.{Model}
 use Rattle.header_read.specs.declared.Seven.{Seven}
 
 module _ (g : ℕ → ℕ) (flag : ℕ) (qs : List ℤ) where
@@ -90,12 +91,15 @@ module _ (g : ℕ → ℕ) (flag : ℕ) (qs : List ℤ) where
           near = omega (arith, ej, s' .near);
         }
 
-  -- the state of the loop, as a struct
-  pub next-read : (at r : ℕ) (seven next : Seven) → r < 7 → SoFar at (seven .types) (seven .params) (seven .next .at) r
-      → NextIs next seven (referenceRead g flag qs (6 * r) (seven .next .at)) r → SoFar at (next .types) (next .params) (next .next .at) (r + 1)
-  next-read at r seven next h s n =
-      rw (n .types, n .params)
-      (one-more-read at (seven .types) (seven .params) (seven .next .at) r s h (next .next .at) (n .next) (n .near))
+  -- a reference more, as the loop stores it
+  pub next-read : (at : ℕ) (types types' : List ℕ) (params params' : List ℤ) (j k r : ℕ) (m : Model) → r < 7 → SoFar at types params j r
+      → ModelIs m (referenceRead g flag qs (6 * r) j) j 141 → types' ≡ set types r (m .«gm_type») → params' ≡ placed (6 * r) (m .six) params → k ≡ m .next .at
+      → SoFar at types' params' k (r + 1)
+  next-read at types types' params params' j k r m h s is et ep ek =
+      let t : ReadModel = referenceRead g flag qs (6 * r) j in
+      subst (λ (x : List ℕ). SoFar at x params' k (r + 1)) (sym (et ∙ ap (set types r) (is .gmType)))
+      (subst (λ (y : List ℤ). SoFar at (set types r (t .gmType)) y k (r + 1)) (sym (ep ∙ ap (λ (six : List ℤ). placed (6 * r) six params) (is .six)))
+      (one-more-read at types params j r s h k (ek ∙ is .next) (omega (arith, ek, is .near))))
 
 -- a header takes at least one bit
 pub models-some : (header : List ℕ) (at flag : ℕ) (qs : List ℤ) → 1 ≤ modelsRead header at flag qs .bits

@@ -9,7 +9,7 @@ use native.Mathlib.Numerals.{add-one}
 use native.Mathlib.Omega.{arith}
 use lib.Dec.{lit≤}
 use lib.IntN.{ℤ, pos, natAbs}
-use lib.ListN.{length, getD, take, drop, set, replicate, length-set, drop-of-length-le}
+use lib.ListN.{length, take, drop, set, replicate, length-set, drop-of-length-le}
 use lib.Seq.{take-suc-set, getD-set-same, getD-set-other}
 use Rattle.laws.proofs.Cases.{eq-or-ne}
 use Rattle.header.specs.Coefficient.{coefficient}

@@ -11,19 +11,8 @@ use Rattle.grid.specs.Symbols.{placeOf}
 use Rattle.models.specs.Models.{filler, priorsOut}
 use Rattle.header.specs.Coefficient.{coefficient}
 use Rattle.header.specs.Reading.{sixFilled, modelRead, referenceRead, modelsRead}
+use Rattle.header.proofs.Worked.{identities, prior}
 use Rattle.header_read.specs.Called.{readRefusal, noModels, models}
-
-abbrev identities : List ℤ
-identities =
-    pos 0 ∷ pos 0 ∷ pos 65536 ∷ pos 0 ∷ pos 0 ∷ pos 65536
-    ∷ pos 0 ∷ pos 0 ∷ pos 65536 ∷ pos 0 ∷ pos 0 ∷ pos 65536
-    ∷ pos 0 ∷ pos 0 ∷ pos 65536 ∷ pos 0 ∷ pos 0 ∷ pos 65536
-    ∷ pos 0 ∷ pos 0 ∷ pos 65536 ∷ pos 0 ∷ pos 0 ∷ pos 65536
-    ∷ pos 0 ∷ pos 0 ∷ pos 65536 ∷ pos 0 ∷ pos 0 ∷ pos 65536
-    ∷ pos 0 ∷ pos 0 ∷ pos 65536 ∷ pos 0 ∷ pos 0 ∷ pos 65536 ∷ []
-
-abbrev prior : List ℤ
-prior = pos 0 ∷ pos 0 ∷ pos 65536 ∷ pos 0 ∷ pos 0 ∷ pos 65536 ∷ identities
 
 -- slot 3 of reference 1 is 8,193
 abbrev priorOut : List ℤ

@@ -6,9 +6,8 @@ use mathlib.Core.Path.{_≡_}
 use mathlib.Core.List.{List}
 use lib.Dec.{ltb}
 use lib.IntN.{ℤ, pos, natAbs}
-use lib.ListN.{length, getD, set, take}
+use lib.ListN.{length, getD, take}
 use Rattle.laws.specs.Call.{answered}
-use Rattle.laws.specs.Placed.{placed}
 use Rattle.laws.specs.Refusal.{choose, judge}
 use Rattle.models.specs.Models.{priorsOut}
 use Rattle.header.specs.Coefficient.{ReadNumber}
@@ -79,13 +78,6 @@ pub record ModelIs (r : Model) (t : ReadModel) (j most : ℕ) : Type 0 where
   pub six : r .six ≡ t .six
   pub next : r .next .at ≡ j + t .bits
   pub near : r .next .at ≤ j + most
-
--- the seven with the model t at reference r
-pub record NextIs (s seven : Seven) (t : ReadModel) (r : ℕ) : Type 0 where
-  pub types : s .types ≡ set (seven .types) r (t .gmType)
-  pub params : s .params ≡ placed (6 * r) (t .six) (seven .params)
-  pub next : s .next .at ≡ seven .next .at + t .bits
-  pub near : s .next .at ≤ seven .next .at + 141
 
 pub record SevenIs (r : Seven) (t : ReadModels) (j : ℕ) : Type 0 where
   pub types : r .types ≡ t .types

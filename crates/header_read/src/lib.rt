@@ -15,7 +15,7 @@ ghost use Rattle.header.specs.Coefficient.{coefficient};
 ghost use Rattle.header.specs.Reading.{slotsRead, sixFilled, modelRead, referenceRead, referencesRead, modelsRead};
 ghost use Rattle.header.specs.Writing.{slotOf};
 ghost use Rattle.header_read.specs.Called.{priorRows, noModels, models};
-ghost use Rattle.header_read.specs.Inner.{answerOf, within, Ready, AllReady, PriorsReady, ParamIs, AllSmall, NumbersAre, TypeIs, ModelIs, NextIs, SevenIs};
+ghost use Rattle.header_read.specs.Inner.{answerOf, within, Ready, AllReady, PriorsReady, ParamIs, AllSmall, NumbersAre, TypeIs, ModelIs, SevenIs};
 use bits::BITS_OF_A_BYTE;
 use bits::BitCursor;
 use grid::AFFINE;
@@ -23,6 +23,8 @@ use grid::IDENTITY;
 use grid::ROTZOOM;
 use grid::TRANSLATION;
 use models::NUMBERS;
+use models::REFERENCES;
+use models::SLOTS;
 
 // The whole of a number at 16 fraction bits: slots 2 and 5 of the identity.
 const WHOLE: i32 = 65536;
@@ -253,36 +255,15 @@ fn read_reference(cursor: BitCursor, header: &[u8], flag: u8, prior: &[i32], fir
     }
 }
 
-// The numbers with six of them anew from `first` on.
-fn with_six(params: [i32; 42], first: usize, six: [i32; 6]) -> [i32; 42]
-    requires { ⌜ first + 6 ≤ 42 ⌝ }
-    ensures { λ r. ⌜ r ≡ placed first six params ⌝ }
+// Six numbers to their places, from `first` on.
+fn store_six(params: &mut [i32], first: usize, six: [i32; 6])
+    requires { ⌜ first + 6 ≤ length (now params) ⌝ }
+    ensures { λ _. ⌜ now (params .exit) ≡ placed first six (now (params .entry)) ⌝ }
 {
-    let mut out = params;
     let mut i = 0usize;
-    while i < 6 {
-        out[first + i] = six[i];
+    while i < SLOTS {
+        params[first + i] = six[i];
         i += 1;
-    }
-    out
-}
-
-// One reference more.
-fn read_next(seven: Seven, header: &[u8], flag: u8, prior: &[i32], r: usize) -> Seven
-    requires { ⌜ Ready (now prior) (6 * r) (seven .next .at) 512 × (r < 7) ⌝ }
-    ensures { λ s. ⌜ NextIs s seven (referenceRead (bitAt (now (header .entry))) flag (now (prior .entry)) (6 * r) (seven .next .at)) r ⌝ }
-{
-    let mut types = seven.types;
-    let params = seven.params;
-    let model = read_reference(seven.next, header, flag, prior, 6 * r);
-    let six = model.six;
-    let next = model.next;
-    types[r] = model.gm_type;
-    let with_model = with_six(params, 6 * r, six);
-    Seven {
-        types,
-        params: with_model,
-        next,
     }
 }
 
@@ -291,19 +272,23 @@ fn read_references(cursor: BitCursor, header: &[u8], flag: u8, prior: &[i32]) ->
     requires { ⌜ AllReady (now prior) (cursor .at) ⌝ }
     ensures { λ r. ⌜ SevenIs r (referencesRead (bitAt (now (header .entry))) flag (now (prior .entry)) 7 0 (cursor .at)) (cursor .at) ⌝ }
 {
-    let types = [0u8; 7];
-    let params = [0i32; 42];
-    let mut seven = Seven {
-        types,
-        params,
-        next: cursor,
-    };
+    let mut types = [0u8; 7];
+    let mut params = [0i32; 42];
+    let mut next = cursor;
     let mut r = 0usize;
-    while r < 7 {
-        seven = read_next(seven, header, flag, prior, r);
+    while r < REFERENCES {
+        let model = read_reference(next, header, flag, prior, SLOTS * r);
+        let six = model.six;
+        types[r] = model.gm_type;
+        store_six(&mut params, SLOTS * r, six);
+        next = model.next;
         r += 1;
     }
-    seven
+    Seven {
+        types,
+        params,
+        next,
+    }
 }
 
 // A refusal: its row's number and zeros.

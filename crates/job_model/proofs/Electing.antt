@@ -4,7 +4,7 @@ use Prim.Native.Nat.{ℕ}
 use mathlib.Core.Bool.{true}
 use mathlib.Core.List.{List}
 use mathlib.Core.Logic.{⊎-elim}
-use mathlib.Core.Path.{_≡_, refl, sym, ap, _∙_}
+use mathlib.Core.Path.{_≡_, sym, ap, _∙_}
 use borrow.Author.Tests.{le-ltb}
 use lib.IntN.{ℤ}
 use lib.Ieee.{Float}
@@ -18,7 +18,7 @@ use Rattle.elect.specs.Elect.{errorFrom, electedAs, stopped, electRefusal, asSt
 use Rattle.elect.proofs.Held.{winner-numbered, winner-score}
 use Rattle.job_task.specs.declared.Settings.{Settings}
 use Rattle.job_task.specs.Rows.{elects}
-use Rattle.job_model.specs.Modelled.{winner, ownType, modelRefusal}
+use Rattle.job_model.specs.Modelled.{winner, modelRefusal}
 use Rattle.job_model.specs.Inner.{Fitting, ownModel, ownAnswer}
 use Rattle.job_model.proofs.OwnType.{refusal-elected, elected-type, elected-own}
 

@@ -21,9 +21,9 @@ use Rattle.elect.specs.Inside.{Inside}
 use Rattle.elect.proofs.Held.{winner-none, winner-some, winner-last}
 use Rattle.elect.proofs.Codable.{numbers-are, last-fitted}
 use Rattle.job_task.specs.declared.Settings.{Settings}
-use Rattle.job_task.specs.Rows.{elects, trims}
+use Rattle.job_task.specs.Rows.{elects}
 use Rattle.job_task.specs.Inner.{InRange}
-use Rattle.job_model.specs.Modelled.{winner, ownType, noneElected, fitWords, fitIn, modelRefusal, own}
+use Rattle.job_model.specs.Modelled.{winner, ownType, fitWords, fitIn, modelRefusal, own}
 
 module _ (s : Settings) (ws : List ℕ) where
   abbrev flag : ℕ

@@ -1,7 +1,6 @@
 -- The job's own blocks, read back: the frame, every block alone, each word and each class; what is read is what was stored.
 -- Assumes nothing.
 use Prim.Native.Nat.{ℕ, _*_, _≤_, _<_}
-use mathlib.Core.Bool.{true}
 use mathlib.Core.List.{List, [], _∷_, append-nil}
 use mathlib.Core.Path.{_≡_, refl, sym, ap, _∙_}
 use native.Mathlib.Omega.{arith}
@@ -15,7 +14,6 @@ use Rattle.sample.specs.Word.{mostSamples}
 use Rattle.class.specs.Class.{Classed, wordsIn, classesIn, lastClass}
 use Rattle.class.proofs.Samples as class
 use Rattle.layout.specs.Form.{blockBytes, blocksOf, countAt}
-use Rattle.layout.specs.Codec.{Codec}
 use Rattle.layout.proofs.Fitting.{Words}
 use Rattle.form2.specs.Block.{form2, codec2}
 use Rattle.form2.proofs.Lawful.{lawful2}

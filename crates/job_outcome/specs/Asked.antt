@@ -1,4 +1,5 @@
--- How a job that doesn't elect ends, said without electing: its rows, its fit of the type asked for, after trimming where it trims, its report and what it leaves. The law is `as-asked` of proofs/Asked.
+-- How a job that doesn't elect ends, said without electing: its rows, its fit of the type asked for, after trimming
+-- where it trims, its report and what it leaves. The law is `as-asked` of proofs/Asked.
 -- Assumes nothing.
 use Prim.Native.Nat.{ℕ}
 use mathlib.Core.Bool.{Bool}
@@ -13,15 +14,13 @@ use Rattle.frame_number.specs.Shutter.{closedRefusal}
 use Rattle.sample.specs.Sample.{sampleOf}
 use Rattle.fit.specs.declared.Fitted.{Fitted}
 use Rattle.fit.specs.Fitted.{noType, fitOf, refusalOf}
-use Rattle.score.specs.Score.{meanSqResidual}
 use Rattle.quantize.specs.Quantize.{params, rowFirst}
 use Rattle.trim.specs.Trim.{tooFew, usedFrom, trimRefusal}
-use Rattle.header.specs.Writing.{headerBits, bitsPlaced}
 use Rattle.job_task.specs.Task.{Task, Lent, sizesOf}
 use Rattle.job_task.specs.Rows.{noReference, tooLittle, sizeRows, modelRows}
 use Rattle.job_model.specs.Assemble.{typesWith, modelsWith}
-use Rattle.job_outcome.specs.declared.Report.{Report}
-use Rattle.job_outcome.specs.Outcome.{Ended, ended, samples, words, refused, leftWith, leftBySearch, blocksBy}
+use Rattle.job_outcome.specs.Outcome.{Ended, samples, words}
+use Rattle.job_outcome.specs.Ends.{outcomeBy}
 
 -- ---- the rows: 4 without the elect code
 
@@ -77,27 +76,7 @@ types j = typesWith (j .settings .reference) (gmType j) (j .types)
 abbrev pub models : Task → List ℤ
 models j = modelsWith (j .settings .reference) (rowFirst (gmType j) (own j)) (j .models)
 
-abbrev pub bits : Task → List ℕ
-bits j = headerBits (types j) (models j) (j .settings .flag) (j .prior)
-
 -- ---- the end
 
-abbrev pub accepted : Task → Report
-accepted j =
-    record {
-      refusal = 0;
-      types = types j;
-      models = models j;
-      score = meanSqResidual (own j) (words j) .score;
-      bits = length (bits j);
-      samples = samples j;
-    }
-
-abbrev pub leftByJob : Task → Lent → Lent
-leftByJob j l = leftWith j l (blocksBy j l) (bitsPlaced (j .settings .start) (bits j) (l .header))
-
-abbrev pub afterSearch : Task → Lent → Ended
-afterSearch j l = choose (eqb (late j) 0) (ended (accepted j) (leftByJob j l)) (ended (refused (late j)) (leftBySearch j l))
-
 abbrev pub outcome : Task → Lent → Ended
-outcome j l = choose (eqb (early j l) 0) (afterSearch j l) (ended (refused (early j l)) l)
+outcome j l = outcomeBy j l (types j) (models j) (own j) (early j l) (late j)

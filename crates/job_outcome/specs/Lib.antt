@@ -1,5 +1,6 @@
 pub mod Outcome
 pub mod Demand3
 pub mod Done
+pub mod Ends
 pub mod Asked
 pub mod Untrimmed

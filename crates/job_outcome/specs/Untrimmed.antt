@@ -1,25 +1,24 @@
--- How a job that neither elects nor trims ends, said without electing and trimming: its rows, its fit of all words, its report and what it leaves. The law is `as-untrimmed` of proofs/Untrimmed.
+-- How a job that neither elects nor trims ends, said without electing and trimming: its rows, its fit of all words, its
+-- report and what it leaves. The law is `as-untrimmed` of proofs/Untrimmed.
 -- Assumes nothing.
 use Prim.Native.Nat.{ℕ}
 use mathlib.Core.Bool.{Bool}
 use mathlib.Core.List.{List, [], _∷_}
-use lib.Dec.{ltb, eqb}
+use lib.Dec.{ltb}
 use lib.IntN.{ℤ}
 use lib.ListN.{length}
-use Rattle.laws.specs.Refusal.{Row, row, judge, orElse, either, choose}
+use Rattle.laws.specs.Refusal.{Row, row, judge, orElse, either}
 use Rattle.class.specs.Class.{lastClass, classOver}
 use Rattle.models.specs.Models.{typesOver, startOver}
 use Rattle.frame_number.specs.Shutter.{closedRefusal}
 use Rattle.fit.specs.declared.Fitted.{Fitted}
 use Rattle.fit.specs.Fitted.{noType, fitOf, refusalOf}
-use Rattle.score.specs.Score.{meanSqResidual}
 use Rattle.quantize.specs.Quantize.{params, rowFirst}
-use Rattle.header.specs.Writing.{headerBits, bitsPlaced}
 use Rattle.job_task.specs.Task.{Task, Lent, sizesOf}
 use Rattle.job_task.specs.Rows.{noReference, tooLittle, sizeRows, modelRows}
 use Rattle.job_model.specs.Assemble.{typesWith, modelsWith}
-use Rattle.job_outcome.specs.declared.Report.{Report}
-use Rattle.job_outcome.specs.Outcome.{Ended, ended, samples, words, refused, leftWith, leftBySearch, blocksBy}
+use Rattle.job_outcome.specs.Outcome.{Ended, words}
+use Rattle.job_outcome.specs.Ends.{outcomeBy}
 
 -- ---- the rows: 4 without the codes of trimming and electing, and no 15
 
@@ -57,28 +56,7 @@ types j = typesWith (j .settings .reference) (j .settings .«gm_type») (j .type
 abbrev pub models : Task → List ℤ
 models j = modelsWith (j .settings .reference) (rowFirst (j .settings .«gm_type») (own j)) (j .models)
 
-abbrev pub bits : Task → List ℕ
-bits j = headerBits (types j) (models j) (j .settings .flag) (j .prior)
-
 -- ---- the end
 
-abbrev pub accepted : Task → Report
-accepted j =
-    record {
-      refusal = 0;
-      types = types j;
-      models = models j;
-      score = meanSqResidual (own j) (words j) .score;
-      bits = length (bits j);
-      samples = samples j;
-    }
-
-abbrev pub leftByJob : Task → Lent → Lent
-leftByJob j l = leftWith j l (blocksBy j l) (bitsPlaced (j .settings .start) (bits j) (l .header))
-
-abbrev pub afterSearch : Task → Lent → Ended
-afterSearch j l =
-    choose (eqb (refusalOf (fit j)) 0) (ended (accepted j) (leftByJob j l)) (ended (refused (refusalOf (fit j))) (leftBySearch j l))
-
 abbrev pub outcome : Task → Lent → Ended
-outcome j l = choose (eqb (early j l) 0) (afterSearch j l) (ended (refused (early j l)) l)
+outcome j l = outcomeBy j l (types j) (models j) (own j) (early j l) (refusalOf (fit j))

@@ -6,7 +6,8 @@ use mathlib.Core.Path.{_≡_}
 use Rattle.job_task.specs.declared.Settings.{Settings}
 use Rattle.job_task.specs.Rows.{elects}
 
--- settings that rows 4, 5 and 14 let pass: unless the job elects the type asked for and the trim code; the reference, the flag, the elect code, the start
+-- settings that rows 4, 5 and 14 let pass: unless the job elects the type asked for and the trim code; the reference,
+-- the flag, the elect code, the start
 pub record InRange (s : Settings) : Type 0 where
   pub some-type : elects s ≡ false → 1 ≤ s .«gm_type»
   pub last-type : elects s ≡ false → s .«gm_type» ≤ 3

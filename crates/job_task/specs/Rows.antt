@@ -1,4 +1,5 @@
--- The rows of the table of refusals that a job meets before its search, in the table's order: 1, 2, 4, 5, 14, 7, 8, 3, 15, 17. A job that elects has no 15. docs/RULES.md, 'When a call says no'.
+-- The rows of the table of refusals that a job meets before its search, in the table's order: 1, 2, 4, 5, 14, 7, 8, 3,
+-- 15, 17. A job that elects has no 15. docs/RULES.md, 'When a call says no'.
 -- Assumes nothing.
 use Prim.Native.Nat.{ℕ, _*_}
 use mathlib.Core.Bool.{Bool, false, not}
@@ -55,7 +56,8 @@ wrongLengths z classes types models prior =
     either (wrongLength (z .width) (z .height) (z .input) (z .reference) classes)
     (either (not (eqb types otherTypes)) (either (not (eqb models otherNumbers)) (not (eqb prior priorNumbers))))
 
--- row 4: a class over 4; the type asked for 0 or over 3; another's type over 3; the flag over 1; the trim code over 1; the elect code over 1
+-- row 4: a class over 4; the type asked for 0 or over 3; another's type over 3; the flag over 1; the trim code over 1;
+-- the elect code over 1
 abbrev pub badCodes : Settings → List ℕ → List ℕ → Bool
 badCodes s classes types =
     either (classOver lastClass classes)

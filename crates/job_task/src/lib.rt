@@ -1,7 +1,8 @@
 // What a job is handed, and the rows of the table of refusals that it meets before its search: 1, 2,
 // 4, 5, 14, 7, 8, 3, 15, 17, in the table's order (docs/RULES.md, 'Job', 'When a call says no'); a job
-// that elects takes no type and always trims, so it has no 15. In go the settings, how long planes and lent buffers are, and the lists that are looked into; out comes the first
-// row that holds, 0 for none. The rows are judged in groups; a group is a function.
+// that elects takes no type and always trims, so it has no 15. In go the settings, how long planes and
+// lent buffers are, and the lists that are looked into; out comes the first row that holds, 0 for none.
+// The rows are judged in groups; a group is a function.
 use class::LAST_CLASS;
 use forms::FORM2;
 use header::MOST_BYTES;

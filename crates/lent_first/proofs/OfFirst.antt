@@ -133,7 +133,8 @@ module _ (N : ℕ) (small : N * 32 < 2 ^ 63) (#call : Name) (Rt : Declared) (RL 
             alloc1 ! (λ l₀. alloc1 ! (λ l₁. alloc1 ! (λ l₂. alloc1 ! (λ l₃. alloc1 ! (λ l₄. alloc1 ! (λ l₅. alloc0 ! $ params1 ! $
             pass1 ! (init ! 8 refl (array-lawful 𝓤 H A W R (LL.lawful P.the-type P′.the-laws 𝓤 H A W) N .typed xs _ x-is .0)) $
             pass1 ! (init ! 6 refl (tt, record { fits = n-fits })) $ pass0 ! $
-            assigns ! (of-opd ! (load ! (from ! (stop !)) (look ! 8 refl))) (from ! (stop !)) (init ! 4 refl (array-lawful 𝓤 H A W R (LL.lawful P.the-type P′.the-laws 𝓤 H A W) N .typed xs _ x-is .0)) $
+            assigns ! (of-opd ! (load ! (from ! (stop !)) (look ! 8 refl))) (from ! (stop !))
+            (init ! 4 refl (array-lawful 𝓤 H A W R (LL.lawful P.the-type P′.the-laws 𝓤 H A W) N .typed xs _ x-is .0)) $
             assigns ! (addr ! (from ! (stop !))) (from ! (stop !)) (init ! 2 refl (tt, tt)) $
             assigns !
             (agg ! (and-then ! (load ! (from ! (stop !)) (look ! 2 refl)) (and-then ! (load ! (from ! (stop !)) (look ! 6 refl)) (no-more !))))
@@ -170,7 +171,8 @@ module _ (N : ℕ) (small : N * 32 < 2 ^ 63) (#call : Name) (Rt : Declared) (RL 
             -- the lifetime ends, and the elements are the array's again
             move ! (1 ∷ []) $ split ! $ lft-end ! tt $ move ! (0 ∷ 3 ∷ []) $ lent-back ! tt $ fsplit ! $ drop ! $ move ! (0 ∷ 3 ∷ []) $
             use2 W (‵ (row R fullShare xs l₃ 0)) (row-join 𝓤 H A W R fullShare n xs l₃ 0) $ feqI ! ℕ (length xs) N len $ fjoin ! $
-            use1 W (‵ (partAt (Samples N small) fullShare xs l₃ 0)) (array-whole 𝓤 H A W R fullShare N xs l₃ 0) $ use1 W (‵ (fat fullShare (array N small) l₃ 0 (again N small 𝓤 H A W xs l₃))) (released N small 𝓤 H A W xs l₃) $
+            use1 W (‵ (partAt (Samples N small) fullShare xs l₃ 0)) (array-whole 𝓤 H A W R fullShare N xs l₃ 0) $
+            use1 W (‵ (fat fullShare (array N small) l₃ 0 (again N small 𝓤 H A W xs l₃))) (released N small 𝓤 H A W xs l₃) $
             returns ! (look ! 12 refl) $ forget ! 0 refl $ forget ! 3 refl $ forget ! 5 refl $ forget ! 8 refl $ forget ! 10 refl $ forget ! 12 refl $
             move ! (12 ∷ 13 ∷ []) $ free1 ! $ move ! (10 ∷ 11 ∷ []) $ free1 ! $
             move ! (8 ∷ 9 ∷ []) $ free1 ! $ move ! (0 ∷ 7 ∷ []) $ free1 ! $ move ! (4 ∷ 5 ∷ []) $ free1 ! $

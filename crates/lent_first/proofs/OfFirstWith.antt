@@ -1,4 +1,5 @@
--- A local (array N small) that is lent in part to a call over a slice of samples, over any parameter and result of that call: the elements in memory are cut behind the first n, lent for the call, and joined again.
+-- A local (array N small) that is lent in part to a call over a slice of samples, over any parameter and result of that call:
+-- the elements in memory are cut behind the first n, lent for the call, and joined again.
 -- Assumes `Given`.
 use mathlib.Core.Path.{_≡_, refl, sym}
 use Prim.Native.Nat.{ℕ, _*_, _≤_, _<_, _^_}
@@ -96,7 +97,8 @@ module _ (N : ℕ) (small : N * 32 < 2 ^ 63) (#call : Name) (Pm : RattleType)
     abbrev clauses : Clauses 𝓤 ended
     clauses κs a = record { ghost = Unit {0}; requires = λ g. fact 𝓤 (a .1 .0 ≤ N); ensures = λ g r e. fact 𝓤 (r ≡ answer (a .1 .1 .0) (take (a .1 .0) (a .0))) }
 
-    module _ (W : Given 𝓤 H A) (makes : Makes 𝓤 H A Pm (Is Pm)) (xs : List MotionSample) (xv : Val) (x-is : Is (Samples N small) xs (xv ∷ [])) (n : ℕ) (n-fits : n < 2 ^ 64) (ok : n ≤ N) (p : Plain Pm) where
+    module _ (W : Given 𝓤 H A) (makes : Makes 𝓤 H A Pm (Is Pm)) (xs : List MotionSample) (xv : Val)
+        (x-is : Is (Samples N small) xs (xv ∷ [])) (n : ℕ) (n-fits : n < 2 ^ 64) (ok : n ≤ N) (p : Plain Pm) where
       abbrev ys : List MotionSample
       ys = take n xs
 
@@ -140,7 +142,8 @@ module _ (N : ℕ) (small : N * 32 < 2 ^ 63) (#call : Name) (Pm : RattleType)
             pass1 ! (init ! 10 refl (array-lawful 𝓤 H A W R (LL.lawful P.the-type P′.the-laws 𝓤 H A W) N .typed xs _ x-is .0)) $
             pass1 ! (init ! 8 refl (tt, record { fits = n-fits })) $
             pass1 ! (init ! 6 refl (typed (p .x) (p .v) (p .is))) $ pass0 ! $
-            assigns ! (of-opd ! (load ! (from ! (stop !)) (look ! 10 refl))) (from ! (stop !)) (init ! 4 refl (array-lawful 𝓤 H A W R (LL.lawful P.the-type P′.the-laws 𝓤 H A W) N .typed xs _ x-is .0)) $
+            assigns ! (of-opd ! (load ! (from ! (stop !)) (look ! 10 refl))) (from ! (stop !))
+            (init ! 4 refl (array-lawful 𝓤 H A W R (LL.lawful P.the-type P′.the-laws 𝓤 H A W) N .typed xs _ x-is .0)) $
             assigns ! (addr ! (from ! (stop !))) (from ! (stop !)) (init ! 2 refl (tt, tt)) $
             assigns !
             (agg ! (and-then ! (load ! (from ! (stop !)) (look ! 2 refl)) (and-then ! (load ! (from ! (stop !)) (look ! 8 refl)) (no-more !))))
@@ -177,7 +180,8 @@ module _ (N : ℕ) (small : N * 32 < 2 ^ 63) (#call : Name) (Pm : RattleType)
             -- the lifetime ends, and the elements are the array's again
             move ! (1 ∷ []) $ split ! $ lft-end ! tt $ move ! (0 ∷ 3 ∷ []) $ lent-back ! tt $ fsplit ! $ drop ! $ move ! (0 ∷ 3 ∷ []) $
             use2 W (‵ (row R fullShare xs l₄ 0)) (row-join 𝓤 H A W R fullShare n xs l₄ 0) $ feqI ! ℕ (length xs) N len $ fjoin ! $
-            use1 W (‵ (partAt (Samples N small) fullShare xs l₄ 0)) (array-whole 𝓤 H A W R fullShare N xs l₄ 0) $ use1 W (‵ (fat fullShare (array N small) l₄ 0 (again N small 𝓤 H A W xs l₄))) (released N small 𝓤 H A W xs l₄) $
+            use1 W (‵ (partAt (Samples N small) fullShare xs l₄ 0)) (array-whole 𝓤 H A W R fullShare N xs l₄ 0) $
+            use1 W (‵ (fat fullShare (array N small) l₄ 0 (again N small 𝓤 H A W xs l₄))) (released N small 𝓤 H A W xs l₄) $
             returns ! (look ! 14 refl) $ forget ! 0 refl $ forget ! 3 refl $ forget ! 5 refl $ forget ! 8 refl $ forget ! 10 refl $ forget ! 12 refl $ forget ! 14 refl $
             move ! (14 ∷ 15 ∷ []) $ free1 ! $ move ! (12 ∷ 13 ∷ []) $ free1 ! $ move ! (10 ∷ 11 ∷ []) $ free1 ! $
             move ! (8 ∷ 9 ∷ []) $ free1 ! $ move ! (0 ∷ 7 ∷ []) $ free1 ! $ move ! (4 ∷ 5 ∷ []) $ free1 ! $

@@ -16,13 +16,13 @@ ghost use Prim.Native.Nat.{_≤_};
 ghost use mathlib.Core.Path.{_≡_};
 ghost use lib.ListN.{length, take};
 ghost use Rattle.fit.specs.Fitted.{fitAnswer, translationFrom, rotZoomFrom, affineFrom};
+ghost use Rattle.fit.specs.Sums.{itself};
 ghost use Rattle.fit_numbers.specs.Numbers.{numbersOf, fittedOf};
 ghost use Rattle.score.specs.Score.{continuousModel, scored};
 ghost use Rattle.quantize.specs.Quantize.{quantizedFrom};
 ghost use Rattle.trim.specs.Trim.{trimmedFrom, trimmedModelFrom};
 ghost use Rattle.trim_numbers.specs.Answer.{answerOf};
 ghost use Rattle.elect.specs.Elect.{electedFrom};
-ghost use Rattle.lent_fit.specs.Samples.{itself};
 
 pub fn translation_of_first(samples: [MotionSample; 4097], n: usize) -> FitAnswer
     requires { ⌜ n ≤ 4097 ⌝ }

@@ -88,7 +88,8 @@ module _ {M : Type 1} (𝓤 : URA M) (H : Heap 𝓤) (A : Atoms 𝓤) where
         → Triple 𝓤 (C k) (tripleOf 𝓤 H A (sig1 T R) (specOf (sig1 T R) (yes, tt) (λ κs a. f (a .0)))) → Triple 𝓤 (C k) (answers1 T R f)
     known1 T R f makes known x =
         via 𝓤 _ (qed W [] ∵ nothing ! $ owned ! T (Is T) makes (x .x) _ (x .is) $ fjoin ! $ nothing ! $ join ! $ frame ! $ done !)
-        (via 𝓤 _ (known ((tt, tt, tt, (x .x, tt), (x .v ∷ [], tt)), tt)) (fm→monoC 𝓤 H (W .laws) C fm k (x .v ∷ []) _ _ (kept (sig1 T R) (yes, tt) (λ κs a. f (a .0)) (tt, tt, tt, (x .x, tt), (x .v ∷ [], tt)))))
+        (via 𝓤 _ (known ((tt, tt, tt, (x .x, tt), (x .v ∷ [], tt)), tt))
+        (fm→monoC 𝓤 H (W .laws) C fm k (x .v ∷ []) _ _ (kept (sig1 T R) (yes, tt) (λ κs a. f (a .0)) (tt, tt, tt, (x .x, tt), (x .v ∷ [], tt)))))
 
     pub known2 : (T U R : RattleType) (f : T .Denot → U .Denot → R .Denot) → Makes 𝓤 H A T (Is T) → Makes 𝓤 H A U (Is U)
         → Triple 𝓤 (C k) (tripleOf 𝓤 H A (sig2 T U R) (specOf (sig2 T U R) (yes, (yes, tt)) (λ κs a. f (a .0) (a .1 .0)))) → Triple 𝓤 (C k) (answers2 T U R f)

@@ -3,6 +3,7 @@ pub mod Walk
 pub mod WalkFrom
 pub mod WalkWith
 pub mod Taken
+pub mod Upto
 pub mod Scored
 pub mod Quantized
 pub mod Words

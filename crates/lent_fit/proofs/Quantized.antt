@@ -10,11 +10,11 @@ use Rattle.sample.specs.declared.MotionSample.{MotionSample}
 use Rattle.fit.specs.declared.Fitted.{Fitted}
 use Rattle.fit.specs.Fitted.{listRefusal}
 use Rattle.fit.specs.Inner.{taken}
+use Rattle.fit.specs.Sums.{itself}
 use Rattle.quantize.specs.declared.Quantized.{Quantized}
 use Rattle.quantize.specs.Quantize.{modelRefusal, quantizeRefusal, quantizedFrom}
 use Rattle.quantize.specs.Inner.{refittingBegun, refittingStep, refittingEnds}
 use Rattle.quantize.proofs.Walked.{walk-refused, walk-ends}
-use Rattle.lent_fit.specs.Samples.{itself}
 use Rattle.lent_fit.proofs.Taken.{taken-or-refused}
 
 module _ (f : Fitted) (flag : ℕ) (ys : List MotionSample) where

@@ -40,7 +40,8 @@ use Rattle.lent_fit.proofs.Answers.{Plain, answers1, answers2}
 use Rattle.lent_fit.proofs.Walk.{R, locals, counts-at, starts-at, lent, lentVal, Own, En, AtState, counts, starts}
 
 module _ (#taken #begin #step #ends : Name)
-    (Pt : Declared) (PL : Laws Pt) (PP : Plains (fields Pt)) (last : (x : Pt .D) → Last (rowOf Pt .exit yes) x) (silent : (x : Pt .D) (f : Last (rowOf Pt .exit yes) x) → left (rowOf Pt .exit yes) x f ≡ ftrue)
+    (Pt : Declared) (PL : Laws Pt) (PP : Plains (fields Pt)) (last : (x : Pt .D) → Last (rowOf Pt .exit yes) x)
+    (silent : (x : Pt .D) (f : Last (rowOf Pt .exit yes) x) → left (rowOf Pt .exit yes) x f ≡ ftrue)
     (St : Declared) (SL : Laws St) (Rt : Declared) (RL : Laws Rt)
     (takes : ℕ → ℕ) (few : (n : ℕ) → takes n ≤ n) (begins : Pt .D → St .D) (steps : St .D → MotionSample → St .D) (ends : St .D → ℕ → Rt .D)
     (answer : Pt .D → List MotionSample → Rt .D)

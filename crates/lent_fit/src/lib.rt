@@ -14,12 +14,11 @@ use score::Score;
 use score::Scoring;
 ghost use mathlib.Core.Path.{_≡_};
 ghost use lib.ListN.{length};
-ghost use Rattle.fit.specs.Sums.{countAs};
+ghost use Rattle.fit.specs.Sums.{countAs, itself};
 ghost use Rattle.fit.specs.Fitted.{fitAnswer, translationOf, rotZoomOf, affineOf, translationFrom, rotZoomFrom, affineFrom};
 ghost use Rattle.fit_numbers.specs.Numbers.{numbersOf, fittedOf};
 ghost use Rattle.score.specs.Score.{continuousModel, scored};
 ghost use Rattle.quantize.specs.Quantize.{quantizedFrom};
-ghost use Rattle.lent_fit.specs.Samples.{itself};
 ghost use Rattle.lent_fit.specs.Inner.{scoringOf, refittingOf};
 
 // A model of six numbers at 16 fraction bits.

@@ -7,8 +7,9 @@ use sample::MotionSample;
 use trim::TrimmedModel;
 use trim_numbers::TrimmedAnswer;
 ghost use mathlib.Core.Path.{_≡_};
+ghost use Rattle.fit.specs.Sums.{itself};
 ghost use Rattle.trim.specs.Trim.{trimmedFrom, trimmedModelFrom};
-ghost use Rattle.trim.specs.Inner.{itself, samplesIn};
+ghost use Rattle.trim.specs.Inner.{samplesIn};
 ghost use Rattle.trim_numbers.specs.Answer.{answerOf};
 
 // The type code of a fit, and the precision flag of its grid.

@@ -1,5 +1,5 @@
--- Worked medians, by bit patterns: odd and even lengths, equal numbers, the largest finite numbers, the smallest above 0. Two orders of +0 and −0 have two medians, so the laws must ask for numbers without
--- sign.
+-- Worked medians, by bit patterns: odd and even lengths, equal numbers, the largest finite numbers, the smallest above 0.
+-- Two orders of +0 and −0 have two medians, so the laws must ask for numbers without sign.
 -- Assumes nothing.
 use Prim.Native.Nat.{ℕ}
 use mathlib.Core.Bool.{true, false}

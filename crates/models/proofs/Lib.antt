@@ -1,1 +1,4 @@
 pub mod Integers
+pub mod OnGrid
+pub mod Below
+pub mod Sides

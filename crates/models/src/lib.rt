@@ -3,12 +3,15 @@
 // slots of a type, the pair, the start) and rows 4, 14, 7 and 8; clause 5.9.24; the assertions of
 // `write_global_param` and `encode_inter_global_motion`.
 ghost use mathlib.Core.Path.{_≡_};
-ghost use Prim.Native.Nat.{_+_, _*_, _≤_, _<_};
-ghost use lib.IntN.{negℤ};
+ghost use Prim.Native.Nat.{_+_, _*_, _^_, _≤_, _<_};
+ghost use lib.Dec.{ltb};
+ghost use lib.IntN.{natAbs, negℤ};
 ghost use lib.ListN.{length};
 ghost use Rattle.models.specs.Integers.{equal};
+ghost use Rattle.laws.specs.Below.{anyBelow};
 ghost use Rattle.grid.specs.Symbols.{priorOut};
-ghost use Rattle.models.specs.Models.{carries, slotWrong, slotAt, modelWrong, modelsWrong, priorsOut, typesOver, startOver};
+ghost use Rattle.models.specs.Models.{carries, slotWrong, slotAt, modelWrong, modelsWrong, priorAt, priorsOut, typesOver, startOver};
+ghost use Rattle.models.specs.Inner.{SixNext, NoneBefore};
 use grid::AFFINE;
 use grid::IDENTITY;
 use grid::ROTZOOM;
@@ -26,9 +29,9 @@ const LAST_START: usize = 7;
 
 // docs/RULES.md, 'Header': how far a prior's number may lie from its slot's centre, in slots 0 and 1 and in
 // the others.
-const TRANSLATION_PRIOR: u64 = 4194304;
+const TRANSLATION_PRIOR: u32 = 4194304;
 
-const LINEAR_PRIOR: u64 = 8192;
+const LINEAR_PRIOR: u32 = 8192;
 
 pub fn carries_slot(gm_type: u8, slot: u8) -> bool
     ensures { λ r. ⌜ r ≡ carries «gm_type» slot ⌝ }
@@ -58,12 +61,12 @@ fn opposite(a: i32, b: i32) -> bool
     a as i64 == 0 - b as i64
 }
 
-// A slot's number is its own quantization, or what fills a slot that the type doesn't carry.
+// A slot's number is on its grid, or what fills a slot that the type doesn't carry.
 fn slot_wrong(gm_type: u8, flag: u8, slot: u8, z: i32, p2: i32, p3: i32) -> bool
     ensures { λ r. ⌜ r ≡ slotWrong «gm_type» flag slot z p2 p3 ⌝ }
 {
     if carries_slot(gm_type, slot) {
-        return !same(z, grid::nearest_number(gm_type, flag, slot, z));
+        return grid::off_grid(gm_type, flag, slot, z);
     }
     if gm_type == ROTZOOM {
         if slot == 4 {
@@ -84,8 +87,8 @@ fn slot_at(gm_type: u8, flag: u8, params: &[i32], first: usize, slot: u8) -> boo
     slot_wrong(gm_type, flag, slot, z, p2, p3)
 }
 
-// The model whose six numbers begin at `first`.
-pub fn model_wrong(gm_type: u8, flag: u8, params: &[i32], first: usize) -> bool
+// The six slots of the model whose numbers begin at `first`.
+fn slots_wrong(gm_type: u8, flag: u8, params: &[i32], first: usize) -> bool
     requires { ⌜ first + 6 ≤ length (now params) ⌝ }
     ensures { λ r. ⌜ r ≡ modelWrong «gm_type» flag (now (params .entry)) first ⌝ }
 {
@@ -97,6 +100,20 @@ pub fn model_wrong(gm_type: u8, flag: u8, params: &[i32], first: usize) -> bool
         slot += 1;
     }
     false
+}
+
+// That model. The types that fill most slots are named, so that the compiler knows what their slots hold.
+pub fn model_wrong(gm_type: u8, flag: u8, params: &[i32], first: usize) -> bool
+    requires { ⌜ first + 6 ≤ length (now params) ⌝ }
+    ensures { λ r. ⌜ r ≡ modelWrong «gm_type» flag (now (params .entry)) first ⌝ }
+{
+    if gm_type == IDENTITY {
+        return slots_wrong(IDENTITY, flag, params, first);
+    }
+    if gm_type == TRANSLATION {
+        return slots_wrong(TRANSLATION, flag, params, first);
+    }
+    slots_wrong(gm_type, flag, params, first)
 }
 
 // As many models as there are types.
@@ -114,21 +131,48 @@ pub fn models_wrong(types: &[u8], flag: u8, params: &[i32]) -> bool
     false
 }
 
+// More than `reach` from 0, to either side.
+fn beyond(num: i64, reach: u32) -> bool
+    requires { ⌜ natAbs num < 2 ^ 62 ⌝ }
+    ensures { λ r. ⌜ r ≡ ltb reach (natAbs num) ⌝ }
+{
+    if grid::is_negative(num + reach as i64) {
+        return true;
+    }
+    grid::is_negative(reach as i64 - num)
+}
+
 pub fn prior_out(slot: u8, z: i32) -> bool
     ensures { λ r. ⌜ r ≡ priorOut slot z ⌝ }
 {
-    let distance = grid::magnitude(grid::from_centre(z, grid::centre_of(slot)));
+    let num = grid::from_centre(z, grid::centre_of(slot));
     if slot < 2 {
-        return TRANSLATION_PRIOR < distance;
+        return beyond(num, TRANSLATION_PRIOR);
     }
-    LINEAR_PRIOR < distance
+    beyond(num, LINEAR_PRIOR)
 }
 
-// A list of priors, six to a reference.
-pub fn priors_out(prior: &[i32]) -> bool
+// The six priors of a reference, from `first` on: some prior up to the last of them is out of range.
+fn six_out(prior: &[i32], first: usize) -> bool
+    requires { ⌜ SixNext (now prior) first ⌝ }
+    ensures { λ r. ⌜ r ≡ anyBelow (priorAt (now (prior .entry))) (first + 6) ⌝ }
+{
+    let mut slot = 0u8;
+    while slot < 6 {
+        if prior_out(slot, prior[first + slot as usize]) {
+            return true;
+        }
+        slot += 1;
+    }
+    false
+}
+
+// Those from `first` on, where the priors before are in range.
+fn rest_out(prior: &[i32], first: usize) -> bool
+    requires { ⌜ NoneBefore (now prior) first ⌝ }
     ensures { λ r. ⌜ r ≡ priorsOut (now (prior .entry)) ⌝ }
 {
-    let mut i = 0;
+    let mut i = first;
     while i < prior.len() {
         if prior_out((i % SLOTS) as u8, prior[i]) {
             return true;
@@ -136,6 +180,20 @@ pub fn priors_out(prior: &[i32]) -> bool
         i += 1;
     }
     false
+}
+
+// A list of priors, six to a reference: the slot of each is known where whole references are looked at.
+pub fn priors_out(prior: &[i32]) -> bool
+    ensures { λ r. ⌜ r ≡ priorsOut (now (prior .entry)) ⌝ }
+{
+    let mut first = 0;
+    while SLOTS <= prior.len() - first {
+        if six_out(prior, first) {
+            return true;
+        }
+        first += SLOTS;
+    }
+    rest_out(prior, first)
 }
 
 pub fn types_over(types: &[u8]) -> bool

@@ -7,9 +7,11 @@ use native.Mathlib.Nat.{mul-le-mul-right}
 use native.Mathlib.Omega.{arith}
 use lib.ListN.{length, take, drop, getD}
 use lib.Seq.{getD-take, getD-drop}
-use Rattle.plane.specs.Plane.{listing, halfPel, halfPlane}
+use Rattle.laws.specs.Parts.{listing}
+use Rattle.laws.proofs.Filling.{listing-same}
+use Rattle.plane.specs.Plane.{halfPel, halfPlane}
 use Rattle.plane.specs.Inner.{halfOfRows}
-use Rattle.plane.proofs.Listing.{listing-same, length-rowByRow}
+use Rattle.plane.proofs.Listing.{length-rowByRow}
 
 -- the element at i of the w elements from the a-th on
 pub part-at : (p : List ℕ) (a w i : ℕ) → i < w → getD (take (a + w - a) (drop a p)) i 0 ≡ getD p (a + i) 0

@@ -1,4 +1,4 @@
--- A list made front to back: its length, and what a buffer holds when its front is written one place or one row at a time.
+-- A list made front to back: its elements, and what a buffer holds when its front is written one place or one row at a time.
 -- Assumes nothing.
 use Prim.Native.Nat.{ℕ, zero, suc, _+_, _*_, _≤_, _<_, _-_}
 use mathlib.Core.Bool.{Bool, true, false}
@@ -13,15 +13,13 @@ use lib.Seq.{append-snoc, drop-cons, set-at, drop-drop, getD-at, getD-append-add
 use borrow.Author.Tests.{ltb-true, ltb-false}
 use Rattle.laws.specs.Buffer.{onto}
 use Rattle.laws.specs.Placed.{placed}
+use Rattle.laws.specs.Parts.{listing}
 use Rattle.laws.proofs.Placed.{placed-at}
+use Rattle.laws.proofs.Filling.{length-listing}
 use borrow.Rule.Slice.PartMut.{putMid, post-is}
-use Rattle.plane.specs.Plane.{listing, rowByRow}
+use Rattle.plane.specs.Plane.{rowByRow}
 
 module _ {A : Type 0} where
-  pub length-listing : (f : ℕ → A) (n : ℕ) → length (listing f n) ≡ n
-  length-listing f zero = refl
-  length-listing f (suc n) = rw (length-append, length-listing f n) (add-one n)
-
   pub length-rowByRow : (f : ℕ → ℕ → A) (w h : ℕ) → length (rowByRow f w h) ≡ h * w
   length-rowByRow f w zero = omega arith
   length-rowByRow f w (suc h) = rw (length-append, length-rowByRow f w h, length-listing (f h) w) (omega arith)
@@ -38,11 +36,6 @@ module _ {A : Type 0} where
       by false e r =
           let q : i ≡ n = (let l = ltb-false i n e in omega arith) in
           rw q (getD-at (listing f n) (f n) [] d n (length-listing f n))
-
-  pub listing-same : (f g : ℕ → A) (n : ℕ) → ((i : ℕ) → i < n → f i ≡ g i) → listing f n ≡ listing g n
-  listing-same f g zero h = refl
-  listing-same f g (suc n) h =
-      rw (listing-same f g n (λ i l. h i (omega arith)), h n (omega arith))
 
   -- the element at row a, column b
   pub getD-rowByRow : (f : ℕ → ℕ → A) (w h a b : ℕ) (d : A) → a < h → b < w → getD (rowByRow f w h) (a * w + b) d ≡ f a b

@@ -7,15 +7,17 @@ use native.Mathlib.Nat.{le-refl, mul-le-mul-right}
 use native.Mathlib.Omega.{arith}
 use lib.ListN.{length, take, drop, getD}
 use Rattle.laws.specs.Buffer.{onto}
+use Rattle.laws.specs.Parts.{listing}
 use Rattle.laws.proofs.Placed.{onto-whole}
+use Rattle.laws.proofs.Filling.{listing-same}
 use Rattle.plane.specs.declared.Place.{Place}
 use Rattle.plane.specs.declared.Offset.{Offset}
-use Rattle.plane.specs.Plane.{listing, rowByRow, pelAt, right}
+use Rattle.plane.specs.Plane.{rowByRow, pelAt, right}
 use Rattle.plane.specs.Clamp.{displaced, offset}
 use Rattle.plane.specs.Inner.{Inside, Starts, landing, rowPel, windowPel, windowOf}
 use Rattle.plane.proofs.Clamped.{displaced-is}
 use Rattle.plane.proofs.Halves.{part-at}
-use Rattle.plane.proofs.Listing.{listing-same, length-rowByRow, getD-rowByRow}
+use Rattle.plane.proofs.Listing.{length-rowByRow, getD-rowByRow}
 
 -- pel i of the part of n pels at a place
 pel-of-part : (p : List ℕ) (place : Place) (n i a : ℕ) → Starts n place a → i < n → getD (take (a + n - a) (drop a p)) i 0 ≡ pelAt p (right place i)

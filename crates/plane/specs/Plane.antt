@@ -1,18 +1,14 @@
 -- A plane as a list row by row, its pel at a row and a column, and its half plane (docs/RULES.md, 'Records' and 'Search').
 -- Assumes nothing.
 use Prim.Native.Nat.{ℕ, zero, suc, _+_, _*_, _/_}
-use mathlib.Core.List.{List, [], _∷_, _++_}
+use mathlib.Core.List.{List, [], _++_}
 use lib.ListN.{getD}
+use Rattle.laws.specs.Parts.{listing}
 use Rattle.plane.specs.declared.Place.{Place}
 
 -- the longest side that row 1 lets pass
 abbrev pub largestSide : ℕ
 largestSide = 1024
-
--- f 0, f 1, .., f (n - 1)
-abbrev pub listing : {A : Type 0} → (ℕ → A) → ℕ → List A
-listing f zero = []
-listing f (suc n) = listing f n ++ (f n ∷ [])
 
 -- f r c for the rows r below h, in each for the columns c below w
 abbrev pub rowByRow : {A : Type 0} → (ℕ → ℕ → A) → ℕ → ℕ → List A

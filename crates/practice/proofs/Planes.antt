@@ -9,12 +9,14 @@ use lib.IntN.{ℤ}
 use lib.ListN.{length, take, getD, List·getD-append}
 use lib.Seq.{getD-at, getD-append-add}
 use Rattle.laws.specs.Buffer.{onto}
+use Rattle.laws.specs.Parts.{listing}
 use Rattle.laws.proofs.Buffer.{onto-front}
 use Rattle.laws.proofs.Cases.{lt-or-le}
 use Rattle.laws.proofs.Products.{row-fits}
-use Rattle.plane.specs.Plane.{listing, rowByRow, pel}
+use Rattle.laws.proofs.Filling.{length-listing}
+use Rattle.plane.specs.Plane.{rowByRow, pel}
 use Rattle.plane.specs.Clamp.{displaced}
-use Rattle.plane.proofs.Listing.{length-listing, length-rowByRow}
+use Rattle.plane.proofs.Listing.{length-rowByRow}
 use Rattle.practice.specs.Generator.{noise}
 use Rattle.practice.specs.Belt.{referencePlane, inputPlane}
 

@@ -3,7 +3,8 @@
 use Prim.Native.Nat.{ℕ, _*_}
 use mathlib.Core.List.{List}
 use lib.IntN.{ℤ}
-use Rattle.plane.specs.Plane.{listing, rowByRow}
+use Rattle.laws.specs.Parts.{listing}
+use Rattle.plane.specs.Plane.{rowByRow}
 use Rattle.plane.specs.Clamp.{displaced}
 use Rattle.practice.specs.Generator.{noise}
 

@@ -10,6 +10,7 @@ use Rattle.plane.specs.declared.Place.{Place}
 use Rattle.plane.specs.declared.Sides.{Sides}
 use Rattle.plane.specs.Clamp.{displaced, offset}
 use Rattle.plane.specs.Inner.{Small}
+use Rattle.practice.specs.Belt.{inputPlane}
 use Rattle.practice.specs.Call.{largestShift}
 
 -- a natural number that stands for a shift
@@ -38,6 +39,10 @@ pub record MovedRow (p : List ℕ) (row : Place) (by : Offset) : Type 0 where
 abbrev pub moved : List ℕ → Place → Offset → ℕ → ℕ
 moved p row by c =
     displaced p (record { width = row .width; height = row .height; r = row .r; c = c }) (offset largestShift (by .y)) (offset largestShift (by .x))
+
+-- the input plane of a reference plane of these sides
+abbrev pub movedPlane : List ℕ → Sides → Offset → List ℕ
+movedPlane p sides by = inputPlane p (sides .width) (sides .height) (offset largestShift (by .y)) (offset largestShift (by .x))
 
 -- a plane that is being moved: its pels, the shift, and room for the plane moved
 pub record Moving (p : List ℕ) (sides : Sides) (by : Offset) (n : ℕ) : Type 0 where

@@ -7,13 +7,12 @@ ghost use lib.IntN.{natAbs};
 ghost use lib.ListN.{length};
 ghost use Rattle.laws.specs.Buffer.{onto};
 ghost use Rattle.laws.specs.Placed.{placed};
-ghost use Rattle.plane.specs.Plane.{listing};
-ghost use Rattle.plane.specs.Clamp.{offset};
+ghost use Rattle.laws.specs.Parts.{listing};
 ghost use Rattle.plane.specs.Inner.{Small};
 ghost use Rattle.practice.specs.Generator.{stepped, next, upperHalf};
-ghost use Rattle.practice.specs.Belt.{referencePlane, inputPlane};
+ghost use Rattle.practice.specs.Belt.{referencePlane};
 ghost use Rattle.practice.specs.Call.{largestShift, tooFar, tooShort, refusal, made, inputLeft, referenceLeft};
-ghost use Rattle.practice.specs.Inner.{Biased, PlaneRoom, MovedRow, Moving, Ready, moved};
+ghost use Rattle.practice.specs.Inner.{Biased, PlaneRoom, MovedRow, Moving, Ready, moved, movedPlane};
 use plane::Offset;
 use plane::Place;
 use plane::Sides;
@@ -118,7 +117,7 @@ fn place_row(reference: &[u16], row: Place, by: Offset, input: &mut [u16])
 // The input plane from the front of the buffer, row by row.
 fn fill_input(reference: &[u16], sides: Sides, by: Offset, input: &mut [u16])
     requires { ⌜ Moving (now reference) sides by (length (now input)) ⌝ }
-    ensures { λ _. ⌜ now (input .exit) ≡ onto (inputPlane (now (reference .entry)) (sides .width) (sides .height) (offset largestShift (by .y)) (offset largestShift (by .x))) (now (input .entry)) ⌝ }
+    ensures { λ _. ⌜ now (input .exit) ≡ onto (movedPlane (now (reference .entry)) sides by) (now (input .entry)) ⌝ }
 {
     let mut r = 0;
     while r < sides.height {
@@ -196,7 +195,7 @@ fn refusal_of(sides: Sides, dy: i32, dx: i32, input: usize, reference: usize) ->
 // Both planes: the input reads the reference already made.
 fn fill_planes(seed: u32, sides: Sides, by: Offset, input: &mut [u16], reference: &mut [u16])
     requires { ⌜ Ready sides by (length (now input)) (length (now reference)) ⌝ }
-    ensures { λ _. ⌜ now (input .exit) ≡ onto (inputPlane (referencePlane seed (sides .width) (sides .height)) (sides .width) (sides .height) (offset largestShift (by .y)) (offset largestShift (by .x))) (now (input .entry)) ⌝ }
+    ensures { λ _. ⌜ now (input .exit) ≡ onto (movedPlane (referencePlane seed (sides .width) (sides .height)) sides by) (now (input .entry)) ⌝ }
     ensures { λ _. ⌜ now (reference .exit) ≡ onto (referencePlane seed (sides .width) (sides .height)) (now (reference .entry)) ⌝ }
 {
     fill_reference(seed, sides, &mut *reference);

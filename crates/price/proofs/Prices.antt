@@ -1,7 +1,7 @@
 -- The price list of a slot is that of its absBits: recentring renames the codes one to one, whatever the prior, and the ladder's codes are counted rung by rung.
 -- Every ordinal has one of the lengths, so the counts sum to their number.
 -- Assumes nothing.
-use Prim.Native.Nat.{ℕ, _+_, _-_, _≤_, _<_}
+use Prim.Native.Nat.{ℕ, _+_, _≤_, _<_}
 use mathlib.Core.Bool.{false}
 use mathlib.Core.Path.{_≡_, ap, _∙_}
 use native.Mathlib.Omega.{arith}

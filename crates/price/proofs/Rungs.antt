@@ -17,7 +17,7 @@ use Rattle.bits.specs.Fields.{fieldBits}
 use Rattle.bits.specs.Ns.{bitLength, shortCodes, nsBits}
 use Rattle.bits.proofs.BitLength.{bitLength-is}
 use Rattle.bits.proofs.Fields.{length-fieldBits}
-use Rattle.bits.proofs.Ns.{short-length, long-length}
+use Rattle.bits.proofs.Ns.{short-code, long-code}
 use Rattle.grid.specs.Symbols.{symbols}
 use Rattle.subexp.specs.Ladder.{climbBits, subexpBits}
 use Rattle.subexp.specs.Inner.{rungStart, rungStep, reach}
@@ -27,6 +27,14 @@ use Rattle.laws.proofs.Loops.{sum-same}
 use Rattle.price.specs.Prices.{countOf}
 use Rattle.price.specs.Listed.{when, listed}
 use Rattle.price.proofs.Counting.{count-same, count-parts, count-alike}
+
+-- the two lengths of an ns code
+module _ (n v w m : ℕ) (ew : w ≡ bitLength n) (em : m ≡ shortCodes n) where
+  short-length : v < m → length (nsBits n v) ≡ w - 1
+  short-length h = ap length (short-code n v w m ew em h) ∙ length-fieldBits (w - 1) v
+
+  long-length : m ≤ v → length (nsBits n v) ≡ w
+  long-length h = ap length (long-code n v w m ew em h) ∙ length-fieldBits w (v + m)
 
 -- the codes of ns(2 ^ e + 1), behind so many bits
 ns-count : (e front bits : ℕ) → 1 ≤ e

@@ -3,7 +3,7 @@
 use Prim.Native.Nat.{ℕ, _+_}
 use mathlib.Core.List.{List, [], _∷_}
 use mathlib.Core.Path.{_≡_, refl}
-use lib.IntN.{ℤ, pos}
+use lib.IntN.{pos}
 use Rattle.laws.specs.Parts.{listing}
 use Rattle.price.specs.Prices.{shortest, lengthsOf}
 use Rattle.price.specs.Listed.{listed}

@@ -10,7 +10,7 @@ ghost use Rattle.laws.specs.Parts.{listing};
 ghost use Rattle.price.specs.Prices.{shortest, lengthsOf};
 ghost use Rattle.price.specs.Listed.{listed};
 ghost use Rattle.price.specs.Call.{notCoded, priceRefusal, noPrices, priceList};
-ghost use Rattle.price.specs.Frame.{framePrice, framePriceRefusal};
+ghost use Rattle.price.specs.Frame.{framePrice};
 ghost use Rattle.price.specs.Inner.{Bits, Length};
 
 // The types and flags that there are, and the slots of a model.

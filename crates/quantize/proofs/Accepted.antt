@@ -3,7 +3,7 @@
 use Prim.Native.Nat.{ℕ, zero, suc, _≤_}
 use mathlib.Core.Bool.{Bool, true, false}
 use mathlib.Core.List.{List, [], _∷_}
-use mathlib.Core.Path.{_≡_, refl, sym, _∙_}
+use mathlib.Core.Path.{_≡_, refl}
 use native.Mathlib.Omega.{arith}
 use borrow.Author.Tests.{ne-eqb, eqb-false, ltb-false}
 use lib.Dec.{eqb, ltb}
@@ -34,9 +34,6 @@ refusal-shown (suc n) p = rw (ne-eqb (suc n) 0 (omega arith))
 
 pub refusal-is : (f : Fitted) (flag : ℕ) (ws : List ℕ) → quantizedModel f flag ws .refusal ≡ quantizeRefusal f flag (length ws)
 refusal-is f flag ws = refusal-shown (quantizeRefusal f flag (length ws)) (params f flag ws)
-
-pub accepted-params : (f : Fitted) (flag : ℕ) (ws : List ℕ) → quantizedModel f flag ws .refusal ≡ 0 → quantizedModel f flag ws .params ≡ params f flag ws
-accepted-params f flag ws e = rw (sym (refusal-is f flag ws) ∙ e)
 
 -- ---- the row-first form
 

@@ -14,7 +14,6 @@ ghost use Prim.Native.Nat.{_≤_};
 ghost use lib.IntN.{natAbs};
 ghost use lib.ListN.{length};
 ghost use Rattle.sample.specs.Word.{mostSamples};
-ghost use Rattle.fit.specs.Fitted.{typeOf};
 ghost use Rattle.quantize.specs.Quantize.{slotOf, rotZoomLinear, identityLinear, linearOf, continuousLinear, meanMotion, refitted, paramsOf, params};
 ghost use Rattle.quantize.specs.Quantize.{modelRefusal, quantizeRefusal, refusedModel, quantizedModel, rowFirst};
 ghost use Rattle.quantize.specs.Inner.{refitStep, refitSums, linearUnlessRefused, refittingBegun, refittingStep, refittingEnds, Accepted};

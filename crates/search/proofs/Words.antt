@@ -1,24 +1,24 @@
 -- The words of a search: how many, what each holds, and that a frame may store them.
 -- Assumes nothing.
-use Prim.Native.Nat.{ℕ, zero, suc, _+_, _*_, _/_, _%_, _^_, _≤_, _<_, suc-le-suc}
+use Prim.Native.Nat.{ℕ, suc, _+_, _*_, _/_, _%_, _^_, _≤_, _<_, suc-le-suc}
 use mathlib.Core.Bool.{Bool, true, false}
 use mathlib.Core.List.{List, [], _∷_}
 use mathlib.Core.Path.{_≡_, refl, sym, ap, _∙_}
 use native.Mathlib.Nat.{div-lt-iff-lt-mul, mod-lt, div-add-mod'}
 use native.Mathlib.Omega.{arith}
 use lib.Arith.{digits-div, digits-mod}
-use lib.ListN.{length, getD, List·getD-append, List·getD-eq-default}
-use lib.Seq.{getD-at}
+use lib.ListN.{length, getD, List·getD-eq-default}
 use lib.Dec.{ltb}
 use borrow.Author.Tests.{ltb-true, ltb-false}
+use Rattle.laws.proofs.Filling.{length-listing}
 use Rattle.sample.specs.Word.{inRange, placeOf, classOf}
 use Rattle.sample.specs.Inner.{Held}
 use Rattle.sample.specs.Storable.{storable}
 use Rattle.sample.proofs.Word as word
 use Rattle.sample.proofs.Storable.{in-range-of, storable-by-index}
 use Rattle.class.specs.Class.{allBare}
-use Rattle.plane.specs.Plane.{listing, largestSide}
-use Rattle.plane.proofs.Listing.{length-listing, getD-listing}
+use Rattle.plane.specs.Plane.{largestSide}
+use Rattle.plane.proofs.Listing.{getD-listing}
 use Rattle.search.specs.Search.{motion, stored, wordAt, sampleWord, sampleWords, sampleCount, blockColumns}
 use Rattle.search.proofs.Rows.{factor-pos, count-small}
 use Rattle.search.proofs.Range.{stored-motion-le-446}

@@ -4,10 +4,11 @@ use Prim.Native.Nat.{ℕ, _+_, _*_, _/_, _%_}
 use mathlib.Core.List.{List}
 use lib.IntN.{ℤ, pos, negsuc, _+ℤ_, _*ℤ_}
 use Rattle.laws.specs.Loops.{sum}
+use Rattle.laws.specs.Parts.{listing}
 use Rattle.sample.specs.Sample.{motionBias}
 use Rattle.sample.specs.Word.{wordOf}
 use Rattle.plane.specs.declared.Place.{Place}
-use Rattle.plane.specs.Plane.{listing, halfPlane}
+use Rattle.plane.specs.Plane.{halfPlane}
 use Rattle.stage.specs.Stage.{Found, coarse, fullPel, refined}
 use Rattle.stage.specs.Early.{Tally, coarseEarly, fineEarly}
 

@@ -1,6 +1,6 @@
 -- Of a codable linear part: the table's place is in the table, no clamp acts, the flag plays no part, and the identity is valid.
 -- Assumes nothing.
-use Prim.Native.Nat.{ℕ, _*_, _-_, _^_, _≤_}
+use Prim.Native.Nat.{ℕ, _*_, _^_, _≤_}
 use mathlib.Core.List.{List}
 use mathlib.Core.Logic.{⊎-elim}
 use mathlib.Core.Path.{_≡_, refl, sym, ap, _∙_}

@@ -5,7 +5,10 @@
 
 ghost use mathlib.Core.Path.{_≡_};
 ghost use Prim.Native.Nat.{_<_, _≤_};
-ghost use Rattle.solve.specs.Elimination.{absOf, tooSmall, system, pivotStep, pivotOf, exchangedRows, exchangeRight, exchanged, factorOf, reducedRow, reduceRight, reduced, eliminating, column, eliminated};
+ghost use Rattle.solve.specs.Elimination.{absOf, tooSmall, system, pivotStep, pivotOf};
+ghost use Rattle.solve.specs.Elimination.{exchangedRows, exchangeRight, exchanged, factorOf};
+ghost use Rattle.solve.specs.Elimination.{reducedRow, reduceRight, reduced};
+ghost use Rattle.solve.specs.Elimination.{eliminating, column, eliminated};
 ghost use Rattle.solve.specs.Solution.{residueOf, unknownStep, unknowns, solution, solved};
 
 // docs/RULES.md, 'Fits and score': the binary64 nearest 1e-9, below which a pivot is refused.

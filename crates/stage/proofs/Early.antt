@@ -10,9 +10,9 @@ use lib.IntN.{ℤ, pos, _*ℤ_}
 use lib.ListN.{length}
 use borrow.Author.Tests.{ltb-true, lt-ltb, eqb-true, eqb-false}
 use Rattle.laws.specs.Loops.{run, turns}
+use Rattle.laws.proofs.Filling.{length-listing}
 use Rattle.plane.specs.declared.Place.{Place}
 use Rattle.plane.specs.Plane.{down}
-use Rattle.plane.proofs.Listing.{length-listing}
 use Rattle.cost.specs.declared.Added.{Added}
 use Rattle.cost.specs.Cost.{blockCost, eighthsCost, rowCost, bilinearRowCost, whole, fraction}
 use Rattle.cost.specs.Ended.{total, ended, rowCosts, eighthsCosts}

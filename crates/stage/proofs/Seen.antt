@@ -21,7 +21,8 @@ use Rattle.cost.proofs.Laid.{windowCosts-are, eighthsCosts-are}
 use Rattle.stage.specs.declared.Best.{Best}
 use Rattle.stage.specs.Stage.{side, square, rowOffset, columnOffset}
 use Rattle.stage.specs.Early.{Tally, begun, tried, considerEarly, scanEarly, magnitudes, nothing, coarseEarly, fullPelEarly, eighthsStepEarly, refinedEarly, fineEarly}
-use Rattle.stage.specs.Inner.{seen, replaced, startOf, turn, at, magnitudesOf, coarseMotion, coarseIn, fullMotion, fullPelIn, stepMotion, stepIn, refinedIn, eightfold, fineIn, Block, Roomy, Next, Leads, FineIn, Steady}
+use Rattle.stage.specs.Inner.{seen, replaced, startOf, turn, at, magnitudesOf, coarseMotion, coarseIn, fullMotion, fullPelIn, stepMotion}
+use Rattle.stage.specs.Inner.{stepIn, refinedIn, eightfold, fineIn, Block, Roomy, Next, Leads, FineIn, Steady}
 use Rattle.stage.proofs.Motion.{offset-same, eightfold-stored}
 use Rattle.stage.proofs.Reach.{stepped, reached-here, steady-after, steady-start, steady-less, stepIn-lies, fullPelIn-lies, coarseIn-lies}
 use Rattle.stage.proofs.Early.{run-seen}
@@ -157,7 +158,8 @@ module _ (input ref : List ℕ) (place : Place) (none : Offset) (zy : none .y �
         (step-seen 4 first s4
         ∙ ap (eighthsStepEarly input ref place 4)
         (start-seen 223 (start .y) (start .x) (eighthsCosts input ref place)
-        (eighthsCosts-are input ref place none by zy zx start (inside .rows) (inside .columns) (reached-here (by .y) (start .y) (room .y-high) ry) (reached-here (by .x) (start .x) (room .x-high) rx)))))
+        (eighthsCosts-are input ref place none by zy zx start (inside .rows) (inside .columns)
+        (reached-here (by .y) (start .y) (room .y-high) ry) (reached-here (by .x) (start .x) (room .x-high) rx)))))
 
     -- both, one after the other
     pub fine-seen : seen 223 (fineIn by (windowOf input place none 0 16) (windowOf ref place by 31 24)) ≡ fineEarly input ref place (offset 27 (by .y)) (offset 27 (by .x))

@@ -1,11 +1,11 @@
 -- The climb, rung by rung, for the code's loops: so many ones were passed, and what is left is the climb from the rung reached.
 -- Assumes nothing.
-use Prim.Native.Nat.{ℕ, zero, suc, _+_, _-_, _*_, _^_, _≤_, _<_}
+use Prim.Native.Nat.{ℕ, zero, suc, _+_, _-_, _*_, _%_, _^_, _≤_, _<_}
 use mathlib.Core.Bool.{Bool, true, false}
 use mathlib.Core.List.{List, _∷_, _++_}
-use mathlib.Core.Path.{_≡_, refl, ap, sym, _∙_}
+use mathlib.Core.Path.{_≡_, refl, ap, sym, _∙_, subst}
 use native.Mathlib.Decide.{decLe}
-use native.Mathlib.Nat.{le-refl, pow-suc}
+use native.Mathlib.Nat.{le-refl, mod-eq-of-lt, pow-suc}
 use native.Mathlib.Numerals.{add-one}
 use native.Mathlib.Omega.{arith}
 use borrow.Author.Tests.{leb-true, leb-false, le-leb, lt-leb}
@@ -14,7 +14,9 @@ use lib.Pow.{pow-pos, high}
 use Rattle.laws.specs.Refusal.{choose}
 use Rattle.bits.specs.Fields.{field, fieldBits}
 use Rattle.bits.specs.Ns.{Taken, ns, nsBits}
+use Rattle.bits.specs.Inner.{FieldIs}
 use Rattle.bits.proofs.Fields.{fieldBits-low}
+use Rattle.bits.proofs.Words.{zero-in-front}
 use Rattle.bits.specs.declared.BitCursor.{BitCursor}
 use Rattle.subexp.specs.declared.RungRead.{RungRead}
 use Rattle.subexp.specs.Inner.{Rung, rungCode, behind, ClimbIs, rungBits, rungStart, rungStep, reach, lastRung, climbs}
@@ -94,6 +96,26 @@ module _ (S v : ℕ) where
                 bits-stop (S - (i + 1)) S i v less stop ∙ rw (lt-leb S (reach i) less)
           ]
 
+-- the code on a rung, by what the code has computed of the rung
+module _ (S v i m : ℕ) (em : m ≡ rungStart i) where
+  pub last-code : lastRung S i ≡ true → rungCode S v i ≡ nsBits (S - m) (v - m)
+  last-code e = rw (e, em)
+
+  pub stop-code : (b : ℕ) → b ≡ rungBits i → lastRung S i ≡ false → rungCode S v i ≡ 0 ∷ fieldBits b (v - m)
+  stop-code b eb e = rw (e, em, eb)
+
+-- a number of the first rung, which isn't the last one
+pub first-code : (S v : ℕ) → v < 8 → 24 < S → S ≤ 65536 → FieldIs (record { n = 4; value = v }) (subexpBits S v)
+first-code S v near more small =
+    let e : lastRung S 0 ≡ false = lt-leb S 24 more in
+    let stop : climbs S v 0 ≡ false = rw e (lt-leb 8 v near) in
+    let r : Rung S v 0 = there S v 0 (omega arith) small stop (at-the-foot S v (omega arith)) in
+    let m : v % 2 ^ 3 ≡ v = mod-eq-of-lt near in
+    record {
+      bits = ap (fieldBits 4) (sym m) ∙ zero-in-front 3 v ∙ ap (λ (x : ℕ). 0 ∷ fieldBits 3 x) (let o : v ≡ v - 0 = omega arith in o) ∙ sym (stop-code S v 0 0 refl 3 refl e) ∙ sym (r .bits);
+      low = omega arith;
+    }
+
 -- the bits passed and those of what is left
 abbrev pub after : ℕ → Taken → Taken
 after i t = record { value = t .value; bits = i + t .bits }
@@ -138,6 +160,23 @@ module _ (g : ℕ → ℕ) (S j : ℕ) where
       → subexp g j S ≡ record { value = rungStart i + ns g (j + i) (S - rungStart i) .value; bits = i + ns g (j + i) (S - rungStart i) .bits }
   last-read i last l = l .is ∙ rw (fuel S i (l .below), climb-last (S - (i + 1)) S i g (j + i) last)
 
+  -- a number of the first rung, which isn't the last one
+  pub first-read : 24 < S → field g j 4 < 8 → (field g j 4 ≡ subexp g j S .value) × (j + 4 ≡ j + subexp g j S .bits)
+  first-read more near =
+      let e : field g j 4 ≡ g j * 8 + field g (j + 1) 3 = refl in
+      let here : g (j + 0) ≡ g j = ap g (let o : j + 0 ≡ j = omega arith in o) in
+      let k : field g (j + 0 + 1) 3 ≡ field g (j + 1) 3 = ap (λ (i : ℕ). field g i 3) (let o : j + 0 + 1 ≡ j + 1 = omega arith in o) in
+      let t = zero-read 0 more (λ one. absurd (omega arith)) (none-read (omega arith)) in
+      (omega (arith, ap (λ (x : Taken). x .value) t), omega (arith, ap (λ (x : Taken). x .bits) t))
+
+  -- so many ones were read
+  pub ones-read : (i : ℕ) → 0 < S → ((k : ℕ) → k < i → lastRung S k ≡ false) → ((k : ℕ) → k < i → g (j + k) ≡ 1) → Left i
+  ones-read zero pos more one = none-read pos
+  ones-read (suc i) pos more one =
+      subst Left (add-one i)
+      (one-read i (leb-false S (reach i) (more i (omega arith))) (one i (omega arith))
+      (ones-read i pos (λ k h. more k (omega arith)) (λ k h. one k (omega arith))))
+
   module _ (small : S ≤ 65536) (i : ℕ) (k : BitCursor) where
     pub stops : (bit : ℕ) → lastRung S i ≡ false → bit ≡ g (j + i) → bit ≡ 0 → k .at ≡ j + i + 1 → Left i
         → ClimbIs g S j (record { i = i; last = false; next = k })
@@ -161,14 +200,6 @@ module _ (g : ℕ → ℕ) (S j : ℕ) where
           next = omega arith;
           reads = last-read i last l ∙ rw (ek, b);
         }
-
--- the code on a rung, by what the code has computed of the rung
-module _ (S v i m : ℕ) (em : m ≡ rungStart i) where
-  pub last-code : lastRung S i ≡ true → rungCode S v i ≡ nsBits (S - m) (v - m)
-  last-code e = rw (e, em)
-
-  pub stop-code : (b : ℕ) → b ≡ rungBits i → lastRung S i ≡ false → rungCode S v i ≡ 0 ∷ fieldBits b (v - m)
-  stop-code b eb e = rw (e, em, eb)
 
 module _ (g : ℕ → ℕ) (S j : ℕ) (r : RungRead) (c : ClimbIs g S j r) where
   pub next-le : r .next .at ≤ j + 14

@@ -2,5 +2,6 @@ pub mod Centring
 pub mod Rungs
 pub mod Ladder
 pub mod Climbing
+pub mod Window
 pub mod Lengths
 pub mod Coefficient

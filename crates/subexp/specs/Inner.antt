@@ -1,7 +1,7 @@
 -- What the functions below the public calls ask and answer; no public contract cites it.
 -- Assumes nothing.
 use Prim.Native.Nat.{ℕ, zero, suc, _+_, _-_, _*_, _^_, _≤_, _<_}
-use mathlib.Core.Bool.{Bool, false}
+use mathlib.Core.Bool.{Bool, true, false}
 use mathlib.Core.List.{List, _∷_, _++_}
 use mathlib.Core.Path.{_≡_}
 use lib.Dec.{leb}
@@ -54,6 +54,12 @@ pub record OnRung (S v i : ℕ) : Type 0 where
 pub record Rung (S v i : ℕ) : Type 0 where
   pub on : OnRung S v i
   pub bits : subexpBits S v ≡ replicate i 1 ++ rungCode S v i
+
+-- the first rung that is the last
+pub record LastIs (S r : ℕ) : Type 0 where
+  pub few : r ≤ 12
+  pub last : lastRung S r ≡ true
+  pub before : (i : ℕ) → i < r → lastRung S i ≡ false
 
 -- what is read of S symbols at position j, by the rung that the code ends on
 pub record ClimbIs (g : ℕ → ℕ) (S j : ℕ) (r : RungRead) : Type 0 where

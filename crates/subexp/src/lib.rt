@@ -3,22 +3,29 @@
 // 5.9.26 to 5.9.29 of the standard; `recenter` to `encode_unsigned_subexp_with_ref` of
 // encoder/frame_obu.rs, `inverse_recenter` to `decode_unsigned_subexp_with_ref` of
 // uncompressed_header_tail.rs. Symbols are counted from 0: low is 0, and mx is S.
-ghost use mathlib.Core.List.{_∷_};
 ghost use mathlib.Core.Path.{_≡_};
 ghost use Prim.Native.Nat.{_+_, _*_, _^_, _≤_, _<_};
-ghost use lib.ListN.{length, replicate};
+ghost use lib.ListN.{length};
 ghost use Rattle.bits.specs.Bits.{bitAt};
-ghost use Rattle.bits.specs.Fields.{fieldBits};
-ghost use Rattle.bits.specs.Inner.{Room, Wrote, ReadIs};
+ghost use Rattle.bits.specs.Inner.{Ready, Put, FieldIs, ReadIs};
 ghost use Rattle.subexp.specs.Recenter.{recenter, inverseRecenter, codeOf, symbolOf};
-ghost use Rattle.subexp.specs.Inner.{rungBits, rungStart, rungStep, lastRung, climbs, Rung, OnRung, rungCode, ClimbIs};
+ghost use Rattle.subexp.specs.Inner.{rungBits, rungStart, rungStep, lastRung, climbs, Rung, OnRung, rungCode, ClimbIs, LastIs};
 ghost use Rattle.subexp.specs.Ladder.{subexp, subexpBits};
 ghost use Rattle.subexp.specs.Coefficient.{symbol, symbolBits};
 use bits::BitCursor;
+use bits::Field;
+use bits::Pen;
 use bits::Read;
 
 // k of clause 5.9.28: the bits that count the numbers of the first rung.
 const SUBEXP_K: u32 = 3;
+
+// How many numbers the first rung has, and up to how many symbols it is the last.
+const FIRST_RUNG: u32 = 8;
+
+const FIRST_REACH: u32 = 24;
+
+const ALL_ONES: u32 = 4294967295;
 
 fn recenter(r: u32, v: u32) -> u32
     requires { ⌜ (r ≤ 65536) × (v ≤ 65536) ⌝ }
@@ -106,16 +113,48 @@ fn rung_of(num_syms: u32, v: u32) -> u32
     i
 }
 
-// How many bits the code of v takes on rung i.
-fn rung_code_length(num_syms: u32, v: u32, i: u32) -> u32
+// The code of v on rung i, as one field: on the last rung the ns code, on the others a subexp_more_bits
+// of 0 and subexp_bits.
+fn rung_field(num_syms: u32, v: u32, i: u32) -> Field
     requires { ⌜ OnRung «num_syms» v i ⌝ }
-    ensures { λ r. ⌜ (r ≡ length (rungCode «num_syms» v i)) × (r ≤ 32) ⌝ }
+    ensures { λ r. ⌜ FieldIs r (rungCode «num_syms» v i) × (r .n ≤ 19) ⌝ }
 {
     let mk = rung_start(i);
     if is_last(num_syms, i) {
-        return bits::ns_length(num_syms - mk, v - mk);
+        return bits::ns_field(num_syms - mk, v - mk);
     }
-    1 + rung_bits(i)
+    let b2 = rung_bits(i);
+    Field {
+        n: 1 + b2,
+        value: (v - mk) % bits::power(b2),
+    }
+}
+
+// The code of v as one field: as many subexp_more_bits of 1 as rungs are passed, then the code on its rung.
+fn rungs_field(num_syms: u32, v: u32) -> Field
+    requires { ⌜ (v < «num_syms») × («num_syms» ≤ 65536) ⌝ }
+    ensures { λ r. ⌜ FieldIs r (subexpBits «num_syms» v) × (r .n ≤ 32) ⌝ }
+{
+    let i = rung_of(num_syms, v);
+    let code = rung_field(num_syms, v, i);
+    let ones = bits::power(i) - 1;
+    Field {
+        n: i + code.n,
+        value: ones * bits::power(code.n) + code.value,
+    }
+}
+
+// The same. A number of the first rung, of more symbols than end there, is a subexp_more_bits of 0 and three bits.
+fn subexp_field(num_syms: u32, v: u32) -> Field
+    requires { ⌜ (v < «num_syms») × («num_syms» ≤ 65536) ⌝ }
+    ensures { λ r. ⌜ FieldIs r (subexpBits «num_syms» v) × (r .n ≤ 32) ⌝ }
+{
+    if v < FIRST_RUNG {
+        if FIRST_REACH < num_syms {
+            return Field { n: 4, value: v };
+        }
+    }
+    rungs_field(num_syms, v)
 }
 
 // How many bits the code of v takes.
@@ -123,47 +162,15 @@ pub fn subexp_length(num_syms: u32, v: u32) -> u32
     requires { ⌜ (v < «num_syms») × («num_syms» ≤ 65536) ⌝ }
     ensures { λ r. ⌜ (r ≡ length (subexpBits «num_syms» v)) × (r ≤ 64) ⌝ }
 {
-    let i = rung_of(num_syms, v);
-    i + rung_code_length(num_syms, v, i)
+    let field = subexp_field(num_syms, v);
+    field.n
 }
 
-// As many subexp_more_bits of 1.
-fn write_climb(cursor: BitCursor, buffer: &mut [u8], i: u32) -> BitCursor
-    requires { ⌜ (i ≤ 16) × Room (now buffer) (cursor .at) i ⌝ }
-    ensures { λ r. ⌜ Wrote (now (buffer .entry)) (cursor .at) (replicate i 1) (now (buffer .exit)) (r .at) ⌝ }
+pub fn encode_subexp(pen: Pen, buffer: &mut [u8], num_syms: u32, v: u32) -> Pen
+    requires { ⌜ (v < «num_syms») × («num_syms» ≤ 65536) × Ready (now buffer) pen (length (subexpBits «num_syms» v)) ⌝ }
+    ensures { λ r. ⌜ Put (now (buffer .entry)) pen (subexpBits «num_syms» v) (now (buffer .exit)) r ⌝ }
 {
-    cursor.write_bits(buffer, i, bits::power(i) - 1)
-}
-
-// A subexp_more_bits of 0, then subexp_bits.
-fn write_stop(cursor: BitCursor, buffer: &mut [u8], b2: u32, subexp_bits: u32) -> BitCursor
-    requires { ⌜ (b2 ≤ 18) × Room (now buffer) (cursor .at) (1 + b2) ⌝ }
-    ensures { λ r. ⌜ Wrote (now (buffer .entry)) (cursor .at) (0 ∷ fieldBits b2 «subexp_bits») (now (buffer .exit)) (r .at) ⌝ }
-{
-    let stopped = cursor.write_bit(buffer, 0);
-    stopped.write_bits(buffer, b2, subexp_bits)
-}
-
-fn write_rung_code(cursor: BitCursor, buffer: &mut [u8], num_syms: u32, v: u32, i: u32) -> BitCursor
-    requires { ⌜ OnRung «num_syms» v i × Room (now buffer) (cursor .at) (length (rungCode «num_syms» v i)) ⌝ }
-    ensures { λ r. ⌜ Wrote (now (buffer .entry)) (cursor .at) (rungCode «num_syms» v i) (now (buffer .exit)) (r .at) ⌝ }
-{
-    let mk = rung_start(i);
-    let number = v - mk;
-    if is_last(num_syms, i) {
-        return cursor.write_ns(buffer, num_syms - mk, number);
-    }
-    let b2 = rung_bits(i);
-    write_stop(cursor, buffer, b2, number)
-}
-
-pub fn encode_subexp(cursor: BitCursor, buffer: &mut [u8], num_syms: u32, v: u32) -> BitCursor
-    requires { ⌜ (v < «num_syms») × («num_syms» ≤ 65536) × Room (now buffer) (cursor .at) (length (subexpBits «num_syms» v)) ⌝ }
-    ensures { λ r. ⌜ Wrote (now (buffer .entry)) (cursor .at) (subexpBits «num_syms» v) (now (buffer .exit)) (r .at) ⌝ }
-{
-    let i = rung_of(num_syms, v);
-    let climbed = write_climb(cursor, buffer, i);
-    write_rung_code(climbed, buffer, num_syms, v, i)
+    pen.put(buffer, subexp_field(num_syms, v))
 }
 
 // The rung on which a code ends, whether that is the last one, and the cursor behind what was read
@@ -174,29 +181,37 @@ struct RungRead {
     next: BitCursor,
 }
 
-// subexp_more_bits, up to the first that is 0 or to the last rung.
+// The rung on which every code ends that comes so far.
+fn last_rung(num_syms: u32) -> u32
+    requires { ⌜ (0 < «num_syms») × («num_syms» ≤ 65536) ⌝ }
+    ensures { λ r. ⌜ LastIs «num_syms» r ⌝ }
+{
+    if num_syms <= FIRST_REACH {
+        return 0;
+    }
+    bits::bit_length(num_syms - 1) - 4
+}
+
+// subexp_more_bits, up to the first that is 0 or to the last rung: the ones in front of the next 32 bits.
 fn climb(cursor: BitCursor, bytes: &[u8], num_syms: u32) -> RungRead
     requires { ⌜ (0 < «num_syms») × («num_syms» ≤ 65536) × (cursor .at + 64 < 2 ^ 64) ⌝ }
     ensures { λ r. ⌜ ClimbIs (bitAt (now (bytes .entry))) «num_syms» (cursor .at) r ⌝ }
 {
-    let mut i = 0u32;
-    let mut next = cursor;
-    while !is_last(num_syms, i) {
-        let subexp_more_bits = next.read_bit(bytes);
-        next = subexp_more_bits.next;
-        if subexp_more_bits.value == 0 {
-            return RungRead {
-                i,
-                last: false,
-                next,
-            };
-        }
-        i += 1;
+    let at = cursor.at;
+    let window = cursor.f(bytes, 32);
+    let ones = 32 - bits::bit_length(ALL_ONES - window.value);
+    let last = last_rung(num_syms);
+    if ones < last {
+        return RungRead {
+            i: ones,
+            last: false,
+            next: BitCursor::new(at + ones as usize + 1),
+        };
     }
     RungRead {
-        i,
+        i: last,
         last: true,
-        next,
+        next: BitCursor::new(at + last as usize),
     }
 }
 
@@ -212,7 +227,8 @@ fn from_start(read: Read, mk: u32) -> Read
     }
 }
 
-pub fn decode_subexp(cursor: BitCursor, bytes: &[u8], num_syms: u32) -> Read
+// The number of a code, by the rung that it ends on.
+fn rungs_read(cursor: BitCursor, bytes: &[u8], num_syms: u32) -> Read
     requires { ⌜ (0 < «num_syms») × («num_syms» ≤ 65536) × (cursor .at + 64 < 2 ^ 64) ⌝ }
     ensures { λ r. ⌜ ReadIs r (subexp (bitAt (now (bytes .entry))) (cursor .at) «num_syms» .value) (cursor .at + subexp (bitAt (now (bytes .entry))) (cursor .at) «num_syms» .bits) ⌝ }
 {
@@ -224,6 +240,21 @@ pub fn decode_subexp(cursor: BitCursor, bytes: &[u8], num_syms: u32) -> Read
         return from_start(next.ns(bytes, num_syms - mk), mk);
     }
     from_start(next.f(bytes, rung_bits(i)), mk)
+}
+
+// The same. Four bits below eight are a subexp_more_bits of 0 and a number of the first rung, of more symbols than end there.
+pub fn decode_subexp(cursor: BitCursor, bytes: &[u8], num_syms: u32) -> Read
+    requires { ⌜ (0 < «num_syms») × («num_syms» ≤ 65536) × (cursor .at + 64 < 2 ^ 64) ⌝ }
+    ensures { λ r. ⌜ ReadIs r (subexp (bitAt (now (bytes .entry))) (cursor .at) «num_syms» .value) (cursor .at + subexp (bitAt (now (bytes .entry))) (cursor .at) «num_syms» .bits) ⌝ }
+{
+    if num_syms <= FIRST_REACH {
+        return rungs_read(cursor, bytes, num_syms);
+    }
+    let first = cursor.f(bytes, 4);
+    if first.value < FIRST_RUNG {
+        return first;
+    }
+    rungs_read(cursor, bytes, num_syms)
 }
 
 // The code number of v about r; from the other end where r is nearer to that.
@@ -256,18 +287,12 @@ pub fn unsigned_subexp_length(mx: u32, r: u32, v: u32) -> u32
     subexp_length(mx, code_of(mx, r, v))
 }
 
-pub fn encode_unsigned_subexp_with_ref(
-    cursor: BitCursor,
-    buffer: &mut [u8],
-    mx: u32,
-    r: u32,
-    v: u32,
-) -> BitCursor
-    requires { ⌜ (r < mx) × (v < mx) × (mx ≤ 65536) × Room (now buffer) (cursor .at) (length (symbolBits mx r v)) ⌝ }
-    ensures { λ next. ⌜ Wrote (now (buffer .entry)) (cursor .at) (symbolBits mx r v) (now (buffer .exit)) (next .at) ⌝ }
+pub fn encode_unsigned_subexp_with_ref(pen: Pen, buffer: &mut [u8], mx: u32, r: u32, v: u32) -> Pen
+    requires { ⌜ (r < mx) × (v < mx) × (mx ≤ 65536) × Ready (now buffer) pen (length (symbolBits mx r v)) ⌝ }
+    ensures { λ next. ⌜ Put (now (buffer .entry)) pen (symbolBits mx r v) (now (buffer .exit)) next ⌝ }
 {
     let x = code_of(mx, r, v);
-    encode_subexp(cursor, buffer, mx, x)
+    encode_subexp(pen, buffer, mx, x)
 }
 
 pub fn decode_unsigned_subexp_with_ref(cursor: BitCursor, bytes: &[u8], mx: u32, r: u32) -> Read

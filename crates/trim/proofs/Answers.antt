@@ -19,6 +19,7 @@ use Rattle.sample.specs.Word.{mostSamples}
 use Rattle.median.specs.Median.{allFinite}
 use Rattle.fit.specs.declared.Fitted.{Fitted}
 use Rattle.fit.specs.declared.Fitted.the-variants.{Refused}
+use Rattle.fit.specs.Sums.{itself}
 use Rattle.fit.specs.Fitted.{refusalOf, typeOf, fitRefusal}
 use Rattle.fit.proofs.Accepted.{fit-few, fit-type}
 use Rattle.fit.proofs.OfType.{fit-of-type}
@@ -28,8 +29,9 @@ use Rattle.quantize.specs.Quantize as quantizing
 use Rattle.trim.specs.declared.Cut.{Cut}
 use Rattle.trim.specs.declared.Trimmed.{Trimmed}
 use Rattle.trim.specs.declared.TrimmedModel.{TrimmedModel}
-use Rattle.trim.specs.Trim.{leastOf, tooFew, residualsFrom, keptFrom, firstFrom, usedFrom, lastFrom, fewRefusal, flagRefusal, residualRefusal, trimRefusal, trimmedAs, trimmedModelAs, trimmedFrom, trimmedModelFrom}
-use Rattle.trim.specs.Inner.{itself, sampleAt, upTo, samplesIn, under, cutAs, refusedCut, cutOf, listRefusal, modelRefusal, refusedModel, modelAs, Untrimmed, Cuts}
+use Rattle.trim.specs.Trim.{leastOf, tooFew, residualsFrom, keptFrom, firstFrom, usedFrom, lastFrom}
+use Rattle.trim.specs.Trim.{fewRefusal, flagRefusal, residualRefusal, trimRefusal, trimmedAs, trimmedModelAs, trimmedFrom, trimmedModelFrom}
+use Rattle.trim.specs.Inner.{sampleAt, upTo, samplesIn, under, cutAs, refusedCut, cutOf, listRefusal, modelRefusal, refusedModel, modelAs, Untrimmed, Cuts}
 use Rattle.trim.proofs.Indices.{length-upTo}
 use Rattle.trim.proofs.Mapped.{trimmed-mapped, model-mapped}
 use Rattle.trim.proofs.Under.{under-few}
@@ -143,7 +145,8 @@ module _ (numbers : List Float) (gmType n : ℕ) where
         ap (λ (k : ℕ). orElse k (orElse (residualRefusal residuals) (refusalOf last))) fitted
         ∙ ap (λ (b : Bool). orElse (choose (not b) 16 0) (refusalOf last)) e
 
-    module _ (squares : List Float) (room : n ≤ length squares) (f : Fitted) (samples : ℕ) (limit : Float) (finite : allFinite residuals ≡ true) (is : f ≡ last) (counted : samples ≡ length used) (within : under squares limit n ≡ used) where
+    module _ (squares : List Float) (room : n ≤ length squares) (f : Fitted) (samples : ℕ) (limit : Float)
+        (finite : allFinite residuals ≡ true) (is : f ≡ last) (counted : samples ≡ length used) (within : under squares limit n ≡ used) where
       made : (k : ℕ) → refusalOf f ≡ k → Cuts numbers gmType n squares (answered refusedCut k (cutAs f samples limit))
       made zero e =
           record {

@@ -2,7 +2,7 @@
 -- Assumes nothing.
 use Prim.Native.Nat.{ℕ, zero, suc, _+_, _≤_, _<_, suc-le-suc}
 use mathlib.Core.Bool.{Bool, true}
-use mathlib.Core.List.{List, [], _∷_, _++_, map}
+use mathlib.Core.List.{List, [], _∷_, _++_, map, map-append}
 use mathlib.Core.Logic.{⊎-elim}
 use mathlib.Core.Path.{_≡_, refl, sym, ap, _∙_}
 use native.Mathlib.Nat.{le-of-lt, le-refl}
@@ -29,10 +29,6 @@ module _ {A : Type 0} where
       (lt-or-le i n)
 
 module _ {A B : Type 0} where
-  pub map-append : (g : A → B) (xs ys : List A) → map g (xs ++ ys) ≡ map g xs ++ map g ys
-  map-append g [] ys = refl
-  map-append g (x ∷ xs) ys = ap (λ (l : List B). g x ∷ l) (map-append g xs ys)
-
   pub map-listing : (g : A → B) (f : ℕ → A) (n : ℕ) → map g (listing f n) ≡ listing (λ i. g (f i)) n
   map-listing g f zero = refl
   map-listing g f (suc n) = map-append g (listing f n) (f n ∷ []) ∙ ap (λ (l : List B). l ++ (g (f n) ∷ [])) (map-listing g f n)

@@ -17,14 +17,15 @@ use Rattle.sample.specs.declared.MotionSample.{MotionSample}
 use Rattle.sample.specs.Word.{mostSamples}
 use Rattle.fit.specs.declared.Fitted.{Fitted}
 use Rattle.fit.specs.declared.Fitted.the-variants.{Refused}
-use Rattle.fit.specs.Sums.{Summing}
+use Rattle.fit.specs.Sums.{Summing, itself}
 use Rattle.fit.specs.Fitted.{typeOf, refusalOf, translationBy, rotZoomBy, affineBy, translationFrom, rotZoomFrom, affineFrom, fitFrom, fitRefusal}
 use Rattle.fit.proofs.SameSamples.{by-samples}
 use Rattle.quantize.specs.Quantize.{linearOf, refitBy, refittedFrom, paramsOf, paramsFrom}
 use Rattle.trim.specs.declared.Trimmed.{Trimmed}
 use Rattle.trim.specs.declared.TrimmedModel.{TrimmedModel}
-use Rattle.trim.specs.Trim.{tooFew, residual, residualsFrom, cutoff, passing, keptFrom, firstFrom, usedFrom, lastFrom, fewRefusal, residualRefusal, trimRefusal, flagRefusal, trimmedAs, trimmedModelAs, trimmedFrom, trimmedModelFrom}
-use Rattle.trim.specs.Inner.{itself, samplesIn, upTo, sampleAt, refusedModel}
+use Rattle.trim.specs.Trim.{tooFew, residual, residualsFrom, cutoff, passing, keptFrom, firstFrom, usedFrom, lastFrom}
+use Rattle.trim.specs.Trim.{fewRefusal, residualRefusal, trimRefusal, flagRefusal, trimmedAs, trimmedModelAs, trimmedFrom, trimmedModelFrom}
+use Rattle.trim.specs.Inner.{samplesIn, upTo, sampleAt, refusedModel}
 use Rattle.trim.proofs.Passing.{passing-map}
 use Rattle.trim.proofs.Indices.{length-upTo}
 
@@ -116,9 +117,11 @@ module _ {A : Type 0} (read : A → MotionSample) where
 
       pub model-mapped : trimmedModelFrom itself gmType flag samples ≡ trimmedModelFrom read gmType flag xs
       model-mapped =
-          ap (λ (n : ℕ). modelBy n (trimRefusal itself gmType samples) (trimmedModelAs 0 (length (usedFrom itself gmType samples)) (paramsFrom itself (lastFrom itself gmType samples) flag (usedFrom itself gmType samples)))) (length-map xs read)
-          ∙ ap (λ (t : ℕ). modelBy (length xs) t (trimmedModelAs 0 (length (usedFrom itself gmType samples)) (paramsFrom itself (lastFrom itself gmType samples) flag (usedFrom itself gmType samples)))) refusal-mapped
-          ∙ ap (λ (n : ℕ). modelBy (length xs) (trimRefusal read gmType xs) (trimmedModelAs 0 n (paramsFrom itself (lastFrom itself gmType samples) flag (usedFrom itself gmType samples)))) used-length
+          let ys = usedFrom itself gmType samples in
+          let ps = paramsFrom itself (lastFrom itself gmType samples) flag ys in
+          ap (λ (n : ℕ). modelBy n (trimRefusal itself gmType samples) (trimmedModelAs 0 (length ys) ps)) (length-map xs read)
+          ∙ ap (λ (t : ℕ). modelBy (length xs) t (trimmedModelAs 0 (length ys) ps)) refusal-mapped
+          ∙ ap (λ (n : ℕ). modelBy (length xs) (trimRefusal read gmType xs) (trimmedModelAs 0 n ps)) used-length
           ∙ ap (λ (p : List ℤ). modelBy (length xs) (trimRefusal read gmType xs) (trimmedModelAs 0 (length used) p)) last-params
 
 -- ---- numbers that hold a list's samples

@@ -1,5 +1,6 @@
--- The root rises, so nothing hangs on when roots are taken: the median of the roots is the root of the median, a root is finite where its number is, and a root is at most a cutoff where its number is at most
--- the greatest whose root is, which bisecting the patterns finds.
+-- The root rises, so nothing hangs on when roots are taken: the median of the roots is the root of the median, a root is
+-- finite where its number is, and a root is at most a cutoff where its number is at most the greatest whose root is,
+-- which bisecting the patterns finds.
 -- Assumes nothing.
 use Prim.Native.Nat.{ℕ, zero, suc, _+_, _*_, _-_, _≤_, _<_}
 use mathlib.Core.Bool.{Bool, true, false, not, cond, false≢true}

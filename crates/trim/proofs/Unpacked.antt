@@ -2,7 +2,7 @@
 -- Assumes nothing.
 use Prim.Native.Nat.{ℕ, _+_, _*_, _<_}
 use mathlib.Core.Bool.{Bool, true, false}
-use mathlib.Core.List.{List, [], _∷_, _++_, map}
+use mathlib.Core.List.{List, [], _∷_, _++_, map, map-append}
 use mathlib.Core.Path.{_≡_, refl, ap, _∙_, sym}
 use native.Mathlib.Numerals.{add-one}
 use native.Mathlib.Omega.{arith}
@@ -15,7 +15,7 @@ use Rattle.laws.specs.Refusal.{choose}
 use Rattle.sample.specs.declared.MotionSample.{MotionSample}
 use Rattle.sample.specs.Word.{mostSamples}
 use Rattle.trim.specs.Inner.{mostNumbers, sampleAt, upTo, samplesIn, put, stored}
-use Rattle.trim.proofs.Indices.{map-append, map-upTo-same}
+use Rattle.trim.proofs.Indices.{map-upTo-same}
 
 -- ---- one sample
 

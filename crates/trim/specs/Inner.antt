@@ -27,10 +27,6 @@ use Rattle.trim.specs.declared.Cut.{Cut}
 use Rattle.trim.specs.declared.TrimmedModel.{TrimmedModel}
 use Rattle.trim.specs.Trim.{leastOf, continuousFit, passing, firstFrom, usedFrom, lastFrom, fewRefusal, flagRefusal, trimRefusal, trimmedAs, trimmedModelAs}
 
--- a list of samples is read as it stands
-abbrev pub itself : MotionSample → MotionSample
-itself s = s
-
 -- ---- four numbers a sample, one sample after the other
 
 abbrev pub mostNumbers : ℕ

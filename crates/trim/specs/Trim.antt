@@ -1,4 +1,5 @@
--- A fit after trimming, over a list whose elements are read as samples: the first fit, how far each sample lies from it, the samples that stay, and the fit of those if they are enough. docs/RULES.md, 'Trimming'.
+-- A fit after trimming, over a list whose elements are read as samples: the first fit, how far each sample lies from
+-- it, the samples that stay, and the fit of those if they are enough. docs/RULES.md, 'Trimming'.
 -- Assumes nothing.
 use Prim.Native.Nat.{ℕ}
 use mathlib.Core.Bool.{Bool, not}

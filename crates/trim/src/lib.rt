@@ -30,12 +30,12 @@ ghost use Rattle.sample.specs.Sample.{sampleOf};
 ghost use Rattle.median.specs.Inner.{Findable};
 ghost use Rattle.root.specs.Root.{root};
 ghost use Rattle.median.specs.Median.{allFinite};
-ghost use Rattle.fit.specs.Sums.{reading, sumsOf, translationTotals, rotZoomTotals, affineTotals};
+ghost use Rattle.fit.specs.Sums.{reading, sumsOf, translationTotals, rotZoomTotals, affineTotals, itself};
 ghost use Rattle.fit.specs.Fitted.{fitFrom};
 ghost use Rattle.quantize.specs.Quantize.{quantizedFrom};
 ghost use Rattle.quantize.specs.Inner.{refitStep};
 ghost use Rattle.trim.specs.Trim.{leastOf, continuousFit, cutoff, fewRefusal, trimmedFrom, trimmedModelFrom};
-ghost use Rattle.trim.specs.Inner.{itself, mostNumbers, sampleAt, upTo, samplesIn, stored, squaresFrom, under, refusedCut, cutOf};
+ghost use Rattle.trim.specs.Inner.{mostNumbers, sampleAt, upTo, samplesIn, stored, squaresFrom, under, refusedCut, cutOf};
 ghost use Rattle.trim.specs.Inner.{listRefusal, modelRefusal, refusedModel, modelAs, Bare, Limits, Under, Untrimmed, Squared, Cuts};
 
 // Rows of the rules' table.

@@ -77,6 +77,9 @@ module _ {ws vs : List ℕ} (same : SameWords ws vs) (words : Words ws) where
     abbrev refusalBy : Fitted → Bool → Fitted → ℕ
     refusalBy f b l = orElse (refusalOf f) (orElse (choose (not b) 16 0) (refusalOf l))
 
+    abbrev paramsOver : ℕ → List ℕ → List ℤ
+    paramsOver flag us = paramsFrom sampleOf (lastFrom sampleOf gmType us) flag (usedFrom sampleOf gmType us)
+
     -- ---- where a residual isn't finite
 
     module _ (e : finite ≡ false) where
@@ -119,7 +122,7 @@ module _ {ws vs : List ℕ} (same : SameWords ws vs) (words : Words ws) where
           ∙ ap (λ (b : Bool). refusalBy (firstFrom sampleOf gmType vs) b (lastFrom sampleOf gmType ws)) also-finite
           ∙ ap (λ (l : Fitted). refusalBy (firstFrom sampleOf gmType vs) (allFinite (residualsFrom sampleOf (firstFrom sampleOf gmType vs) vs)) l) same-last
 
-      same-params : (flag : ℕ) → paramsFrom sampleOf (lastFrom sampleOf gmType ws) flag (usedFrom sampleOf gmType ws) ≡ paramsFrom sampleOf (lastFrom sampleOf gmType vs) flag (usedFrom sampleOf gmType vs)
+      same-params : (flag : ℕ) → paramsOver flag ws ≡ paramsOver flag vs
       unfolding paramsFrom
       same-params flag =
           let l = lastFrom sampleOf gmType ws in
@@ -167,10 +170,10 @@ module _ {ws vs : List ℕ} (same : SameWords ws vs) (words : Words ws) where
         (λ n t z.
         let q = or-else-quiet (fitRefusal gmType n) (orElse (flagRefusal flag) (orElse (fewRefusal gmType n) t)) z .1 in
         or-else-quiet (fewRefusal gmType n) t (or-else-quiet (flagRefusal flag) (orElse (fewRefusal gmType n) t) q .1) .1)
-        (trimmedModelAs 0 (length (usedFrom sampleOf gmType ws)) (paramsFrom sampleOf (lastFrom sampleOf gmType ws) flag (usedFrom sampleOf gmType ws)))
-        (trimmedModelAs 0 (length (usedFrom sampleOf gmType vs)) (paramsFrom sampleOf (lastFrom sampleOf gmType vs) flag (usedFrom sampleOf gmType vs)))
+        (trimmedModelAs 0 (length (usedFrom sampleOf gmType ws)) (paramsOver flag ws))
+        (trimmedModelAs 0 (length (usedFrom sampleOf gmType vs)) (paramsOver flag vs))
         (λ e.
-        ap (λ (n : ℕ). trimmedModelAs 0 n (paramsFrom sampleOf (lastFrom sampleOf gmType ws) flag (usedFrom sampleOf gmType ws))) (same-length (same-used e))
+        ap (λ (n : ℕ). trimmedModelAs 0 n (paramsOver flag ws)) (same-length (same-used e))
         ∙ ap (λ (p : List ℤ). trimmedModelAs 0 (length (usedFrom sampleOf gmType vs)) p) (same-params e flag))
 
   -- for every type code and any length

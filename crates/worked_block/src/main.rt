@@ -38,12 +38,6 @@ struct Case {
     other_room: usize,
 }
 
-fn least(a: usize, b: usize) -> usize
-    ensures { λ r. ⌜ (r ≤ a) × (r ≤ b) ⌝ }
-{
-    if a < b { a } else { b }
-}
-
 fn no_words() -> [u32; 4096]
     ensures { λ r. ⌜ 4096 ≡ length r ⌝ }
 {
@@ -153,7 +147,7 @@ fn step_of(samples: usize) -> u32 {
     if samples == 0 {
         return 1;
     }
-    least(4096 / samples, 4096) as u32
+    replay::least(4096 / samples, 4096) as u32
 }
 
 fn change_word(words: &mut [u32], at: usize, bits: u32) {
@@ -256,8 +250,8 @@ fn wrote(list: i32, stored: Stored, bytes: &[u8]) -> bool {
 // Stores the samples.
 fn stores(list: i32, a: Case, words: &[u32], classes: &[u8], blocks: &mut [u8]) -> bool {
     fill_bytes(UNTOUCHED_BYTE, blocks);
-    let each = least(a.classes, classes.len());
-    let end = least(a.block_room, blocks.len());
+    let each = replay::least(a.classes, classes.len());
+    let end = replay::least(a.block_room, blocks.len());
     let stored = frame_store::write_frame(a.frame, words, &classes[0..each], &mut blocks[0..end]);
     wrote(list, stored, blocks)
 }
@@ -265,8 +259,8 @@ fn stores(list: i32, a: Case, words: &[u32], classes: &[u8], blocks: &mut [u8]) 
 // Converts blocks to a form.
 fn converts(list: i32, form: u32, given: usize, room: usize, from: &[u8], to: &mut [u8]) -> bool {
     fill_bytes(UNTOUCHED_BYTE, to);
-    let some = least(given, from.len());
-    let end = least(room, to.len());
+    let some = replay::least(given, from.len());
+    let end = replay::least(room, to.len());
     if form == 1 {
         let stored = frame_convert::to_form1(&from[0..some], &mut to[0..end]);
         return wrote(list, stored, to);
@@ -291,9 +285,9 @@ fn gave(list: i32, read: FrameRead, words: &[u32]) -> bool {
 fn reads_both(list: i32, a: Case, blocks: &[u8], words: &mut [u32], classes: &mut [u8]) -> bool {
     fill_words(words);
     fill_bytes(UNTOUCHED_BYTE, classes);
-    let some = least(a.given, blocks.len());
-    let end = least(a.word_room, words.len());
-    let class_end = least(a.class_room, classes.len());
+    let some = replay::least(a.given, blocks.len());
+    let end = replay::least(a.word_room, words.len());
+    let class_end = replay::least(a.class_room, classes.len());
     let read = frame_read::read_both(
         &blocks[0..some],
         &mut words[0..end],
@@ -306,8 +300,8 @@ fn reads_both(list: i32, a: Case, blocks: &[u8], words: &mut [u32], classes: &mu
 // Reads blocks by the reader of form 1.
 fn reads_form1(list: i32, a: Case, blocks: &[u8], words: &mut [u32]) -> bool {
     fill_words(words);
-    let some = least(a.given, blocks.len());
-    let end = least(a.word_room, words.len());
+    let some = replay::least(a.given, blocks.len());
+    let end = replay::least(a.word_room, words.len());
     let read = frame_read::read_frame(&blocks[0..some], &mut words[0..end]);
     gave(list, read, words)
 }
@@ -376,7 +370,7 @@ fn replay_one(
     old: &mut [u8],
 ) -> bool {
     let a = next_case(list);
-    let samples = least(a.samples, words.len());
+    let samples = replay::least(a.samples, words.len());
     samples_of(list, a, &mut words[0..samples], classes);
     let stores_right = stores(list, a, &words[0..samples], classes, blocks);
     let carried_right = converts(list, 1, blocks.len(), old.len(), blocks, old);

@@ -12,13 +12,6 @@ use solve::Outcome;
 use solve::System;
 use trim::Trimmed;
 
-// The bits that the lists have for every not-a-number.
-const NOT_A_NUMBER: u64 = 0x7ff8_0000_0000_0000;
-
-const INFINITY: u64 = 0x7ff0_0000_0000_0000;
-
-const SIGN: u64 = 0x8000_0000_0000_0000;
-
 // The lists.
 const FITS: u8 = 0;
 
@@ -30,9 +23,6 @@ const SAMPLES: u8 = 3;
 
 const TRIMMED: u8 = 5;
 
-// One sample more than a list may have.
-const OVER: usize = 4097;
-
 // The bits of the values that a fitted model carries, 0 for those that its type doesn't.
 struct Values {
     m0: u64,
@@ -43,34 +33,13 @@ struct Values {
     m5: u64,
 }
 
-fn next_bits(list: i32) -> u64 {
-    let high = replay::next_word(list) as u64;
-    let low = replay::next_word(list) as u64;
-    high * 0x1_0000_0000 + low
-}
-
-fn next_float(list: i32) -> f64 {
-    let bits = next_bits(list);
-    if bits % SIGN > INFINITY {
-        return 0.0 / 0.0;
-    }
-    f64::from_bits(bits)
-}
-
-fn same_float(x: f64, wanted: u64) -> bool {
-    if x != x {
-        return wanted == NOT_A_NUMBER;
-    }
-    f64::to_bits(x) == wanted
-}
-
 fn next_if(list: i32, carried: bool) -> u64 {
-    if carried { next_bits(list) } else { 0 }
+    if carried { replay::next_bits(list) } else { 0 }
 }
 
 fn next_values(list: i32, gm_type: u8) -> Values {
-    let m0 = next_bits(list);
-    let m1 = next_bits(list);
+    let m0 = replay::next_bits(list);
+    let m1 = replay::next_bits(list);
     let m2 = next_if(list, fit::TRANSLATION < gm_type);
     let m3 = next_if(list, fit::TRANSLATION < gm_type);
     let m4 = next_if(list, fit::ROTZOOM < gm_type);
@@ -85,33 +54,16 @@ fn next_values(list: i32, gm_type: u8) -> Values {
     }
 }
 
-fn next_param(list: i32) -> i32 {
-    replay::signed(replay::next_word(list))
-}
-
-fn next_params(list: i32) -> [i32; 6] {
-    let p0 = next_param(list);
-    let p1 = next_param(list);
-    let p2 = next_param(list);
-    let p3 = next_param(list);
-    let p4 = next_param(list);
-    let p5 = next_param(list);
-    [p0, p1, p2, p3, p4, p5]
-}
-
-fn same_params(p: [i32; 6], w: [i32; 6]) -> bool {
-    p[0] == w[0] && p[1] == w[1] && p[2] == w[2] && p[3] == w[3] && p[4] == w[4] && p[5] == w[5]
-}
-
 fn same_model(fitted: Fitted, w: Values) -> bool {
     match fitted {
         Fitted::Refused(_) => false,
-        Fitted::Translation { m0, m1 } => same_float(m0, w.m0) && same_float(m1, w.m1),
+        Fitted::Translation { m0, m1 } => replay::same_float(m0, w.m0)
+            && replay::same_float(m1, w.m1),
         Fitted::RotZoom { m0, m1, m2, m3 } => {
-            same_float(m0, w.m0)
-                && same_float(m1, w.m1)
-                && same_float(m2, w.m2)
-                && same_float(m3, w.m3)
+            replay::same_float(m0, w.m0)
+                && replay::same_float(m1, w.m1)
+                && replay::same_float(m2, w.m2)
+                && replay::same_float(m3, w.m3)
         }
         Fitted::Affine {
             m0,
@@ -121,12 +73,12 @@ fn same_model(fitted: Fitted, w: Values) -> bool {
             m4,
             m5,
         } => {
-            same_float(m0, w.m0)
-                && same_float(m1, w.m1)
-                && same_float(m2, w.m2)
-                && same_float(m3, w.m3)
-                && same_float(m4, w.m4)
-                && same_float(m5, w.m5)
+            replay::same_float(m0, w.m0)
+                && replay::same_float(m1, w.m1)
+                && replay::same_float(m2, w.m2)
+                && replay::same_float(m3, w.m3)
+                && replay::same_float(m4, w.m4)
+                && replay::same_float(m5, w.m5)
         }
     }
 }
@@ -150,15 +102,18 @@ fn same_quantized(fitted: Fitted, flag: u8, words: &[u32], params: [i32; 6], sco
     let q = quantize::quantize_model(fitted, flag, words);
     let s = score::mean_sq_residual(params, words);
     let quantized = q.params;
-    q.refusal == 0 && s.refusal == 0 && same_params(quantized, params) && same_float(s.score, score)
+    q.refusal == 0
+        && s.refusal == 0
+        && replay::same_params(quantized, params)
+        && replay::same_float(s.score, score)
 }
 
 // One type of a case: a refusal or 0, the values, the quantized model, its score.
 fn replay_type(list: i32, gm_type: u8, flag: u8, words: &[u32]) -> bool {
     let refusal = replay::next_word(list);
     let values = next_values(list, gm_type);
-    let params = next_params(list);
-    let score = next_bits(list);
+    let params = replay::next_params(list);
+    let score = replay::next_bits(list);
     let fitted = fit_of(gm_type, flag == 0, words);
     if refusal != 0 {
         return fit::refusal_of(fitted) == refusal;
@@ -203,22 +158,13 @@ fn replay_fits(list: i32, flag: u8) -> bool {
     replay_case(list, flag, &mut words)
 }
 
-// Words as the list has them.
-fn copy(words: &mut [u32], list: i32) {
-    let mut i = 0usize;
-    while i < words.len() {
-        words[i] = replay::next_word(list);
-        i += 1;
-    }
-}
-
 // One order of a list of words.
 fn replay_order(list: i32, flag: u8, words: &mut [u32]) -> bool {
     let count = replay::next_word(list) as usize;
     if count > words.len() {
         return false;
     }
-    copy(&mut words[..count], list);
+    replay::next_words(list, &mut words[..count]);
     replay_words(list, flag, &words[..count])
 }
 
@@ -240,21 +186,21 @@ fn same_trimmed(t: Trimmed, refusal: u32, used: u32, w: Values) -> bool {
 }
 
 fn trimmed_holds(list: i32, words: &[u32]) -> bool {
-    let gm_type = (replay::next_word(list) % 256) as u8;
-    let flag = (replay::next_word(list) % 256) as u8;
+    let gm_type = replay::next_code(list);
+    let flag = replay::next_code(list);
     let fit_refusal = replay::next_word(list);
     let fit_used = replay::next_word(list);
     let values = next_values(list, gm_type);
     let refusal = replay::next_word(list);
     let used = replay::next_word(list);
-    let wanted = next_params(list);
+    let wanted = replay::next_params(list);
     let fitted = trim::fit_trimmed(gm_type, words);
     let model = trim::quantize_trimmed(gm_type, flag, words);
     let params = model.params;
     same_trimmed(fitted, fit_refusal, fit_used, values)
         && model.refusal == refusal
         && model.used == used
-        && same_params(params, wanted)
+        && replay::same_params(params, wanted)
 }
 
 // The words of a case, up to one more than a list may have.
@@ -263,51 +209,22 @@ fn replay_trimmed_words(list: i32, words: &mut [u32]) -> bool {
     if count > words.len() {
         return false;
     }
-    copy(&mut words[..count], list);
+    replay::next_words(list, &mut words[..count]);
     trimmed_holds(list, &words[..count])
 }
 
 fn replay_trimmed(list: i32) -> bool {
-    let mut words = [0u32; OVER];
+    let mut words = [0u32; replay::OVER];
     replay_trimmed_words(list, &mut words)
 }
 
-fn next_sample(list: i32) -> MotionSample {
-    let x = next_float(list);
-    let y = next_float(list);
-    let u = next_float(list);
-    let v = next_float(list);
-    MotionSample { x, y, u, v }
-}
-
-// So many samples are written out, and come round again.
-fn next_samples(list: i32, written: usize) -> [MotionSample; 4097] {
-    let still = MotionSample {
-        x: 0.0,
-        y: 0.0,
-        u: 0.0,
-        v: 0.0,
-    };
-    let mut samples = [still; 4097];
-    let mut i = 0usize;
-    while i < OVER {
-        if i < written {
-            samples[i] = next_sample(list);
-        } else {
-            samples[i] = samples[i - written];
-        }
-        i += 1;
-    }
-    samples
-}
-
 fn same_numbers(n: [f64; 6], w: Values) -> bool {
-    same_float(n[0], w.m0)
-        && same_float(n[1], w.m1)
-        && same_float(n[2], w.m2)
-        && same_float(n[3], w.m3)
-        && same_float(n[4], w.m4)
-        && same_float(n[5], w.m5)
+    replay::same_float(n[0], w.m0)
+        && replay::same_float(n[1], w.m1)
+        && replay::same_float(n[2], w.m2)
+        && replay::same_float(n[3], w.m3)
+        && replay::same_float(n[4], w.m4)
+        && replay::same_float(n[5], w.m5)
 }
 
 // The fit of the first samples.
@@ -336,7 +253,10 @@ fn same_quantized_first(
     let q = lent_first::quantized_of_first(samples, count, model);
     let s = lent_first::score_of_first(samples, count, Params { numbers: params });
     let quantized = q.params;
-    q.refusal == 0 && s.refusal == 0 && same_params(quantized, params) && same_float(s.score, score)
+    q.refusal == 0
+        && s.refusal == 0
+        && replay::same_params(quantized, params)
+        && replay::same_float(s.score, score)
 }
 
 // One type of a case of samples, as `replay_type`.
@@ -351,8 +271,8 @@ fn replay_first(
 {
     let refusal = replay::next_word(list);
     let values = next_values(list, gm_type);
-    let params = next_params(list);
-    let score = next_bits(list);
+    let params = replay::next_params(list);
+    let score = replay::next_bits(list);
     let answer = fit_of_first(gm_type, samples, count);
     if refusal != 0 {
         return answer.refusal == refusal;
@@ -384,7 +304,7 @@ fn replay_trimmed_first(
     let values = next_values(list, gm_type);
     let refusal = replay::next_word(list);
     let used = replay::next_word(list);
-    let wanted = next_params(list);
+    let wanted = replay::next_params(list);
     let answer = lent_first::trimmed_of_first(samples, count, gm_type);
     let codes = ToTrim {
         kind: gm_type,
@@ -398,7 +318,7 @@ fn replay_trimmed_first(
         && same_numbers(numbers, values)
         && model.refusal == refusal
         && model.used == used
-        && same_params(params, wanted)
+        && replay::same_params(params, wanted)
 }
 
 fn replay_both(
@@ -418,8 +338,8 @@ fn replay_both(
 fn replay_samples(list: i32, flag: u8) -> bool {
     let count = replay::next_word(list) as usize;
     let written = replay::next_word(list) as usize;
-    let samples = next_samples(list, written);
-    if count > OVER {
+    let samples = replay::next_samples(list, written);
+    if count > replay::OVER {
         return false;
     }
     let translation = replay_both(list, fit::TRANSLATION, flag, samples, count);
@@ -432,13 +352,13 @@ fn next_entries(list: i32) -> System {
     let mut a = [0.0f64; 16];
     let mut i = 0usize;
     while i < 16 {
-        a[i] = next_float(list);
+        a[i] = replay::next_float(list);
         i += 1;
     }
-    let b0 = next_float(list);
-    let b1 = next_float(list);
-    let b2 = next_float(list);
-    let b3 = next_float(list);
+    let b0 = replay::next_float(list);
+    let b1 = replay::next_float(list);
+    let b2 = replay::next_float(list);
+    let b3 = replay::next_float(list);
     let b = [b0, b1, b2, b3];
     System { a, b }
 }
@@ -454,22 +374,22 @@ fn replay_system(list: i32) -> bool {
     let size = (replay::next_word(list) % 5) as usize;
     let solution = solve::solve_linear(size, next_entries(list));
     let refusal = replay::next_word(list);
-    let x0 = next_bits(list);
-    let x1 = next_bits(list);
-    let x2 = next_bits(list);
-    let x3 = next_bits(list);
+    let x0 = replay::next_bits(list);
+    let x1 = replay::next_bits(list);
+    let x2 = replay::next_bits(list);
+    let x3 = replay::next_bits(list);
     let x = solution.x;
     let outcome = solution.outcome;
     refusal_of_outcome(outcome) == refusal
-        && same_float(x[0], x0)
-        && same_float(x[1], x1)
-        && same_float(x[2], x2)
-        && same_float(x[3], x3)
+        && replay::same_float(x[0], x0)
+        && replay::same_float(x[1], x1)
+        && replay::same_float(x[2], x2)
+        && replay::same_float(x[3], x3)
 }
 
 fn replay_grid_number(list: i32) -> bool {
-    let value = next_float(list);
-    let wanted = next_param(list);
+    let value = replay::next_float(list);
+    let wanted = replay::signed(replay::next_word(list));
     grid_number::grid_number(value) == wanted
 }
 
@@ -492,36 +412,23 @@ fn replay_one(list: i32, which: u8, flag: u8) -> bool {
     replay_grid_number(list)
 }
 
-// 1 for a case that failed, which gets a line.
-fn failures_at(list: i32, which: u8, name: &[u8], case: u64) -> u64
-    ensures { λ r. ⌜ r ≤ 1 ⌝ }
-{
-    if replay_one(list, which, (case % 2) as u8) {
-        return 0;
-    }
-    replay::print_failure(name, case);
-    1
-}
-
 fn failures(list: i32, which: u8, name: &[u8], count: u64) -> u64 {
     let mut failed = 0u64;
     let mut case = 0u64;
     while case < count {
-        failed += failures_at(list, which, name, case);
+        failed += replay::failed(name, case, replay_one(list, which, (case % 2) as u8));
         case += 1;
     }
     failed
 }
 
 fn replay_list(which: u8, name: &[u8], file: &[u8]) {
-    let list = os::open_read(file);
+    let list = replay::open_list(file);
     if list < 0 {
-        os::fail(file);
         return;
     }
     let count = replay::next_word(list) as u64;
-    replay::print_count(name, count, failures(list, which, name, count));
-    libc::close(list);
+    replay::end_list(list, name, count, failures(list, which, name, count));
 }
 
 fn refused(ok: bool, what: &[u8]) {

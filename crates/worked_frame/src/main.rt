@@ -31,12 +31,6 @@ struct Case {
     read_refusal: u32,
 }
 
-fn least(a: usize, b: usize) -> usize
-    ensures { λ r. ⌜ (r ≤ a) × (r ≤ b) ⌝ }
-{
-    if a < b { a } else { b }
-}
-
 fn byte(list: i32) -> u8 {
     (replay::next_word(list) % 256) as u8
 }
@@ -71,11 +65,7 @@ fn identity() -> [i32; 43]
     ensures { λ r. ⌜ 43 ≡ length r ⌝ }
 {
     let mut numbers = [0i32; 43];
-    let mut i = 0usize;
-    while i < 43 {
-        numbers[i] = centre_of(i);
-        i += 1;
-    }
+    replay::fill_identity(&mut numbers);
     numbers
 }
 
@@ -109,20 +99,9 @@ fn numbers_hold(numbers: [i32; 42], accepted: bool) -> bool {
     true
 }
 
-fn types_zero(types: [u8; 7]) -> bool {
-    let mut i = 0usize;
-    while i < 7 {
-        if types[i] != 0 {
-            return false;
-        }
-        i += 1;
-    }
-    true
-}
-
 fn is_read(a: Case, bytes: &[u8], prior: &[i32]) -> bool {
-    let room = least(a.room, bytes.len());
-    let places = least(a.places, prior.len());
+    let room = replay::least(a.room, bytes.len());
+    let places = replay::least(a.places, prior.len());
     let read = frame_motion::read_global_motion(
         true,
         &bytes[0..room],
@@ -134,15 +113,15 @@ fn is_read(a: Case, bytes: &[u8], prior: &[i32]) -> bool {
     let params = read.params;
     read.refusal == a.read_refusal
         && read.bits == 0
-        && types_zero(types)
+        && replay::types_zero(&types)
         && numbers_hold(params, a.read_refusal == 0)
 }
 
 fn write_first(a: Case, types: &[u8], params: &[i32], prior: &[i32], out: &mut [u8]) -> Written {
-    let t = least(a.types, types.len());
-    let m = least(a.numbers, params.len());
-    let p = least(a.places, prior.len());
-    let room = least(a.room, out.len());
+    let t = replay::least(a.types, types.len());
+    let m = replay::least(a.numbers, params.len());
+    let p = replay::least(a.places, prior.len());
+    let room = replay::least(a.room, out.len());
     frame_motion::encode_global_motion(
         true,
         &types[0..t],
@@ -156,9 +135,9 @@ fn write_first(a: Case, types: &[u8], params: &[i32], prior: &[i32], out: &mut [
 
 // A price of 0, refused as the writer refuses but for its start.
 fn is_priced(a: Case, types: &[u8], params: &[i32], prior: &[i32]) -> bool {
-    let t = least(a.types, types.len());
-    let m = least(a.numbers, params.len());
-    let p = least(a.places, prior.len());
+    let t = replay::least(a.types, types.len());
+    let m = replay::least(a.numbers, params.len());
+    let p = replay::least(a.places, prior.len());
     let price = price::frame_price(true, &types[0..t], &params[0..m], a.flag, &prior[0..p]);
     price.bits == 0 && (a.refusal == START_OVER || price.refusal == a.refusal)
 }

@@ -68,12 +68,6 @@ struct Ask {
     at: usize,
 }
 
-fn least(a: usize, b: usize) -> usize
-    ensures { λ r. ⌜ (r ≤ a) × (r ≤ b) ⌝ }
-{
-    if a < b { a } else { b }
-}
-
 fn filled(with: u8) -> [u8; 160]
     ensures { λ r. ⌜ 160 ≡ length r ⌝ }
 {
@@ -126,7 +120,7 @@ fn is_refused(read: Models, refusal: u32) -> bool {
 
 // Reads the first bytes alone.
 fn read_first(bytes: &[u8], length: usize, at: usize, flag: u8, prior: &[i32]) -> Models {
-    let end = least(length, bytes.len());
+    let end = replay::least(length, bytes.len());
     header_read::read_global_motion_params(&bytes[0..end], at, flag, prior)
 }
 
@@ -220,7 +214,7 @@ fn write_first(
     room: usize,
     out: &mut [u8],
 ) -> Written {
-    let end = least(room, out.len());
+    let end = replay::least(room, out.len());
     header::encode_inter_global_motion(types, params, flag, prior, start, &mut out[0..end])
 }
 
@@ -309,11 +303,7 @@ fn is_right(a: Case) -> bool {
 
 fn next_numbers(list: i32) -> [i32; 42] {
     let mut numbers = [0i32; 42];
-    let mut i = 0usize;
-    while i < 42 {
-        numbers[i] = replay::signed(replay::next_word(list));
-        i += 1;
-    }
+    replay::next_numbers(list, &mut numbers);
     numbers
 }
 
@@ -324,11 +314,7 @@ fn centre_of(slot: usize) -> u32 {
 
 fn identity() -> [i32; 42] {
     let mut numbers = [0i32; 42];
-    let mut i = 0usize;
-    while i < 42 {
-        numbers[i] = replay::signed(centre_of(i));
-        i += 1;
-    }
+    replay::fill_identity(&mut numbers);
     numbers
 }
 
@@ -352,7 +338,7 @@ fn next_prior(list: i32, given: bool) -> [i32; 42] {
 // Bytes packed four to a word.
 fn next_bytes(list: i32, length: usize) -> [u8; 160] {
     let mut bytes = filled(ZEROS);
-    let end = (least(length, 157) + 3) / 4 * 4;
+    let end = (replay::least(length, 157) + 3) / 4 * 4;
     io::read_full(list, &mut bytes[0..end]);
     bytes
 }
@@ -374,7 +360,7 @@ fn types_of(word: u32) -> [u8; 7] {
 }
 
 fn next_short(list: i32) -> u16 {
-    least(replay::next_word(list) as usize, 65535) as u16
+    replay::least(replay::next_word(list) as usize, 65535) as u16
 }
 
 fn next_case(list: i32) -> Case {
@@ -633,7 +619,7 @@ fn with_write_fault(a: Ask, row: usize, k: usize) -> Ask {
         return with_prior_beyond(a, k, 1);
     }
     let mut b = a;
-    b.room = least(k, 2);
+    b.room = replay::least(k, 2);
     b
 }
 
@@ -695,9 +681,9 @@ fn write_lists(
     room: usize,
     out: &mut [u8],
 ) -> Written {
-    let t = least(types_length, types.len());
-    let m = least(params_length, params.len());
-    let p = least(prior_length, prior.len());
+    let t = replay::least(types_length, types.len());
+    let m = replay::least(params_length, params.len());
+    let p = replay::least(prior_length, prior.len());
     write_first(
         &types[0..t],
         &params[0..m],
@@ -717,7 +703,7 @@ fn read_lists(
     prior: &[i32],
     prior_length: usize,
 ) -> Models {
-    let p = least(prior_length, prior.len());
+    let p = replay::least(prior_length, prior.len());
     read_first(header, header_length, at, flag, &prior[0..p])
 }
 
@@ -761,8 +747,8 @@ fn read_is_refused(a: Ask, refusal: u32) -> bool {
 
 // The first entries of the lists.
 fn is_read_first(read: Models, types: &[u8], params: &[i32], bits: usize) -> bool {
-    let t = least(7, types.len());
-    let m = least(42, params.len());
+    let t = replay::least(7, types.len());
+    let m = replay::least(42, params.len());
     is_read(read, 0, &types[0..t], &params[0..m], bits)
 }
 

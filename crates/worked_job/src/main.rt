@@ -33,12 +33,6 @@ struct Picture {
     shift_across: u32,
 }
 
-fn least(a: usize, b: usize) -> usize
-    ensures { λ r. ⌜ (r ≤ a) × (r ≤ b) ⌝ }
-{
-    if a < b { a } else { b }
-}
-
 fn size(list: i32) -> usize {
     replay::next_word(list) as usize
 }
@@ -153,23 +147,14 @@ fn map_plane(p: Picture, first: &[u16], plane: &mut [u16]) {
     }
 }
 
-// Pels as the list has them.
-fn next_pels(list: i32, plane: &mut [u16]) {
-    let mut i = 0;
-    while i < plane.len() {
-        plane[i] = (replay::next_word(list) % 65536) as u16;
-        i += 1;
-    }
-}
-
 fn make_planes(list: i32, p: Picture, input: &mut [u16], reference: &mut [u16]) {
     if p.kind == 4 {
-        next_pels(list, &mut *reference);
-        next_pels(list, &mut *input);
+        replay::next_pels(list, &mut *reference);
+        replay::next_pels(list, &mut *input);
         return;
     }
     if p.kind == 3 {
-        next_pels(list, &mut *reference);
+        replay::next_pels(list, &mut *reference);
         map_plane(p, reference, &mut *input);
         return;
     }
@@ -184,14 +169,6 @@ fn make_planes(list: i32, p: Picture, input: &mut [u16], reference: &mut [u16]) 
         return;
     }
     fill_plane(state, p.mask, &mut *reference);
-}
-
-fn fill_classes(classes: &mut [u8]) {
-    let mut i = 0;
-    while i < classes.len() {
-        classes[i] = (i % 5) as u8;
-        i += 1;
-    }
 }
 
 // ---- what a case asks
@@ -212,14 +189,6 @@ fn next_types(list: i32, types: &mut [u8]) {
     let mut i = 0;
     while i < types.len() {
         types[i] = byte_of(replay::next_word(list));
-        i += 1;
-    }
-}
-
-fn next_numbers(list: i32, numbers: &mut [i32]) {
-    let mut i = 0;
-    while i < numbers.len() {
-        numbers[i] = replay::signed(replay::next_word(list));
         i += 1;
     }
 }
@@ -336,7 +305,7 @@ fn bytes_hold(list: i32, bytes: &[u8], written: usize) -> bool {
 }
 
 fn pels_untouched(pels: &[u16], from: usize) -> bool {
-    let mut i = least(from, pels.len());
+    let mut i = replay::least(from, pels.len());
     while i < pels.len() {
         if pels[i] != UNTOUCHED_PEL {
             return false;
@@ -347,7 +316,7 @@ fn pels_untouched(pels: &[u16], from: usize) -> bool {
 }
 
 fn words_untouched(words: &[u32], from: usize) -> bool {
-    let mut i = least(from, words.len());
+    let mut i = replay::least(from, words.len());
     while i < words.len() {
         if words[i] != UNTOUCHED_WORD {
             return false;
@@ -407,9 +376,9 @@ fn asked(
     blocks: &mut [u8],
     header: &mut [u8],
 ) -> Report {
-    let input_pels = least(area(p.width, p.height), input.len());
-    let ref_pels = least(area(p.width, p.height), reference.len());
-    let samples = least(area(p.width / 16, p.height / 16), classes.len());
+    let input_pels = replay::least(area(p.width, p.height), input.len());
+    let ref_pels = replay::least(area(p.width, p.height), reference.len());
+    let samples = replay::least(area(p.width / 16, p.height / 16), classes.len());
     job::job(
         &input[0..input_pels],
         &reference[0..ref_pels],
@@ -446,8 +415,8 @@ fn run_case(list: i32, p: Picture, input: &[u16], reference: &[u16]) -> bool {
     let mut models = [0i32; 36];
     let mut prior = [0i32; 42];
     next_types(list, &mut types);
-    next_numbers(list, &mut models);
-    next_numbers(list, &mut prior);
+    replay::next_numbers(list, &mut models);
+    replay::next_numbers(list, &mut prior);
     answer_holds(list, p, settings, input, reference, &types, &models, &prior)
 }
 
@@ -467,7 +436,7 @@ fn answer_holds(
     let mut words = [UNTOUCHED_WORD; 150];
     let mut blocks = [UNTOUCHED_BYTE; 1100];
     let mut header = [UNTOUCHED_BYTE; 140];
-    fill_classes(&mut classes);
+    replay::fill_classes(&mut classes);
     let r = asked(
         p,
         settings,
@@ -502,8 +471,8 @@ fn no_pels() -> [u16; 36864]
 
 fn replay_one(list: i32, input: &mut [u16], reference: &mut [u16]) -> bool {
     let p = next_picture(list);
-    let input_pels = least(area(p.width, p.height), input.len());
-    let ref_pels = least(area(p.width, p.height), reference.len());
+    let input_pels = replay::least(area(p.width, p.height), input.len());
+    let ref_pels = replay::least(area(p.width, p.height), reference.len());
     make_planes(
         list,
         p,
@@ -695,24 +664,6 @@ fn row_of(fault: u32) -> u32 {
     6
 }
 
-fn identity_at(slot: usize) -> i32 {
-    if slot == 2 {
-        return 65536;
-    }
-    if slot == 5 {
-        return 65536;
-    }
-    0
-}
-
-fn fill_identity(numbers: &mut [i32]) {
-    let mut i = 0;
-    while i < numbers.len() {
-        numbers[i] = identity_at(i % 6);
-        i += 1;
-    }
-}
-
 fn small_job(
     s: Small,
     plane: &[u16],
@@ -735,13 +686,13 @@ fn small_job(
         start: s.start,
     };
     let classes = [s.class; 1];
-    let pels = least(s.pels, plane.len());
-    let places = least(s.places, prior.len());
-    let input_room = least(s.half_room, input_half.len());
-    let ref_room = least(s.half_room, ref_half.len());
-    let word_room = least(s.word_room, words.len());
-    let block_room = least(s.block_room, blocks.len());
-    let header_room = least(s.header_room, header.len());
+    let pels = replay::least(s.pels, plane.len());
+    let places = replay::least(s.places, prior.len());
+    let input_room = replay::least(s.half_room, input_half.len());
+    let ref_room = replay::least(s.half_room, ref_half.len());
+    let word_room = replay::least(s.word_room, words.len());
+    let block_room = replay::least(s.block_room, blocks.len());
+    let header_room = replay::least(s.header_room, header.len());
     job::job(
         &plane[0..pels],
         plane,
@@ -758,17 +709,6 @@ fn small_job(
         &mut blocks[0..block_room],
         &mut header[0..header_room],
     )
-}
-
-fn types_zero(types: [u8; 7]) -> bool {
-    let mut i = 0;
-    while i < 7 {
-        if types[i] != 0 {
-            return false;
-        }
-        i += 1;
-    }
-    true
 }
 
 fn numbers_zero(numbers: [i32; 42]) -> bool {
@@ -797,7 +737,7 @@ fn reports_only(r: Report, number: u32) -> bool {
     if !same_float(r.score, 0) {
         return false;
     }
-    if !types_zero(types) {
+    if !replay::types_zero(&types) {
         return false;
     }
     numbers_zero(models)
@@ -916,8 +856,8 @@ fn try_faults(elect: u8, first: u32, second: u32) -> bool {
     let types = [s.other_type; 6];
     let mut models = [0i32; 36];
     let mut prior = [0i32; 42];
-    fill_identity(&mut models);
-    fill_identity(&mut prior);
+    replay::fill_identity(&mut models);
+    replay::fill_identity(&mut prior);
     put(&mut models, 2, s.number);
     put(&mut prior, 3, s.place);
     refused_right(s, row_of(first), &types, &models, &prior)

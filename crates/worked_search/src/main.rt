@@ -161,14 +161,6 @@ fn fill_plane(t: Texture, w: Window, width: usize, plane: &mut [u16]) {
     }
 }
 
-fn fill_classes(classes: &mut [u8]) {
-    let mut i = 0;
-    while i < classes.len() {
-        classes[i] = (i % 5) as u8;
-        i += 1;
-    }
-}
-
 fn change_class(classes: &mut [u8], at: usize, class: u8) {
     if at < classes.len() {
         classes[at] = class;
@@ -181,7 +173,7 @@ fn make(a: Case, input: &mut [u16], reference: &mut [u16], classes: &mut [u8]) {
     let ref_window = a.reference;
     fill_plane(texture, input_window, a.width, &mut *input);
     fill_plane(texture, ref_window, a.width, &mut *reference);
-    fill_classes(&mut *classes);
+    replay::fill_classes(&mut *classes);
     change_class(&mut *classes, a.changed_class, a.class);
 }
 
@@ -268,22 +260,14 @@ fn replay_one(list: i32, input: &mut [u16], reference: &mut [u16]) -> bool {
     holds(list, s, &input_half, &ref_half, &words)
 }
 
-fn next_pels(list: i32, plane: &mut [u16]) {
-    let mut i = 0;
-    while i < plane.len() {
-        plane[i] = (replay::next_word(list) % 65536) as u16;
-        i += 1;
-    }
-}
-
 fn replay_planes(list: i32, input: &mut [u16], reference: &mut [u16]) -> bool {
     let width = size(list);
     let height = size(list);
     let pels = size(list);
     let input_pels = replay::least(pels, input.len());
     let ref_pels = replay::least(pels, reference.len());
-    next_pels(list, &mut input[0..input_pels]);
-    next_pels(list, &mut reference[0..ref_pels]);
+    replay::next_pels(list, &mut input[0..input_pels]);
+    replay::next_pels(list, &mut reference[0..ref_pels]);
     let samples = size(list);
     let rows = replay::next_word(list);
     let count = replay::least(samples, 32);

@@ -44,9 +44,9 @@ returns : tie.Need-returns Inv-loop μ-loop
 returns c =
     let a = c .before .before .before .before .args in
     let m = c .before .before .before .continuous-of-params in
+    let walked = index-done (reading (scoreStep (m .result)) (sampleAt (a .numbers .now))) (c .before .loop-test .left) (c .before .before .loop .inv) in
     ap (λ (s : Score). s .score) (c .score-of .ensures)
-    ∙ ap (λ (acc : Float). scoreOf acc (a .n) .score)
-    (index-done (reading (scoreStep (m .result)) (sampleAt (a .numbers .now))) (c .before .loop-test .left) (c .before .before .loop .inv) ∙ ap (λ (model : ContinuousModel). sum (a .numbers .now) (a .n) model) (m .ensures))
+    ∙ ap (λ (acc : Float). scoreOf acc (a .n) .score) (walked ∙ ap (λ (model : ContinuousModel). sum (a .numbers .now) (a .n) model) (m .ensures))
     ∙ ap (λ (k : ℕ). scoreOf (sum (a .numbers .now) (a .n) (continuousModel (a .params))) k .score) (sym (length-upTo (a .n)))
     ∙ sym (error-mapped (sampleAt (a .numbers .now)) (a .params) (upTo (a .n)))
 

@@ -2,10 +2,11 @@
 -- Assumes nothing.
 use borrow.Author.Needs.{needs}
 use mathlib.Core.List.{List}
-use mathlib.Core.Path.{_≡_, sym, ap, _∙_}
+use mathlib.Core.Path.{sym, ap, _∙_}
 use lib.IntN.{ℤ}
 use lib.Ieee.{Float, lt}
-use Rattle.trim.specs.Inner.{itself, samplesIn}
+use Rattle.fit.specs.Sums.{itself}
+use Rattle.trim.specs.Inner.{samplesIn}
 use Rattle.elect.specs.Elect.{floor, errorFrom, nobody}
 use Rattle.elect.proofs.Turns.{winner-still, three-turns}
 use Rattle.elect.proofs.winner.Statement.{statement}
@@ -22,8 +23,9 @@ returns-2 : tie.Need-returns-2
 returns-2 c =
     let a = c .before .before .before .before .before .before .before .args in
     let xs = samplesIn (a .numbers .now) (a .n) in
-    let energy = c .before .before .before .before .before .error-of .ensures ∙ ap (λ (p : List ℤ). errorFrom itself p xs) (c .before .before .before .before .before .before .identity-params .ensures) in
-    three-turns itself (a .flag) xs (c .before .before .before .before .before .error-of .result) energy (c .before .before .before .before .if1 .left)
+    let still = c .before .before .before .before .before .error-of in
+    let energy = still .ensures ∙ ap (λ (p : List ℤ). errorFrom itself p xs) (c .before .before .before .before .before .before .identity-params .ensures) in
+    three-turns itself (a .flag) xs (still .result) energy (c .before .before .before .before .if1 .left)
     (c .before .before .before .nobody2 .ensures) (c .before .before .turn .ensures) (c .before .turn2 .ensures) (c .turn3 .ensures)
 
 pub winner-spec : {M : Type 1} → statement M

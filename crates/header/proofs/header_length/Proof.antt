@@ -1,10 +1,10 @@
 -- `header_length`: each turn adds the sum's next term.
 -- Assumes nothing.
-use Prim.Native.Nat.{ℕ, _*_, _-_, _≤_}
-use mathlib.Core.Path.{_≡_, refl, sym, ap, _∙_}
+use Prim.Native.Nat.{_*_, _-_, _≤_}
+use mathlib.Core.Path.{_≡_, refl, ap, _∙_}
 use native.Mathlib.Omega.{arith}
 use borrow.Author.Needs.{needs}
-use lib.ListN.{length, getD}
+use lib.ListN.{getD}
 use Rattle.laws.specs.Loops.{sum}
 use Rattle.laws.proofs.Loops.{sum-step}
 use Rattle.header.specs.Count.{modelCount, headerCount}

@@ -1,12 +1,12 @@
 -- `reference_length`: the type bits, and what is left to add of the slots gives what was to be added.
 -- Assumes nothing.
-use Prim.Native.Nat.{ℕ, _+_, _*_, _-_, _≤_, _<_}
+use Prim.Native.Nat.{ℕ, _+_, _*_, _-_, _≤_}
 use mathlib.Core.List.{List}
-use mathlib.Core.Path.{_≡_, refl, sym, ap, _∙_}
+use mathlib.Core.Path.{_≡_, sym, ap, _∙_}
 use native.Mathlib.Omega.{arith}
 use borrow.Author.Needs.{needs}
 use lib.IntN.{ℤ}
-use lib.ListN.{length, getD, drop, drop-of-length-le}
+use lib.ListN.{length, drop, drop-of-length-le}
 use Rattle.bits.proofs.Fields.{length-fieldBits}
 use Rattle.grid.specs.Slots.{slotsOf}
 use Rattle.grid.proofs.Slots.{six-slots-at-most}
@@ -31,8 +31,8 @@ loop-holds : tie.Need-loop-holds Inv-loop μ-loop
 unfolding modelCount
 loop-holds c =
     let t = c .before .type-field in
-    let n : t .result .n ≡ length (typeBits (c .before .before .before .before .args .gm-type)) = sym (length-fieldBits (t .result .n) (t .result .value)) ∙ ap length (t .ensures .bits) in
-    (rw n, t .ensures .few, omega arith)
+    let n : t .result .n ≡ length (typeBits (c .before .before .before .before .args .gm-type)) = sym (length-fieldBits (t .result .n) (t .result .value)) ∙ ap length (t .ensures .0 .bits) in
+    (rw n, t .ensures .1, omega arith)
 
 array-read-slot-length : tie.Need-array-read-slot-length Inv-loop μ-loop
 array-read-slot-length c =

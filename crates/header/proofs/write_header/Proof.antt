@@ -1,68 +1,33 @@
--- `write_header`: the references' bits are written, and the zeros behind them fill the last byte.
+-- `write_header`: the bits before the start are the header's own; where there are none, its first byte isn't looked at.
 -- Assumes nothing.
-use Prim.Native.Nat.{ℕ, _+_, _≤_, _<_}
+use Prim.Native.Nat.{ℕ, _/_, _^_, _<_}
 use mathlib.Core.List.{List}
-use mathlib.Core.Path.{_≡_, sym, _∙_}
+use mathlib.Core.Path.{_≡_, refl}
 use native.Mathlib.Omega.{arith}
 use borrow.Author.Needs.{needs}
-use lib.ListN.{length}
-use Rattle.bits.specs.Inner.{Room, Wrote}
-use Rattle.bits.specs.Fields.{padBits, padding}
-use Rattle.bits.proofs.Buffer.{putBits-append, wrote-length}
-use Rattle.bits.proofs.Fields.{length-fieldBits}
-use Rattle.header.specs.Writing.{headerBits, bytesFor, bitsPlaced}
-use Rattle.header.proofs.RoundTrip.{at-most-987-bits}
+use lib.ListN.{getD}
+use Rattle.header.specs.Inner.{Begins}
 use Rattle.header.proofs.write_header.Statement.{statement}
 use Rattle.header.proofs.write_header.Tie as tie
 
-module _ (l : List ℕ) (z : ℕ) (start : ℕ) (e : z ≡ start) (low : start < 8) (xs : List ℕ) (few : length xs ≤ 987) (roomy : bytesFor start (length xs) ≤ length l) where
-  first-room : Room l z (length xs)
-  first-room = record { within = omega arith; small = omega arith }
+nothing-before : (start : ℕ) (header : List ℕ) → start ≡ 0 → getD header 0 0 < 2 ^ 8 → Begins start 0 header
+nothing-before start header e h = record { low = omega arith; byte = omega arith; front = rw e (let z : 0 ≡ getD header 0 0 / 2 ^ 8 = omega arith in z) }
 
-  module _ (l' : List ℕ) (j : ℕ) (w : Wrote l z xs l' j) where
-    pad-room : Room l' j (length (padBits j))
-    pad-room =
-        let n = length-fieldBits (padding j) 0 in
-        let long = wrote-length l z xs l' j w in
-        record { within = omega (arith, n, long, w .at); small = omega (arith, n, w .at) }
+write-after-requires : tie.Need-write-after-requires
+write-after-requires c κs =
+    let pre = c .before .before .before .before .pre in
+    (pre .0, nothing-before _ _ (c .before .if1 .taken) (omega (arith, c .before .before .slice-known .given 0)), pre .2)
 
-    both : (m : List ℕ) (k : ℕ) → Wrote l' j (padBits j) m k → m ≡ bitsPlaced start xs l
-    both m k p = p .buffer ∙ rw (w .buffer, w .at, e) (sym (putBits-append l start xs (padBits (start + length xs))))
-
-new-requires : tie.Need-new-requires
-new-requires c κs = tt
-
-write-references-requires : tie.Need-write-references-requires
-write-references-requires c κs =
-    let e = c .before .before .before .before in
-    let a = e .args in
-    let bits = headerBits (a .types .now) (a .params .now) (a .flag) (a .prior .now) in
-    let few = at-most-987-bits (a .flag) (a .types .now) (a .params .now) (a .prior .now) in
-    (e .pre .0, first-room (a .header .now) _ (a .start) (c .before .new .ensures) (e .pre .1) bits few (e .pre .2))
-
-sub-bits : tie.Need-sub-bits
-sub-bits c = omega (arith, c .before .before .before .write-references .ensures .at, c .before .before .before .before .before .new .ensures)
-
-byte-align-requires : tie.Need-byte-align-requires
-byte-align-requires c κs =
-    let e = c .before .before .before .before .before .before .before .before .before in
-    let a = e .args in
-    let bits = headerBits (a .types .now) (a .params .now) (a .flag) (a .prior .now) in
-    let few = at-most-987-bits (a .flag) (a .types .now) (a .params .now) (a .prior .now) in
-    pad-room (a .header .now) _ (a .start) (c .before .before .before .before .before .before .new .ensures) (e .pre .1) bits few (e .pre .2) _ _
-    (c .before .before .before .before .write-references .ensures)
+write-after-requires-2 : tie.Need-write-after-requires-2
+write-after-requires-2 c κs =
+    let pre = c .before .before .before .before .before .pre in
+    (pre .0, record { low = pre .1; byte = omega (arith, c .before .before .before .slice-known .given 0); front = refl }, pre .2)
 
 returns : tie.Need-returns
-returns c =
-    let e = c .before .before .before .before .before .before .before .before .before .before .before .before in
-    let a = e .args in
-    let bits = headerBits (a .types .now) (a .params .now) (a .flag) (a .prior .now) in
-    let few = at-most-987-bits (a .flag) (a .types .now) (a .params .now) (a .prior .now) in
-    let at-start = c .before .before .before .before .before .before .before .before .before .new .ensures in
-    let w = c .before .before .before .before .before .before .before .write-references .ensures in (
-      omega (arith, w .at, at-start),
-      both (a .header .now) _ (a .start) at-start (e .pre .1) bits few (e .pre .2) _ _ w _ _ (c .before .before .byte-align .ensures),
-    )
+returns c = c .before .before .write-after .ensures
+
+returns-2 : tie.Need-returns-2
+returns-2 c = c .before .before .write-after2 .ensures
 
 pub write-header-spec : {M : Type 1} → statement M
-write-header-spec = tie.close (tie.spec new-requires write-references-requires sub-bits byte-align-requires (search needs) returns)
+write-header-spec = tie.close (tie.spec write-after-requires (search needs) returns (search needs) write-after-requires-2 (search needs) returns-2)

@@ -1,16 +1,21 @@
--- `write_references`: what is left to write here gives what was to be written at the start.
+-- `write_references`: at each turn one reference more has come to the pen, or a run of identities, and at the end all.
 -- Assumes nothing.
-use Prim.Native.Nat.{ℕ, suc, _+_, _*_, _-_, _^_, _≤_, _<_}
-use mathlib.Core.List.{List, _++_}
-use mathlib.Core.Path.{_≡_, refl, sym, ap, _∙_}
+use Prim.Native.Nat.{ℕ, zero, suc, _+_, _*_, _-_, _^_, _≤_, _<_}
+use mathlib.Core.List.{List, [], _∷_, _++_}
+use mathlib.Core.Path.{_≡_, ap, sym, _∙_, subst}
+use native.Mathlib.Nat.{add-zero, zero-div}
 use native.Mathlib.Omega.{arith}
+use lib.Pow.{pow-pos}
 use lib.IntN.{ℤ}
 use lib.ListN.{length, getD}
 use borrow.Author.Needs.{needs}
-use Rattle.bits.specs.Bits.{putBits}
-use Rattle.bits.specs.Inner.{Room, Wrote}
-use Rattle.bits.proofs.Buffer.{wrote-rest, wrote-length, room-front}
-use Rattle.header.specs.Writing.{referenceBits, referencesBits, headerBits}
+use Rattle.bits.specs.Inner.{Ready, Put}
+use Rattle.bits.specs.declared.Pen.{Pen}
+use Rattle.bits.specs.Fields.{fieldBits}
+use Rattle.bits.proofs.Fields.{length-fieldBits}
+use Rattle.bits.proofs.HeldBack.{Reached, put-length, reached-first, reached-ready, reached-more, reached-last}
+use Rattle.header.specs.Inner.{Identities}
+use Rattle.header.specs.Writing.{modelBits, referenceBits, referencesBits, headerBits}
 use Rattle.header.proofs.RoundTrip.{model-ready}
 use Rattle.header.proofs.write_references.Statement.{statement}
 use Rattle.header.proofs.write_references.Tie as tie
@@ -20,71 +25,129 @@ module _ (flag : ℕ) (types : List ℕ) (ps qs : List ℤ) where
   abbrev left : ℕ → List ℕ
   left r = referencesBits flag ps qs types (7 - r) r
 
-  left-more : (r : ℕ) → r < 7 → left r ≡ referenceBits flag ps qs (getD types r 0) (6 * r) ++ left (r + 1)
+  abbrev one : ℕ → List ℕ
+  one r = referenceBits flag ps qs (getD types r 0) (6 * r)
+
+  one-identity : (r : ℕ) → getD types r 0 ≡ 0 → one r ≡ 0 ∷ []
+  unfolding referenceBits modelBits
+  one-identity r e = rw e
+
+  left-more : (r : ℕ) → r < 7 → left r ≡ one r ++ left (r + 1)
   left-more r h =
       let n : 7 - r ≡ suc (7 - (r + 1)) = omega arith in
       ap (λ (k : ℕ). referencesBits flag ps qs types k r) n
 
-  module _ (l : List ℕ) (j : ℕ) (m : List ℕ) (k : ℕ) (r : ℕ) (h : r < 7) (w : Wrote l j (left r) m k) where
-    all : Wrote l j (referenceBits flag ps qs (getD types r 0) (6 * r) ++ left (r + 1)) m k
-    all = rw (left-more r h) at w
+  -- a run of identities is a field of zeros
+  zeros : (n r : ℕ) → Identities types r n → r + n ≤ 7 → left r ≡ fieldBits n 0 ++ left (r + n)
+  zeros zero r s h = ap left (sym (add-zero r))
+  zeros (suc n) r s h =
+      let first : getD types r 0 ≡ 0 = subst (λ (k : ℕ). getD types k 0 ≡ 0) (add-zero r) (s .each 0 (omega arith)) in
+      let e : r + 1 + n ≡ r + suc n = omega arith in
+      let rest = zeros n (r + 1) (record { within = omega (arith, s .within); each = λ i l. next (s .each) i l }) (omega arith) in
+      left-more r (omega arith) ∙ rw (one-identity r first, zero-div (2 ^ n), ← e) (ap (λ (t : List ℕ). 0 ∷ t) rest)
+    where
+      next : ((i : ℕ) → i < suc n → getD types (r + i) 0 ≡ 0) → (i : ℕ) → i < n → getD types (r + 1 + i) 0 ≡ 0
+      next each i l = subst (λ (k : ℕ). getD types k 0 ≡ 0) (let e : r + suc i ≡ r + 1 + i = omega arith in e) (each (suc i) (omega arith))
 
-    room : k ≤ 8 * length l → k < 2 ^ 64 → Room l j (length (referenceBits flag ps qs (getD types r 0) (6 * r)))
-    room within small =
-        room-front l j (referenceBits flag ps qs (getD types r 0) (6 * r)) (left (r + 1))
-        (record { within = omega (arith, all .at); small = omega (arith, all .at) })
+  -- the bits xs come next, up to reference s
+  module _ {l₀ all l : List ℕ} {p₀ p : Pen} (r s : ℕ) (xs : List ℕ) (e : left r ≡ xs ++ left s) (w : Reached l₀ p₀ all l p (left r)) where
+    ahead : Reached l₀ p₀ all l p (xs ++ left s)
+    ahead = rw e at w
 
-    more : (l' : List ℕ) (j' : ℕ) → Wrote l j (referenceBits flag ps qs (getD types r 0) (6 * r)) l' j' → Wrote l' j' (left (r + 1)) m k
-    more l' j' one = wrote-rest (referenceBits flag ps qs (getD types r 0) (6 * r)) (left (r + 1)) one all
+    ready : Ready l₀ p₀ (length all) → Ready l p (length xs)
+    ready = reached-ready xs (left s) ahead
+
+    more : (l' : List ℕ) (p' : Pen) → Put l p xs l' p' → Reached l₀ p₀ all l' p' (left s)
+    more = reached-more xs (left s) ahead
 
 abbrev Inv-loop : tie.InvT-loop
 Inv-loop header₀ types flag params prior next₀ r₀ header next r =
-    (r ≤ 7)
-    × (length header ≡ length header₀)
-    × Wrote header (next .at) (left flag types params prior r) (putBits header₀ (next₀ .at) (headerBits types params flag prior)) (next₀ .at + length (headerBits types params flag prior))
+    (r ≤ 7) × Reached header₀ next₀ (headerBits types params flag prior) header next (left flag types params prior r)
 
 abbrev μ-loop : tie.MeasureT-loop
 μ-loop header₀ types flag params prior next₀ r₀ header next r = 7 - r
 
 loop-holds : tie.Need-loop-holds Inv-loop μ-loop
 unfolding headerBits
-loop-holds c = (omega arith, refl, record { at = refl; buffer = refl })
+loop-holds c = (omega arith, reached-first _ _ _ (c .before .before .pre .1))
+
+identities-requires : tie.Need-identities-requires Inv-loop μ-loop
+identities-requires c κs = omega (arith, c .before .before .before .before .pre .0 .all .seven, c .before .loop .inv .0)
 
 shared-slice-read-write-reference : tie.Need-shared-slice-read-write-reference Inv-loop μ-loop
-shared-slice-read-write-reference c = omega (arith, c .before .before .before .before .before .before .pre .0 .all .seven, c .before .before .loop-test .taken)
+shared-slice-read-write-reference c = omega (arith, c .before .before .before .before .before .before .before .before .pre .0 .all .seven, c .before .before .before .before .loop-test .taken)
 
 mul-write-reference : tie.Need-mul-write-reference Inv-loop μ-loop
-mul-write-reference c = omega (arith, c .before .before .loop-test .taken)
+mul-write-reference c = omega (arith, c .before .before .before .before .loop-test .taken)
 
 write-reference-requires : tie.Need-write-reference-requires Inv-loop μ-loop
 write-reference-requires c κs =
-    let a = c .before .before .before .before .before .before .args in
-    let pre = c .before .before .before .before .before .before .pre in
-    let l = c .before .before .before .loop in
-    let inv = l .inv in (
-      model-ready (a .types .now) (a .params .now) (a .prior .now) (l .r) (pre .0) (c .before .before .loop-test .taken),
-      room (a .flag) (a .types .now) (a .params .now) (a .prior .now) (l .header) (l .next .at) _ _ (l .r) (c .before .before .loop-test .taken) (inv .2)
-          (omega (arith, pre .1 .within, inv .1)) (pre .1 .small),
+    let loop-test = c .before .before .before .before .loop-test in
+    let pre = c .before .before .before .before .before .before .before .before .pre in
+    let a = c .before .before .before .before .before .before .before .before .args in
+    let l = c .before .before .before .before .before .loop in
+    let more-bits = left-more (a .flag) (a .types .now) (a .params .now) (a .prior .now) (l .r) (loop-test .taken) in (
+      model-ready (a .types .now) (a .params .now) (a .prior .now) (l .r) (pre .0) (loop-test .taken),
+      ready (a .flag) (a .types .now) (a .params .now) (a .prior .now) (l .r) (l .r + 1) (one (a .flag) (a .types .now) (a .params .now) (a .prior .now) (l .r)) more-bits (l .inv .1) (pre .1),
     )
 
 loop-again : tie.Need-loop-again Inv-loop μ-loop
 loop-again c =
-    let a = c .before .before .before .before .before .before .before .before .before .args in
-    let l = c .before .before .before .before .before .before .loop in
-    let e = c .before .before .write-reference .ensures in (
+    let loop-test = c .before .before .before .before .before .before .before .loop-test in
+    let a = c .before .before .before .before .before .before .before .before .before .before .before .args in
+    let l = c .before .before .before .before .before .before .before .before .loop in
+    let more-bits = left-more (a .flag) (a .types .now) (a .params .now) (a .prior .now) (l .r) (loop-test .taken) in (
       omega arith,
-      wrote-length (l .header) (l .next .at) _ _ _ e ∙ l .inv .1,
-      more (a .flag) (a .types .now) (a .params .now) (a .prior .now) (l .header) (l .next .at) _ _ (l .r) (c .before .before .before .before .before .loop-test .taken) (l .inv .2) _ _ e,
+      more (a .flag) (a .types .now) (a .params .now) (a .prior .now) (l .r) (l .r + 1) (one (a .flag) (a .types .now) (a .params .now) (a .prior .now) (l .r)) more-bits
+          (l .inv .1) _ _ (c .before .before .write-reference .ensures),
     )
+
+cast-t17 : tie.Need-cast-t17 Inv-loop μ-loop
+cast-t17 c = omega (arith, c .before .identities .ensures .within, c .before .before .before .before .before .before .pre .0 .all .seven)
+
+put-requires : tie.Need-put-requires Inv-loop μ-loop
+put-requires c κs =
+    let still = c .before .before .identities in
+    let pre = c .before .before .before .before .before .before .before .pre in
+    let a = c .before .before .before .before .before .before .before .args in
+    let l = c .before .before .before .before .loop in
+    let n = still .result in
+    let run = zeros (a .flag) (a .types .now) (a .params .now) (a .prior .now) n (l .r) (still .ensures) (omega (arith, still .ensures .within, pre .0 .all .seven)) in (
+      omega (arith, still .ensures .within, pre .0 .all .seven),
+      pow-pos n,
+      rw (length-fieldBits n 0) at (ready (a .flag) (a .types .now) (a .params .now) (a .prior .now) (l .r) (l .r + n) (fieldBits n 0) run (l .inv .1) (pre .1)),
+    )
+
+add-r-2 : tie.Need-add-r-2 Inv-loop μ-loop
+add-r-2 c = omega (arith, c .before .before .before .before .before .identities .ensures .within, c .before .before .before .before .before .before .before .before .before .before .pre .0 .all .seven)
+
+loop-less-2 : tie.Need-loop-less-2 Inv-loop μ-loop
+loop-less-2 c = omega (arith, c .before .before .before .before .if1 .left, c .before .before .before .before .before .before .loop-test .taken)
+
+loop-again-2 : tie.Need-loop-again-2 Inv-loop μ-loop
+loop-again-2 c =
+    let still = c .before .before .before .before .before .identities in
+    let pre = c .before .before .before .before .before .before .before .before .before .before .pre in
+    let a = c .before .before .before .before .before .before .before .before .before .before .args in
+    let l = c .before .before .before .before .before .before .before .loop in
+    let n = still .result in
+    let run = zeros (a .flag) (a .types .now) (a .params .now) (a .prior .now) n (l .r) (still .ensures) (omega (arith, still .ensures .within, pre .0 .all .seven)) in (
+      omega (arith, still .ensures .within, pre .0 .all .seven),
+      more (a .flag) (a .types .now) (a .params .now) (a .prior .now) (l .r) (l .r + n) (fieldBits n 0) run (l .inv .1) _ _ (c .before .before .put .ensures),
+    )
+
+same-length : tie.Need-same-length Inv-loop μ-loop
+same-length c = put-length _ (c .before .loop .inv .1 .put)
 
 returns : tie.Need-returns Inv-loop μ-loop
 returns c =
     let l = c .before .loop in
     let none : 7 - l .r ≡ 0 = omega arith in
-    let w = rw none at (l .inv .2) in
-    record { at = omega (arith, w .at); buffer = sym (w .buffer) }
+    reached-last (rw none at (l .inv .1))
 
 pub write-references-spec : {M : Type 1} → statement M
 write-references-spec =
     tie.close
-    (tie.spec Inv-loop μ-loop loop-holds shared-slice-read-write-reference mul-write-reference write-reference-requires (search needs) (search needs) loop-again (search needs) returns)
+    (tie.spec Inv-loop μ-loop loop-holds identities-requires shared-slice-read-write-reference mul-write-reference write-reference-requires (search needs) (search needs) loop-again cast-t17
+    put-requires add-r-2 loop-less-2
+    loop-again-2 same-length returns)

@@ -1,26 +1,20 @@
 -- `write_type`: the field's bits are the type's.
 -- Assumes nothing.
-use mathlib.Core.Path.{_≡_}
 use native.Mathlib.Omega.{arith}
 use borrow.Author.Needs.{needs}
-use lib.ListN.{length}
-use Rattle.bits.specs.Fields.{fieldBits}
-use Rattle.bits.proofs.Buffer.{wrote-as}
-use Rattle.bits.proofs.Fields.{length-fieldBits}
+use Rattle.bits.proofs.HeldBack.{put-as, ready-field}
+use Rattle.header.specs.Writing.{typeBits}
 use Rattle.header.proofs.write_type.Statement.{statement}
 use Rattle.header.proofs.write_type.Tie as tie
 
-write-bits-requires : tie.Need-write-bits-requires
-write-bits-requires c κs =
-    let f = c .before .type-field in
-    let n : length (fieldBits (f .result .n) (f .result .value)) ≡ f .result .n = length-fieldBits (f .result .n) (f .result .value) in
-    let r = rw (← f .ensures .bits, n) at (c .before .before .before .pre) in
-    (omega (arith, f .ensures .few), r)
+put-requires : tie.Need-put-requires
+put-requires c κs =
+    let a = c .before .before .before .args in
+    let f = c .type-field in
+    (omega (arith, f .ensures .1), f .ensures .0 .low, ready-field (a .header .now) (a .pen) (f .result) (typeBits (a .gm-type)) (f .ensures .0) (c .before .before .before .pre))
 
 returns : tie.Need-returns
-returns c =
-    let f = c .before .before .before .before .type-field in
-    wrote-as (fieldBits (f .result .n) (f .result .value)) _ (f .ensures .bits) (c .before .before .write-bits .ensures)
+returns c = put-as _ _ (c .before .before .before .type-field .ensures .0 .bits) (c .before .before .put .ensures)
 
 pub write-type-spec : {M : Type 1} → statement M
-write-type-spec = tie.close (tie.spec (search needs) write-bits-requires (search needs) returns)
+write-type-spec = tie.close (tie.spec (search needs) put-requires (search needs) returns)

@@ -1,6 +1,5 @@
 -- `job_task::too_few_to_trim`: only a job that trims the type asked for is judged, by its type's least.
 -- Assumes nothing.
-use Prim.Native.Nat.{_*_}
 use native.Mathlib.Omega.{arith}
 use borrow.Author.Tests.{eq-eqb, ne-eqb}
 use borrow.Author.Needs.{needs}

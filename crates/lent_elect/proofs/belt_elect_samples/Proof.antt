@@ -10,7 +10,8 @@ use denote.Plain.{uint-makes, uint-tells, uint-lawful}
 use denote.Triple.Spec.{tripleOf}
 use denote.Triple.Table.{entered, cited}
 use Rattle.fit.specs.Inner.{taken}
-use Rattle.trim.specs.Inner.{itself, mostNumbers, samplesIn, stored}
+use Rattle.fit.specs.Sums.{itself}
+use Rattle.trim.specs.Inner.{mostNumbers, samplesIn, stored}
 use Rattle.elect.specs.Elect.{electedFrom}
 use Rattle.lent_fit.proofs.Taken.{taken-few}
 use Rattle.lent_fit.proofs.Answers.{known1}
@@ -42,6 +43,7 @@ belt-elect-samples-spec 𝓤 H 𝓜 𝓖 𝓡 =
     u8 (vint w8) (uint-tells w8) (λ x v p. uint-lawful 𝓤 H (𝓖 .A) W w8 .typed x _ p .0) (λ x. tt) (λ x f. refl) R.the-type R′.the-laws
     taken taken-few stored (λ flag numbers n. electedFrom itself flag (samplesIn numbers n)) (λ flag ys. electedFrom itself flag ys) (λ flag ys. elected-answered flag ys)
     𝓤 H (𝓖 .A) W (uint-makes 𝓤 H (𝓖 .A) W w8) 𝓣
-    (known1 𝓤 H (𝓖 .A) W C fm taken-def.name usize usize taken (uint-makes 𝓤 H (𝓖 .A) W w64) (cited 𝓤 H _ 𝓜 𝓡 code.env taken-def.name taken-def.routine code.calls-fit·list-taken (taken-thm.met 𝓤 H 𝓜 𝓖 𝓡)))
+    (known1 𝓤 H (𝓖 .A) W C fm taken-def.name usize usize taken (uint-makes 𝓤 H (𝓖 .A) W w64)
+    (cited 𝓤 H _ 𝓜 𝓡 code.env taken-def.name taken-def.routine code.calls-fit·list-taken (taken-thm.met 𝓤 H 𝓜 𝓖 𝓡)))
     (cited 𝓤 H _ 𝓜 𝓡 code.env store-def.name store-def.routine code.calls-trim·store (store-thm.met 𝓤 H 𝓜 𝓖 𝓡))
     (cited 𝓤 H _ 𝓜 𝓡 code.env ends-def.name ends-def.routine code.calls-elect·elected-in (ends-thm.met 𝓤 H 𝓜 𝓖 𝓡)))

@@ -14,11 +14,10 @@ use mathlib.Core.List.{List}
 use lib.ListN.{length}
 use Rattle.sample.specs.declared.MotionSample.{MotionSample}
 use Rattle.fit.specs.declared.TranslationSums.{TranslationSums}
-use Rattle.fit.specs.Sums.{noSums, countAs, translationTotals}
+use Rattle.fit.specs.Sums.{noSums, countAs, translationTotals, itself}
 use Rattle.fit.specs.Fitted.{fitAnswer, translationOf, translationFrom}
 use Rattle.fit.proofs.Sums.{translation-sums}
 use Rattle.fit_numbers.specs.Numbers.{numbersOf}
-use Rattle.lent_fit.specs.Samples.{itself}
 use Rattle.lent_fit.proofs.Taken.{taken-few, fit-answered}
 use Rattle.fit.specs.Inner.{taken, translationStep}
 use Rattle.lent_fit.proofs.Answers.{known0, known1, known2}
@@ -60,9 +59,12 @@ belt-fit-translation-samples-spec 𝓤 H 𝓜 𝓖 𝓡 =
     taken taken-few (translationTotals noSums) translationStep (λ t n. numbersOf (fitAnswer n (translationOf t (countAs n)))) (λ ys. numbersOf (fitAnswer (length ys) (translationFrom itself ys)))
     (fit-answered translationStep (translationTotals noSums) translationOf (translationFrom itself) sums)
     𝓤 H (𝓖 .A) W 𝓣
-    (known1 𝓤 H (𝓖 .A) W C fm taken-def.name usize usize taken (uint-makes 𝓤 H (𝓖 .A) W w64) (cited 𝓤 H _ 𝓜 𝓡 code.env taken-def.name taken-def.routine code.calls-fit·list-taken (taken-thm.met 𝓤 H 𝓜 𝓖 𝓡)))
-    (known0 𝓤 H (𝓖 .A) W C fm begin-def.name S.the-row (translationTotals noSums) (cited 𝓤 H _ 𝓜 𝓡 code.env begin-def.name begin-def.routine code.calls-fit·translation-begin (begin-thm.met 𝓤 H 𝓜 𝓖 𝓡)))
+    (known1 𝓤 H (𝓖 .A) W C fm taken-def.name usize usize taken (uint-makes 𝓤 H (𝓖 .A) W w64)
+    (cited 𝓤 H _ 𝓜 𝓡 code.env taken-def.name taken-def.routine code.calls-fit·list-taken (taken-thm.met 𝓤 H 𝓜 𝓖 𝓡)))
+    (known0 𝓤 H (𝓖 .A) W C fm begin-def.name S.the-row (translationTotals noSums)
+    (cited 𝓤 H _ 𝓜 𝓡 code.env begin-def.name begin-def.routine code.calls-fit·translation-begin (begin-thm.met 𝓤 H 𝓜 𝓖 𝓡)))
     (known2 𝓤 H (𝓖 .A) W C fm step-def.name S.the-row P.the-row S.the-row translationStep (LL.makes S.the-type S′.the-plain 𝓤 H (𝓖 .A)) (LL.makes P.the-type P′.the-plain 𝓤 H (𝓖 .A))
     (cited 𝓤 H _ 𝓜 𝓡 code.env step-def.name step-def.routine code.calls-fit·translation-step (step-thm.met 𝓤 H 𝓜 𝓖 𝓡)))
-    (known2 𝓤 H (𝓖 .A) W C fm ends-def.name S.the-row usize R.the-row (λ t n. numbersOf (fitAnswer n (translationOf t (countAs n)))) (LL.makes S.the-type S′.the-plain 𝓤 H (𝓖 .A)) (uint-makes 𝓤 H (𝓖 .A) W w64)
+    (known2 𝓤 H (𝓖 .A) W C fm ends-def.name S.the-row usize R.the-row (λ t n. numbersOf (fitAnswer n (translationOf t (countAs n))))
+    (LL.makes S.the-type S′.the-plain 𝓤 H (𝓖 .A)) (uint-makes 𝓤 H (𝓖 .A) W w64)
     (cited 𝓤 H _ 𝓜 𝓡 code.env ends-def.name ends-def.routine code.calls-lent-fit·translation-answer (ends-thm.met 𝓤 H 𝓜 𝓖 𝓡))))

@@ -10,9 +10,9 @@ use denote.Struct.Laws as LL
 use denote.Triple.Spec.{tripleOf}
 use denote.Triple.Table.{entered, cited}
 use Rattle.fit.specs.Inner.{taken}
+use Rattle.fit.specs.Sums.{itself}
 use Rattle.score.specs.Score.{continuousModel, scoreOf, scored}
 use Rattle.score.specs.Inner.{scoringStep}
-use Rattle.lent_fit.specs.Samples.{itself}
 use Rattle.lent_fit.specs.Inner.{scoringOf}
 use Rattle.lent_fit.proofs.Scored.{score-answered}
 use Rattle.lent_fit.proofs.Taken.{taken-few}
@@ -52,8 +52,10 @@ belt-mean-sq-residual-samples-spec 𝓤 H 𝓜 𝓖 𝓡 =
     A.the-type A′.the-laws A′.the-plain (λ x. tt) (λ x f. refl) S.the-type S′.the-laws R.the-type R′.the-laws
     taken taken-few scoringOf scoringStep (λ t n. scoreOf (t .acc) n) (λ p ys. scored itself (continuousModel (p .numbers)) ys) score-answered
     𝓤 H (𝓖 .A) W 𝓣
-    (known1 𝓤 H (𝓖 .A) W C fm taken-def.name usize usize taken (uint-makes 𝓤 H (𝓖 .A) W w64) (cited 𝓤 H _ 𝓜 𝓡 code.env taken-def.name taken-def.routine code.calls-fit·list-taken (taken-thm.met 𝓤 H 𝓜 𝓖 𝓡)))
-    (known1 𝓤 H (𝓖 .A) W C fm begin-def.name A.the-row S.the-row scoringOf (LL.makes A.the-type A′.the-plain 𝓤 H (𝓖 .A)) (cited 𝓤 H _ 𝓜 𝓡 code.env begin-def.name begin-def.routine code.calls-lent-fit·scoring-of (begin-thm.met 𝓤 H 𝓜 𝓖 𝓡)))
+    (known1 𝓤 H (𝓖 .A) W C fm taken-def.name usize usize taken (uint-makes 𝓤 H (𝓖 .A) W w64)
+    (cited 𝓤 H _ 𝓜 𝓡 code.env taken-def.name taken-def.routine code.calls-fit·list-taken (taken-thm.met 𝓤 H 𝓜 𝓖 𝓡)))
+    (known1 𝓤 H (𝓖 .A) W C fm begin-def.name A.the-row S.the-row scoringOf (LL.makes A.the-type A′.the-plain 𝓤 H (𝓖 .A))
+    (cited 𝓤 H _ 𝓜 𝓡 code.env begin-def.name begin-def.routine code.calls-lent-fit·scoring-of (begin-thm.met 𝓤 H 𝓜 𝓖 𝓡)))
     (known2 𝓤 H (𝓖 .A) W C fm step-def.name S.the-row P.the-row S.the-row scoringStep (LL.makes S.the-type S′.the-plain 𝓤 H (𝓖 .A)) (LL.makes P.the-type P′.the-plain 𝓤 H (𝓖 .A))
     (cited 𝓤 H _ 𝓜 𝓡 code.env step-def.name step-def.routine code.calls-score·scoring-step (step-thm.met 𝓤 H 𝓜 𝓖 𝓡)))
     (known2 𝓤 H (𝓖 .A) W C fm ends-def.name S.the-row usize R.the-row (λ t n. scoreOf (t .acc) n) (LL.makes S.the-type S′.the-plain 𝓤 H (𝓖 .A)) (uint-makes 𝓤 H (𝓖 .A) W w64)

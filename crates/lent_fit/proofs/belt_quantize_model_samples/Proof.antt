@@ -10,10 +10,10 @@ use denote.Struct.Laws as LL
 use denote.Triple.Spec.{tripleOf}
 use denote.Triple.Table.{entered, cited}
 use Rattle.fit.specs.Inner.{taken}
+use Rattle.fit.specs.Sums.{itself}
 use Rattle.fit_numbers.specs.Numbers.{fittedOf}
 use Rattle.quantize.specs.Quantize.{quantizedFrom}
 use Rattle.quantize.specs.Inner.{refittingStep, refittingEnds}
-use Rattle.lent_fit.specs.Samples.{itself}
 use Rattle.lent_fit.specs.Inner.{refittingOf}
 use Rattle.lent_fit.proofs.Quantized.{quantize-answered}
 use Rattle.lent_fit.proofs.Taken.{taken-few}
@@ -51,10 +51,13 @@ belt-quantize-model-samples-spec 𝓤 H 𝓜 𝓖 𝓡 =
     (tables 𝓤 H 𝓜 𝓡 code.env .C) (tables 𝓤 H 𝓜 𝓡 code.env .Λ) #walk code.function (code.unfolded 𝓤 H 𝓜 𝓡)
     (meets taken-def.name begin-def.name step-def.name ends-def.name
     A.the-type A′.the-laws A′.the-plain (λ x. tt) (λ x f. refl) S.the-type S′.the-laws R.the-type R′.the-laws
-    taken taken-few refittingOf refittingStep refittingEnds (λ p ys. quantizedFrom itself (fittedOf (p .kind) (p .numbers)) (p .flag) ys) (λ p ys. quantize-answered (fittedOf (p .kind) (p .numbers)) (p .flag) ys)
+    taken taken-few refittingOf refittingStep refittingEnds (λ p ys. quantizedFrom itself (fittedOf (p .kind) (p .numbers)) (p .flag) ys)
+    (λ p ys. quantize-answered (fittedOf (p .kind) (p .numbers)) (p .flag) ys)
     𝓤 H (𝓖 .A) W 𝓣
-    (known1 𝓤 H (𝓖 .A) W C fm taken-def.name usize usize taken (uint-makes 𝓤 H (𝓖 .A) W w64) (cited 𝓤 H _ 𝓜 𝓡 code.env taken-def.name taken-def.routine code.calls-fit·list-taken (taken-thm.met 𝓤 H 𝓜 𝓖 𝓡)))
-    (known1 𝓤 H (𝓖 .A) W C fm begin-def.name A.the-row S.the-row refittingOf (LL.makes A.the-type A′.the-plain 𝓤 H (𝓖 .A)) (cited 𝓤 H _ 𝓜 𝓡 code.env begin-def.name begin-def.routine code.calls-lent-fit·refitting-of (begin-thm.met 𝓤 H 𝓜 𝓖 𝓡)))
+    (known1 𝓤 H (𝓖 .A) W C fm taken-def.name usize usize taken (uint-makes 𝓤 H (𝓖 .A) W w64)
+    (cited 𝓤 H _ 𝓜 𝓡 code.env taken-def.name taken-def.routine code.calls-fit·list-taken (taken-thm.met 𝓤 H 𝓜 𝓖 𝓡)))
+    (known1 𝓤 H (𝓖 .A) W C fm begin-def.name A.the-row S.the-row refittingOf (LL.makes A.the-type A′.the-plain 𝓤 H (𝓖 .A))
+    (cited 𝓤 H _ 𝓜 𝓡 code.env begin-def.name begin-def.routine code.calls-lent-fit·refitting-of (begin-thm.met 𝓤 H 𝓜 𝓖 𝓡)))
     (known2 𝓤 H (𝓖 .A) W C fm step-def.name S.the-row P.the-row S.the-row refittingStep (LL.makes S.the-type S′.the-plain 𝓤 H (𝓖 .A)) (LL.makes P.the-type P′.the-plain 𝓤 H (𝓖 .A))
     (cited 𝓤 H _ 𝓜 𝓡 code.env step-def.name step-def.routine code.calls-quantize·refitting-step (step-thm.met 𝓤 H 𝓜 𝓖 𝓡)))
     (known2 𝓤 H (𝓖 .A) W C fm ends-def.name S.the-row usize R.the-row refittingEnds (LL.makes S.the-type S′.the-plain 𝓤 H (𝓖 .A)) (uint-makes 𝓤 H (𝓖 .A) W w64)

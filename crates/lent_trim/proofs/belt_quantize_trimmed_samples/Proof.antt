@@ -10,8 +10,9 @@ use denote.Struct.Laws as LL
 use denote.Triple.Spec.{tripleOf}
 use denote.Triple.Table.{entered, cited}
 use Rattle.fit.specs.Inner.{taken}
+use Rattle.fit.specs.Sums.{itself}
 use Rattle.trim.specs.Trim.{trimmedModelFrom}
-use Rattle.trim.specs.Inner.{itself, mostNumbers, samplesIn, stored}
+use Rattle.trim.specs.Inner.{mostNumbers, samplesIn, stored}
 use Rattle.lent_fit.proofs.Taken.{taken-few}
 use Rattle.lent_fit.proofs.Answers.{known1}
 use Rattle.lent_trim.proofs.Walk.{meets}
@@ -42,8 +43,10 @@ belt-quantize-trimmed-samples-spec 𝓤 H 𝓜 𝓖 𝓡 =
     (tables 𝓤 H 𝓜 𝓡 code.env .C) (tables 𝓤 H 𝓜 𝓡 code.env .Λ) #walk code.function (code.unfolded 𝓤 H 𝓜 𝓡)
     (meets mostNumbers taken-def.name store-def.name ends-def.name
     A.the-row (LL.val A.the-type A′.the-laws) (LL.tells A.the-type A′.the-laws) (λ x v p. LL.lawful A.the-type A′.the-laws 𝓤 H (𝓖 .A) W .typed x _ p .0) (λ x. tt) (λ x f. refl) R.the-type R′.the-laws
-    taken taken-few stored (λ p numbers n. trimmedModelFrom itself (p .kind) (p .flag) (samplesIn numbers n)) (λ p ys. trimmedModelFrom itself (p .kind) (p .flag) ys) (λ p ys. model-answered (p .kind) (p .flag) ys)
+    taken taken-few stored (λ p numbers n. trimmedModelFrom itself (p .kind) (p .flag) (samplesIn numbers n))
+    (λ p ys. trimmedModelFrom itself (p .kind) (p .flag) ys) (λ p ys. model-answered (p .kind) (p .flag) ys)
     𝓤 H (𝓖 .A) W (LL.makes A.the-type A′.the-plain 𝓤 H (𝓖 .A)) 𝓣
-    (known1 𝓤 H (𝓖 .A) W C fm taken-def.name usize usize taken (uint-makes 𝓤 H (𝓖 .A) W w64) (cited 𝓤 H _ 𝓜 𝓡 code.env taken-def.name taken-def.routine code.calls-fit·list-taken (taken-thm.met 𝓤 H 𝓜 𝓖 𝓡)))
+    (known1 𝓤 H (𝓖 .A) W C fm taken-def.name usize usize taken (uint-makes 𝓤 H (𝓖 .A) W w64)
+    (cited 𝓤 H _ 𝓜 𝓡 code.env taken-def.name taken-def.routine code.calls-fit·list-taken (taken-thm.met 𝓤 H 𝓜 𝓖 𝓡)))
     (cited 𝓤 H _ 𝓜 𝓡 code.env store-def.name store-def.routine code.calls-trim·store (store-thm.met 𝓤 H 𝓜 𝓖 𝓡))
     (cited 𝓤 H _ 𝓜 𝓡 code.env ends-def.name ends-def.routine code.calls-lent-trim·model-answer (ends-thm.met 𝓤 H 𝓜 𝓖 𝓡)))

@@ -6,7 +6,7 @@ use native.Mathlib.Omega.{arith}
 use lib.ListN.{length, length-set}
 use borrow.Author.Needs.{needs}
 use Rattle.laws.specs.Buffer.{onto}
-use Rattle.plane.specs.Plane.{listing}
+use Rattle.laws.specs.Parts.{listing}
 use Rattle.plane.specs.Inner.{rowPel}
 use Rattle.plane.proofs.Listing.{listing-more, listing-all}
 use Rattle.plane.proofs.clamped_row.Statement.{statement}
@@ -26,7 +26,8 @@ loop-again : tie.Need-loop-again Inv-loop μ-loop
 loop-again c =
     let a = c .before .before .before .before .before .before .args in (
       omega arith,
-      listing-more (rowPel (a .plane .now) (a .place) (a .by) (a .bias)) (a .out .now) (c .before .before .before .loop .b) (omega arith) (c .before .before .before .loop .inv .1) (c .displaced .ensures),
+      listing-more (rowPel (a .plane .now) (a .place) (a .by) (a .bias)) (a .out .now) (c .before .before .before .loop .b)
+          (omega arith) (c .before .before .before .loop .inv .1) (c .displaced .ensures),
       simp length-set (c .before .before .before .loop .inv .2),
     )
 

@@ -6,7 +6,7 @@ use native.Mathlib.Omega.{arith}
 use lib.ListN.{length, getD, length-set}
 use borrow.Author.Needs.{needs}
 use Rattle.laws.specs.Buffer.{onto}
-use Rattle.plane.specs.Plane.{listing}
+use Rattle.laws.specs.Parts.{listing}
 use Rattle.plane.proofs.Listing.{listing-more, listing-all}
 use Rattle.plane.proofs.copy.Statement.{statement}
 use Rattle.plane.proofs.copy.Tie as tie
@@ -24,7 +24,8 @@ loop-holds c = (omega arith, refl, refl)
 loop-again : tie.Need-loop-again Inv-loop μ-loop
 loop-again c = (
   omega arith,
-  listing-more (λ i. getD (c .before .before .before .args .row .now) i 0) (c .before .before .before .args .out .now) (c .before .before .loop .b) (omega arith) (c .before .before .loop .inv .1) refl,
+  listing-more (λ i. getD (c .before .before .before .args .row .now) i 0) (c .before .before .before .args .out .now)
+      (c .before .before .loop .b) (omega arith) (c .before .before .loop .inv .1) refl,
   simp length-set (c .before .before .loop .inv .2),
 )
 

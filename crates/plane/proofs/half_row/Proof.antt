@@ -6,7 +6,7 @@ use native.Mathlib.Omega.{arith}
 use lib.ListN.{length, length-set}
 use borrow.Author.Needs.{needs}
 use Rattle.laws.specs.Buffer.{onto}
-use Rattle.plane.specs.Plane.{listing}
+use Rattle.laws.specs.Parts.{listing}
 use Rattle.plane.specs.Inner.{halfOfRows}
 use Rattle.plane.proofs.Listing.{listing-more, listing-all}
 use Rattle.plane.proofs.half_row.Statement.{statement}

@@ -4,8 +4,9 @@ use Prim.Native.Nat.{_+_, _*_, _/_, _-_}
 use mathlib.Core.Path.{_∙_}
 use lib.ListN.{length, take, drop}
 use borrow.Author.Needs.{needs}
+use Rattle.laws.proofs.Filling.{length-listing}
 use Rattle.plane.specs.Plane.{halfPel}
-use Rattle.plane.proofs.Listing.{length-listing, part-back, part-length}
+use Rattle.plane.proofs.Listing.{part-back, part-length}
 use Rattle.plane.proofs.Halves.{half-row-is}
 use Rattle.plane.proofs.halve_row.Statement.{statement}
 use Rattle.plane.proofs.halve_row.Tie as tie

@@ -3,9 +3,10 @@
 use Prim.Native.Nat.{ℕ, _*_}
 use mathlib.Core.Path.{ap, _∙_}
 use borrow.Author.Needs.{needs}
-use Rattle.plane.specs.Plane.{listing}
+use Rattle.laws.specs.Parts.{listing}
+use Rattle.laws.proofs.Filling.{length-listing}
 use Rattle.plane.specs.Inner.{windowPel}
-use Rattle.plane.proofs.Listing.{length-listing, part-back, part-length}
+use Rattle.plane.proofs.Listing.{part-back, part-length}
 use Rattle.plane.proofs.place_row.Statement.{statement}
 use Rattle.plane.proofs.place_row.Tie as tie
 

@@ -48,7 +48,8 @@ loop-again : tie.Need-loop-again Inv-loop μ-loop
 loop-again c =
     let a = c .before .before .before .before .before .before .before .before .args in (
       omega arith,
-      c .before .before .place-row .ensures ∙ rowByRow-more (windowPel (a .plane .now) (a .place) (a .by) (a .bias)) (a .side) (c .before .before .before .before .before .loop .a) (a .out .now) (c .before .before .before .before .before .loop .inv .1),
+      c .before .before .place-row .ensures ∙ rowByRow-more (windowPel (a .plane .now) (a .place) (a .by) (a .bias)) (a .side)
+          (c .before .before .before .before .before .loop .a) (a .out .now) (c .before .before .before .before .before .loop .inv .1),
       c .before .before .place-row .kept .1 .1 .1 .1 .1 .1 .0 ∙ c .before .before .before .before .before .loop .inv .2,
     )
 

@@ -11,7 +11,8 @@ returns : tie.Need-returns
 returns c =
     let a = c .before .before .before .before .before .before .before .before .before .before .before .before .before .before .before .args in
     c .before .before .copy .ensures
-    ∙ row-inside (a .plane .now) (a .place) (a .by) (a .bias) (length (a .out .now)) (c .before .before .before .before .before .displaced-start .result) (c .before .before .before .before .before .displaced-start .ensures)
+    ∙ row-inside (a .plane .now) (a .place) (a .by) (a .bias) (length (a .out .now))
+    (c .before .before .before .before .before .displaced-start .result) (c .before .before .before .before .before .displaced-start .ensures)
     (record { left = c .before .before .before .before .before .before .before .before .before .before .if1 .taken; right = c .before .before .before .before .before .before .if2 .taken })
 
 returns-2 : tie.Need-returns-2

@@ -7,7 +7,7 @@ use native.Mathlib.Omega.{arith}
 use lib.ListN.{length, length-set}
 use borrow.Author.Needs.{needs}
 use Rattle.laws.specs.Buffer.{onto}
-use Rattle.plane.specs.Plane.{listing}
+use Rattle.laws.specs.Parts.{listing}
 use Rattle.plane.proofs.Listing.{listing-more}
 use Rattle.plane.proofs.Clamped.{plane-small}
 use Rattle.practice.specs.Generator.{times, next, noise, upperHalf}

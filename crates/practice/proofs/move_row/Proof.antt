@@ -6,7 +6,7 @@ use native.Mathlib.Omega.{arith}
 use lib.ListN.{length, length-set}
 use borrow.Author.Needs.{needs}
 use Rattle.laws.specs.Buffer.{onto}
-use Rattle.plane.specs.Plane.{listing}
+use Rattle.laws.specs.Parts.{listing}
 use Rattle.plane.proofs.Listing.{listing-more, listing-all}
 use Rattle.practice.specs.Inner.{moved}
 use Rattle.practice.proofs.move_row.Statement.{statement}

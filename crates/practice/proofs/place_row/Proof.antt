@@ -1,17 +1,18 @@
 -- `place_row`: a row ends within its plane, so that nothing wraps, and it comes back as a part of the buffer.
 -- Assumes nothing.
-use Prim.Native.Nat.{ℕ, _+_, _*_, _-_, _≤_}
+use Prim.Native.Nat.{ℕ, _+_, _*_, _≤_}
 use mathlib.Core.List.{List}
 use mathlib.Core.Path.{sym, ap, _∙_}
 use native.Mathlib.Omega.{arith}
 use lib.ListN.{length}
 use borrow.Author.Needs.{needs}
 use Rattle.laws.proofs.Products.{row-fits}
+use Rattle.laws.proofs.Filling.{length-listing}
+use Rattle.laws.specs.Parts.{listing}
 use Rattle.plane.specs.declared.Offset.{Offset}
 use Rattle.plane.specs.declared.Place.{Place}
-use Rattle.plane.specs.Plane.{listing}
 use Rattle.plane.proofs.Clamped.{plane-small}
-use Rattle.plane.proofs.Listing.{length-listing, part-back, part-length}
+use Rattle.plane.proofs.Listing.{part-back, part-length}
 use Rattle.practice.specs.Inner.{MovedRow, moved}
 use Rattle.practice.proofs.place_row.Statement.{statement}
 use Rattle.practice.proofs.place_row.Tie as tie

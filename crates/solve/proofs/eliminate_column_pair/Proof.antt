@@ -19,9 +19,11 @@ returns-2 c =
     let test = c .before .before .before .before .before .before .before .before in
     let e = test .before .before .before .before .before .args in
     let pivot = test .before .before .before .pivot-of in
-    let exchange = c .before .before .before .before .exchange-pair .ensures in (
-      column-passed (e .size) (e .col) (pivot .result) (system (e .a .now) (e .b .now)) (pivot .ensures .0) (test .before .too-small .ensures) (test .if1 .left) (exchange .0) (c .reduce-below-pair .ensures .0),
-      column-passed (e .size) (e .col) (pivot .result) (system (e .a .now) (e .c .now)) (pivot .ensures .0) (test .before .too-small .ensures) (test .if1 .left) (exchange .1) (c .reduce-below-pair .ensures .1),
+    let small = test .before .too-small .ensures in
+    let exchange = c .before .before .before .before .exchange-pair .ensures in
+    let reduce = c .reduce-below-pair .ensures in (
+      column-passed (e .size) (e .col) (pivot .result) (system (e .a .now) (e .b .now)) (pivot .ensures .0) small (test .if1 .left) (exchange .0) (reduce .0),
+      column-passed (e .size) (e .col) (pivot .result) (system (e .a .now) (e .c .now)) (pivot .ensures .0) small (test .if1 .left) (exchange .1) (reduce .1),
     )
 
 pub eliminate-column-pair-spec : {M : Type 1} → statement M

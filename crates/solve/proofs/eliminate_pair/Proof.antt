@@ -1,18 +1,23 @@
 -- `solve::eliminate_pair`: as with one right side, for each of the two: a refusal is the matrix's.
 -- Assumes nothing.
-use Prim.Native.Nat.{_-_}
+use Prim.Native.Nat.{ℕ, _-_}
 use Rattle.laws.proofs.Loops.{done}
 use Rattle.laws.specs.Loops.{run}
 use mathlib.Core.Path.{_≡_, refl}
+use Rattle.solve.specs.declared.System.{System}
 use Rattle.solve.specs.declared.Outcome.the-variants.{Solved}
-use Rattle.solve.specs.Elimination.{system, eliminating, columnStep, eliminated}
+use Rattle.solve.specs.Elimination.{Elimination, system, eliminating, columnStep, eliminated}
 use Rattle.solve.proofs.Rows.{column-next, column-last}
 use borrow.Author.Needs.{needs}
 use Rattle.solve.proofs.eliminate_pair.Statement.{statement}
 use Rattle.solve.proofs.eliminate_pair.Tie as tie
 
+-- the columns from one on
+abbrev left : ℕ → ℕ → System → Elimination
+left size col s = run (columnStep size) col size (eliminating s Solved)
+
 abbrev Inv-loop : tie.InvT-loop
-Inv-loop size a₀ b₀ c₀ col₀ a b c col = (run (columnStep size) col size (eliminating (system a b) Solved) ≡ run (columnStep size) col₀ size (eliminating (system a₀ b₀) Solved)) × (run (columnStep size) col size (eliminating (system a c) Solved) ≡ run (columnStep size) col₀ size (eliminating (system a₀ c₀) Solved))
+Inv-loop size a₀ b₀ c₀ col₀ a b c col = (left size col (system a b) ≡ left size col₀ (system a₀ b₀)) × (left size col (system a c) ≡ left size col₀ (system a₀ c₀))
 
 abbrev μ-loop : tie.MeasureT-loop
 μ-loop size a₀ b₀ c₀ col₀ a b c col = size - col

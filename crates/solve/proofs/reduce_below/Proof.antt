@@ -24,7 +24,8 @@ loop-again c =
     let l = c .before .before .before .before .before in
     let e = l .before .args in
     let row = c .before .before .reduce-row .ensures in
-    again (reduceRow (e .size) (e .col)) (c .before .before .before .before .loop-test .taken) (row-reduced (e .size) (e .col) (l .loop .row) (l .loop .a) (l .loop .b) (row .0) (row .1) (c .reduce-right .ensures)) (l .loop .inv)
+    let step = row-reduced (e .size) (e .col) (l .loop .row) (l .loop .a) (l .loop .b) (row .0) (row .1) (c .reduce-right .ensures) in
+    again (reduceRow (e .size) (e .col)) (c .before .before .before .before .loop-test .taken) step (l .loop .inv)
 
 returns : tie.Need-returns Inv-loop μ-loop
 unfolding reduced

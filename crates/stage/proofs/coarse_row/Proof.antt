@@ -19,15 +19,21 @@ loop-holds : tie.Need-loop-holds Inv-loop μ-loop
 loop-holds c = (begins _ _ _ _ _ (omega arith) (omega arith), omega arith)
 
 coarse-candidate-requires : tie.Need-coarse-candidate-requires Inv-loop μ-loop
-coarse-candidate-requires c κs =
-    (c .before .before .before .before .pre .0, ((c .before .before .before .before .pre .1 .0, c .loop-test .taken), omega (arith, c .before .loop .inv .1, c .before .before .before .before .pre .1 .1, c .before .before .before .before .pre .1 .0)))
+coarse-candidate-requires c κs = (
+  c .before .before .before .before .pre .0,
+  (
+    (c .before .before .before .before .pre .1 .0, c .loop-test .taken),
+    omega (arith, c .before .loop .inv .1, c .before .before .before .before .pre .1 .1, c .before .before .before .before .pre .1 .0),
+  ),
+)
 
 loop-less : tie.Need-loop-less Inv-loop μ-loop
 loop-less c = omega arith
 
 loop-again : tie.Need-loop-again Inv-loop μ-loop
 loop-again c = (
-  goes-on (c .before .before .before .before .before .args .y * 25 + (c .before .before .loop .x + 1)) (c .before .before .loop .inv .0) (omega arith) (omega arith) (c .coarse-candidate .ensures .same),
+  goes-on (c .before .before .before .before .before .args .y * 25 + (c .before .before .loop .x + 1))
+      (c .before .before .loop .inv .0) (omega arith) (omega arith) (c .coarse-candidate .ensures .same),
   omega (arith, c .coarse-candidate .ensures .few, c .before .before .loop .inv .1),
 )
 

@@ -21,8 +21,16 @@ loop-holds : tie.Need-loop-holds Inv-loop μ-loop
 loop-holds c = (begins _ _ _ _ _ (omega arith) (omega arith), omega arith)
 
 eighths-candidate-requires : tie.Need-eighths-candidate-requires Inv-loop μ-loop
-eighths-candidate-requires c κs =
-    (c .before .before .before .before .pre .0, (c .before .before .before .before .pre .1 .0, (c .before .before .before .before .pre .1 .1 .0, (c .loop-test .taken, omega (arith, c .before .loop .inv .0 .within, c .before .loop .inv .1, c .before .before .before .before .pre .1 .1 .1)))))
+eighths-candidate-requires c κs = (
+  c .before .before .before .before .pre .0,
+  (
+    c .before .before .before .before .pre .1 .0,
+    (
+      c .before .before .before .before .pre .1 .1 .0,
+      (c .loop-test .taken, omega (arith, c .before .loop .inv .0 .within, c .before .loop .inv .1, c .before .before .before .before .pre .1 .1 .1)),
+    ),
+  ),
+)
 
 loop-less : tie.Need-loop-less Inv-loop μ-loop
 loop-less c = omega arith

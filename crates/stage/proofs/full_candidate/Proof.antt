@@ -13,7 +13,8 @@ returns c =
 returns-2 : tie.Need-returns-2
 returns-2 c =
     let a = c .before .before .before .before .before .before .before .before .args in
-    full-next (a .block .now) (a .window .now) (a .best) (a .centre) (a .k) (c .before .before .before .before .before .if1 .left) (c .before .before .offset-cost .ensures .same) (c .before .sad-int .ensures) (c .better .ensures)
+    full-next (a .block .now) (a .window .now) (a .best) (a .centre) (a .k) (c .before .before .before .before .before .if1 .left)
+    (c .before .before .offset-cost .ensures .same) (c .before .sad-int .ensures) (c .better .ensures)
 
 pub full-candidate-spec : {M : Type 1} → statement M
 full-candidate-spec =

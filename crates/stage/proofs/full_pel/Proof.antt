@@ -23,7 +23,13 @@ loop-holds : tie.Need-loop-holds Inv-loop μ-loop
 loop-holds c = (begins _ _ _ _ _ (omega arith) (omega arith), omega (arith, c .sad-int .ensures .few))
 
 full-candidate-requires : tie.Need-full-candidate-requires Inv-loop μ-loop
-full-candidate-requires c κs = (c .before .before .before .before .before .pre .0, (c .before .before .before .before .before .pre .1, (c .loop-test .taken, omega (arith, c .before .loop .inv .0 .within, c .before .loop .inv .1))))
+full-candidate-requires c κs = (
+  c .before .before .before .before .before .pre .0,
+  (
+    c .before .before .before .before .before .pre .1,
+    (c .loop-test .taken, omega (arith, c .before .loop .inv .0 .within, c .before .loop .inv .1)),
+  ),
+)
 
 loop-less : tie.Need-loop-less Inv-loop μ-loop
 loop-less c = omega arith
@@ -43,7 +49,8 @@ returns c =
     ∙ ap (run (fullTurn (a .centre) (a .block .now) (a .window .now)) 0 49)
     (start-whole (windowCosts 16 24 (a .block .now) (a .window .now) 4 4) 16 (a .centre .y) (a .centre .x) (c .before .before .sad-int .ensures)) in (
       record { same = e; few = omega (arith, c .before .loop .inv .0 .within, c .before .loop .inv .1) },
-      subst (λ (b : Best). Lies 3 (a .centre .y) (a .centre .x) (b .y) (b .x)) (sym e) (fullPelIn-lies (a .centre) (a .block .now) (a .window .now) (c .before .before .before .before .before .pre .1)),
+      subst (λ (b : Best). Lies 3 (a .centre .y) (a .centre .x) (b .y) (b .x)) (sym e)
+          (fullPelIn-lies (a .centre) (a .block .now) (a .window .now) (c .before .before .before .before .before .pre .1)),
     )
 
 pub full-pel-spec : {M : Type 1} → statement M

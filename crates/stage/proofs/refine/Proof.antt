@@ -40,7 +40,13 @@ eighths-step-requires-3 c κs =
     let d = c .eighths-step2 .result in
     let s = steady-after 3 4 (a .corner) (a .start .y) (a .start .x) (b .y) (b .x) (p .1 .1) (c .before .eighths-step .ensures .1) in (
       p .0,
-      (p .1 .0, (steady-after 1 2 (a .corner) (b .y) (b .x) (d .y) (d .x) s (c .eighths-step2 .ensures .1), omega (arith, c .eighths-step2 .ensures .0 .few, c .before .eighths-step .ensures .0 .few, c .before .before .sad-subpel .ensures .few))),
+      (
+        p .1 .0,
+        (
+          steady-after 1 2 (a .corner) (b .y) (b .x) (d .y) (d .x) s (c .eighths-step2 .ensures .1),
+          omega (arith, c .eighths-step2 .ensures .0 .few, c .before .eighths-step .ensures .0 .few, c .before .before .sad-subpel .ensures .few),
+        ),
+      ),
     )
 
 returns : tie.Need-returns
@@ -56,7 +62,14 @@ returns c =
             (c .before .before .eighths-step .ensures .0 .same)
             (c .before .eighths-step2 .ensures .0 .same)
             (c .eighths-step3 .ensures .0 .same);
-        few = omega (arith, c .eighths-step3 .ensures .0 .few, c .before .eighths-step2 .ensures .0 .few, c .before .before .eighths-step .ensures .0 .few, c .before .before .before .sad-subpel .ensures .few);
+        few =
+            omega (
+              arith,
+              c .eighths-step3 .ensures .0 .few,
+              c .before .eighths-step2 .ensures .0 .few,
+              c .before .before .eighths-step .ensures .0 .few,
+              c .before .before .before .sad-subpel .ensures .few,
+            );
       },
       lies-after 6 1 (a .start .y) (a .start .x) (d .y) (d .x) (f .y) (f .x)
           (lies-after 4 2 (a .start .y) (a .start .x) (b .y) (b .x) (d .y) (d .x) (c .before .before .eighths-step .ensures .1) (c .before .eighths-step2 .ensures .1)) (c .eighths-step3 .ensures .1),

@@ -2,9 +2,8 @@
 -- Assumes nothing.
 use borrow.Author.Needs.{needs}
 use Prim.Native.Nat.{_-_}
-use mathlib.Core.Path.{_≡_, refl, sym, _∙_, subst}
+use mathlib.Core.Path.{_≡_, refl, sym, subst}
 use lib.ListN.{length, take}
-use Rattle.tally.specs.declared.Fields.{Fields}
 use Rattle.tally.specs.Tally.{countOver, fieldTotals}
 use Rattle.tally.specs.Inner.{SmallFields, fieldsStep}
 use Rattle.tally.proofs.Counted.{all-words, one-more, all-counted, part-small, counted-small, fields-small}
@@ -24,13 +23,16 @@ fields-step-requires : tie.Need-fields-step-requires Inv-loop μ-loop
 fields-step-requires c κs =
     let a = c .before .before .before .before .before .args in
     let l = c .before .before .loop in
-    let words = all-words (a .words .now) (c .before .before .before .before .shared-slice-known .given) in
-    subst SmallFields (sym (l .inv)) (fields-small (countOver (take (l .i) (a .words .now))) (λ f small. part-small f small (a .words .now) words (c .before .before .before .before .before .pre) (l .i)))
+    let ws = a .words .now in
+    let words = all-words ws (c .before .before .before .before .shared-slice-known .given) in
+    let few = c .before .before .before .before .before .pre in
+    subst SmallFields (sym (l .inv)) (fields-small (countOver (take (l .i) ws)) (λ f small. part-small f small ws words few (l .i)))
 
 loop-again : tie.Need-loop-again Inv-loop μ-loop
 loop-again c =
+    let ws = c .before .before .before .before .before .before .args .words .now in
     let l = c .before .before .before .loop in
-    one-more fieldTotals fieldsStep (λ count w. refl) (c .before .before .before .before .before .before .args .words .now) (l .i) (c .before .before .loop-test .taken) (c .fields-step .ensures) (l .inv)
+    one-more fieldTotals fieldsStep (λ count w. refl) ws (l .i) (c .before .before .loop-test .taken) (c .fields-step .ensures) (l .inv)
 
 returns : tie.Need-returns Inv-loop μ-loop
 returns c =

@@ -45,7 +45,9 @@ mul-t20 : tie.Need-mul-t20
 mul-t20 c = let s = c .before .before .before .before .before .before .before .before in product-fits (s .args .r) (s .args .v) (s .pre .1 .row) (s .pre .1 .down)
 
 add-t21 : tie.Need-add-t21
-add-t21 c = let s = c .before .before .before .before .before .before .before .before .before in product-beside (s .args .t .rv) (s .args .r) (s .args .v) (s .pre .0 .rv) (s .pre .1 .row) (s .pre .1 .down)
+add-t21 c =
+    let s = c .before .before .before .before .before .before .before .before .before in
+    product-beside (s .args .t .rv) (s .args .r) (s .args .v) (s .pre .0 .rv) (s .pre .1 .row) (s .pre .1 .down)
 
 add-t22 : tie.Need-add-t22
 add-t22 c = let s = c .before .before .before .before .before .before .before .before .before .before in field-beside (s .args .t .u) (s .args .u) (s .pre .0 .u) (s .pre .1 .across)

@@ -28,9 +28,11 @@ loop-again c =
     let a = c .before .before .before .before .args in
     let l = c .before .before .before .loop in
     let inside = c .before .before .loop-test .taken in
+    let squares = a .squares .now in
+    let limit = a .limit in
     ⊎-elim
-    (λ w. (omega arith, rw (w .1) (omega arith), index-again (countStep (a .squares .now) (a .limit)) inside (count-taken (a .squares .now) (a .limit) (l .i) (l .count) (c .if1 .count) (w .0 .taken) (w .1)) (l .inv .2)))
-    (λ w. (omega arith, rw (w .1) (omega arith), index-again (countStep (a .squares .now) (a .limit)) inside (count-passed (a .squares .now) (a .limit) (l .i) (l .count) (c .if1 .count) (w .0 .left) (w .1)) (l .inv .2)))
+    (λ w. (omega arith, rw (w .1) (omega arith), index-again (countStep squares limit) inside (count-taken squares limit (l .i) (l .count) (c .if1 .count) (w .0 .taken) (w .1)) (l .inv .2)))
+    (λ w. (omega arith, rw (w .1) (omega arith), index-again (countStep squares limit) inside (count-passed squares limit (l .i) (l .count) (c .if1 .count) (w .0 .left) (w .1)) (l .inv .2)))
     (c .if1 .came)
 
 returns : tie.Need-returns Inv-loop μ-loop

@@ -32,24 +32,33 @@ unfolding translationFrom
 returns c =
     let s = c .before .before .before .before in
     let a = s .args in
+    let sums = c .before .translation-under in
+    let ends = c .translation-ends in
+    let kept = sumsOf (sampleAt (a .numbers .now)) (under (a .squares .now) (a .limit) (a .n)) in
     rw (eq-eqb _ _ (c .before .before .if1 .taken))
-    (ended translationOf (a .squares .now) (a .limit) (a .n) (a .used) (c .before .translation-under .result) (translationTotals (sumsOf (sampleAt (a .numbers .now)) (under (a .squares .now) (a .limit) (a .n)))) (c .translation-ends .result) (s .pre) (c .before .translation-under .ensures) (c .translation-ends .ensures))
+    (ended translationOf (a .squares .now) (a .limit) (a .n) (a .used) (sums .result) (translationTotals kept) (ends .result) (s .pre) (sums .ensures) (ends .ensures))
 
 returns-2 : tie.Need-returns-2
 unfolding rotZoomFrom
 returns-2 c =
     let s = c .before .before .before .before .before in
     let a = s .args in
+    let sums = c .before .rotzoom-under in
+    let ends = c .rotzoom-ends in
+    let kept = sumsOf (sampleAt (a .numbers .now)) (under (a .squares .now) (a .limit) (a .n)) in
     rw (ne-eqb _ _ (c .before .before .before .if1 .left), eq-eqb _ _ (c .before .before .if2 .taken))
-    (ended rotZoomOf (a .squares .now) (a .limit) (a .n) (a .used) (c .before .rotzoom-under .result) (rotZoomTotals (sumsOf (sampleAt (a .numbers .now)) (under (a .squares .now) (a .limit) (a .n)))) (c .rotzoom-ends .result) (s .pre) (c .before .rotzoom-under .ensures) (c .rotzoom-ends .ensures))
+    (ended rotZoomOf (a .squares .now) (a .limit) (a .n) (a .used) (sums .result) (rotZoomTotals kept) (ends .result) (s .pre) (sums .ensures) (ends .ensures))
 
 returns-3 : tie.Need-returns-3
 unfolding affineFrom
 returns-3 c =
     let s = c .before .before .before .before .before in
     let a = s .args in
+    let sums = c .before .affine-under in
+    let ends = c .affine-ends in
+    let kept = sumsOf (sampleAt (a .numbers .now)) (under (a .squares .now) (a .limit) (a .n)) in
     rw (ne-eqb _ _ (c .before .before .before .if1 .left), ne-eqb _ _ (c .before .before .if2 .left))
-    (ended affineOf (a .squares .now) (a .limit) (a .n) (a .used) (c .before .affine-under .result) (affineTotals (sumsOf (sampleAt (a .numbers .now)) (under (a .squares .now) (a .limit) (a .n)))) (c .affine-ends .result) (s .pre) (c .before .affine-under .ensures) (c .affine-ends .ensures))
+    (ended affineOf (a .squares .now) (a .limit) (a .n) (a .used) (sums .result) (affineTotals kept) (ends .result) (s .pre) (sums .ensures) (ends .ensures))
 
 pub fit-under-spec : {M : Type 1} → statement M
 fit-under-spec =

@@ -2,8 +2,10 @@
 -- Assumes nothing.
 use borrow.Author.Needs.{needs}
 use Prim.Native.Nat.{ℕ}
+use mathlib.Core.List.{List}
 use mathlib.Core.Path.{sym, ap, _∙_}
 use Rattle.laws.specs.Loops.{fold}
+use Rattle.sample.specs.declared.MotionSample.{MotionSample}
 use Rattle.fit.specs.Sums.{reading}
 use Rattle.fit.specs.declared.Fitted.{Fitted}
 use Rattle.fit.specs.declared.TranslationSums.{TranslationSums}
@@ -18,15 +20,20 @@ use Rattle.trim.proofs.refit_under.Tie as tie
 abbrev refittingOf : Fitted → ℕ → Refitting → TranslationSums → Refitting
 refittingOf f flag t s = record { fitted = f; flag = flag; linear = t .linear; m = t .m; sums = s }
 
+-- the sums over a list, from those that it begins with
+abbrev sumsOver : (ℕ → MotionSample) → List ℕ → Refitting → TranslationSums
+sumsOver read xs t = fold (reading (refitStep (t .m)) read) xs (t .sums)
+
 returns : tie.Need-returns
 returns c =
     let a = c .before .before .before .before .before .before .args in
     let kept = under (a .squares .now) (a .limit) (a .n) in
     let read = sampleAt (a .numbers .now) in
-    let begun = c .before .before .before .before .refit-begin .result in
+    let begin = c .before .before .before .before .refit-begin in
+    let begun = begin .result in
     c .refit-ends .ensures
     ∙ ap (λ (s : TranslationSums). refittingEnds (refittingOf (a .fitted) (a .flag) begun s) (a .used)) (c .before .left-under .ensures)
-    ∙ ap (λ (t : Refitting). refittingEnds (refittingOf (a .fitted) (a .flag) t (fold (reading (refitStep (t .m)) read) kept (t .sums))) (a .used)) (c .before .before .before .before .refit-begin .ensures)
+    ∙ ap (λ (t : Refitting). refittingEnds (refittingOf (a .fitted) (a .flag) t (sumsOver read kept t)) (a .used)) (begin .ensures)
     ∙ ap (λ (t : Refitting). refittingEnds t (a .used)) (sym (sums-apart read kept (refittingBegun (a .fitted) (a .flag))))
     ∙ ap (λ (k : ℕ). refittingEnds (fold (reading refittingStep read) kept (refittingBegun (a .fitted) (a .flag))) k) (c .before .before .before .before .before .before .pre .counted)
     ∙ walk-ends read (a .fitted) (a .flag) kept

@@ -19,15 +19,19 @@ returns : tie.Need-returns
 returns c =
     let s = c .before .before .before .before in
     let a = s .args in
+    let test = c .before .before .all-finite in
+    let infinite = sym (test .ensures) ∙ not-true (test .result) (c .before .if1 .taken) in
     rw (c .refused-cut .ensures)
-    (infinite-cuts (a .numbers .now) (a .gm-type) (a .n) (a .squares .now) (a .first) (s .pre) (sym (c .before .before .all-finite .ensures) ∙ not-true (c .before .before .all-finite .result) (c .before .if1 .taken)))
+    (infinite-cuts (a .numbers .now) (a .gm-type) (a .n) (a .squares .now) (a .first) (s .pre) infinite)
 
 limit-of-requires : tie.Need-limit-of-requires
 limit-of-requires c κs =
     let s = c .before .before .before in
-    let a = s .args in (
+    let a = s .args in
+    let test = c .before .all-finite in
+    let finite = sym (test .ensures) ∙ not-false (test .result) (c .if1 .left) in (
       squares-long (a .numbers .now) (a .gm-type) (a .n) (a .squares .now) (a .first) (s .pre),
-      squares-findable (a .numbers .now) (a .gm-type) (a .n) (a .squares .now) (a .first) (s .pre) (sym (c .before .all-finite .ensures) ∙ not-false (c .before .all-finite .result) (c .if1 .left)),
+      squares-findable (a .numbers .now) (a .gm-type) (a .n) (a .squares .now) (a .first) (s .pre) finite,
     )
 
 count-under-requires : tie.Need-count-under-requires
@@ -44,43 +48,48 @@ returns-2 : tie.Need-returns-2
 returns-2 c =
     let s = c .before .before .before .before .before .before .before .before in
     let a = s .args in
+    let test = c .before .before .before .before .before .before .all-finite in
+    let finite = sym (test .ensures) ∙ not-false (test .result) (c .before .before .before .before .before .if1 .left) in
     let limit = c .before .before .before .before .limit-of in
     let count = c .before .before .before .count-under in
     rw (c .cut-of .ensures)
     (stood-cuts (a .numbers .now) (a .gm-type) (a .n) (a .squares .now) (a .first) (s .pre)
-    (sym (c .before .before .before .before .before .before .all-finite .ensures) ∙ not-false (c .before .before .before .before .before .before .all-finite .result) (c .before .before .before .before .before .if1 .left)) (limit .result) (limit .ensures)
-    (count .result) (count .ensures) (omega (arith, c .before .if2 .taken, c .before .before .least-of .ensures)) _ infinity-is)
+    finite (limit .result) (limit .ensures) (count .result) (count .ensures) (omega (arith, c .before .if2 .taken, c .before .before .least-of .ensures)) _ infinity-is)
 
 fit-under-requires : tie.Need-fit-under-requires
 fit-under-requires c κs =
     let s = c .before .before .before .before .before .before .before in
     let a = s .args in
+    let test = c .before .before .before .before .before .all-finite in
+    let finite = sym (test .ensures) ∙ not-false (test .result) (c .before .before .before .before .if1 .left) in
     let limit = c .before .before .before .limit-of in
     let count = c .before .before .count-under in
     kept-under-limit (a .numbers .now) (a .gm-type) (a .n) (a .squares .now) (a .first) (s .pre)
-    (sym (c .before .before .before .before .before .all-finite .ensures) ∙ not-false (c .before .before .before .before .before .all-finite .result) (c .before .before .before .before .if1 .left)) (limit .result) (limit .ensures)
-    (count .result) (count .ensures)
+    finite (limit .result) (limit .ensures) (count .result) (count .ensures)
 
 cut-of-requires-2 : tie.Need-cut-of-requires-2
 cut-of-requires-2 c κs =
     let s = c .before .before .before .before .before .before .before .before in
     let a = s .args in
+    let test = c .before .before .before .before .before .before .all-finite in
+    let finite = sym (test .ensures) ∙ not-false (test .result) (c .before .before .before .before .before .if1 .left) in
     let limit = c .before .before .before .before .limit-of in
     let count = c .before .before .before .count-under in
     few-kept (a .numbers .now) (a .gm-type) (a .n) (a .squares .now) (a .first) (s .pre)
-    (sym (c .before .before .before .before .before .before .all-finite .ensures) ∙ not-false (c .before .before .before .before .before .before .all-finite .result) (c .before .before .before .before .before .if1 .left)) (limit .result) (limit .ensures)
-    (count .result) (count .ensures)
+    finite (limit .result) (limit .ensures) (count .result) (count .ensures)
 
 returns-3 : tie.Need-returns-3
 returns-3 c =
     let s = c .before .before .before .before .before .before .before .before .before in
     let a = s .args in
+    let test = c .before .before .before .before .before .before .before .all-finite in
+    let finite = sym (test .ensures) ∙ not-false (test .result) (c .before .before .before .before .before .before .if1 .left) in
     let limit = c .before .before .before .before .before .limit-of in
     let count = c .before .before .before .before .count-under in
     rw (c .cut-of2 .ensures)
     (fitted-cuts (a .numbers .now) (a .gm-type) (a .n) (a .squares .now) (a .first) (s .pre)
-    (sym (c .before .before .before .before .before .before .before .all-finite .ensures) ∙ not-false (c .before .before .before .before .before .before .before .all-finite .result) (c .before .before .before .before .before .before .if1 .left)) (limit .result) (limit .ensures)
-    (count .result) (count .ensures) (omega (arith, c .before .before .if2 .left, c .before .before .before .least-of .ensures)) (c .before .fit-under .result) (c .before .fit-under .ensures))
+    finite (limit .result) (limit .ensures) (count .result) (count .ensures)
+    (omega (arith, c .before .before .if2 .left, c .before .before .before .least-of .ensures)) (c .before .fit-under .result) (c .before .fit-under .ensures))
 
 pub second-spec : {M : Type 1} → statement M
 second-spec =

@@ -1,7 +1,7 @@
 -- `trim::square_limit`: the roots of the patterns below lo are at most the cutoff and those from hi on aren't, until lo is hi.
 -- Assumes nothing.
 use borrow.Author.Needs.{needs}
-use Prim.Native.Nat.{ℕ, _+_, _-_, _/_, _≤_, _<_}
+use Prim.Native.Nat.{_-_}
 use native.Mathlib.Omega.{arith}
 use lib.Ieee.{nanBits}
 use Rattle.trim.proofs.Roots.{Cutting, readable, above-nought, starts, goes-up, goes-down, none-passes, some-pass}

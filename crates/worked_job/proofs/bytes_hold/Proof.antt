@@ -14,14 +14,4 @@ abbrev μ-loop : tie.MeasureT-loop
 pub bytes-hold-spec : {M : Type 1} → statement M
 bytes-hold-spec =
     tie.close
-    (tie.spec
-    Inv-loop
-    μ-loop
-    (search needs)
-    (search needs)
-    (search needs)
-    (search needs)
-    (search needs)
-    (search needs)
-    (search needs)
-    (search needs))
+    (tie.spec Inv-loop μ-loop (search needs) (search needs) (search needs) (search needs) (search needs) (search needs) (search needs) (search needs))

@@ -1,5 +1,5 @@
 -- `worked_job::index`: a product of two numbers below 65536, and one more added, fits a usize. Assumes nothing.
-use Prim.Native.Nat.{_≤_, _-_}
+use Prim.Native.Nat.{_≤_}
 use native.Mathlib.Omega.{arith}
 use native.Mathlib.Nat.{mul-le-mul}
 use borrow.Author.Needs.{needs}

@@ -13,14 +13,4 @@ abbrev μ-loop : tie.MeasureT-loop
 pub numbers-zero-spec : {M : Type 1} → statement M
 numbers-zero-spec =
     tie.close
-    (tie.spec
-    Inv-loop
-    μ-loop
-    (search needs)
-    (search needs)
-    (search needs)
-    (search needs)
-    (search needs)
-    (search needs)
-    (search needs)
-    (search needs))
+    (tie.spec Inv-loop μ-loop (search needs) (search needs) (search needs) (search needs) (search needs) (search needs) (search needs) (search needs))

@@ -1,5 +1,4 @@
 -- `worked_job::same_float`: a number that equals itself is not a NaN, so its bits may be asked for. Assumes nothing.
-use Prim.Native.Nat.{_-_}
 use Rattle.worked_job.proofs.Numbers.{equals-itself}
 use borrow.Author.Needs.{needs}
 use Rattle.worked_job.proofs.same_float.Statement.{statement}

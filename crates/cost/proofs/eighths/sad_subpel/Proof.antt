@@ -24,7 +24,8 @@ unfolding bilinearWindowCosts
 returns c =
     let a = c .before .before .before .before .before .before .before .before .before .before .before .before .before .before .before .args in
     stops (c .before .before .before .before .before .before .loop .inv) (omega arith)
-    (c .before .row-of-16 .ensures .same ∙ bilinear-row-laid 16 24 (a .block .now) (a .window .now) (wholeIn (a .corner .y) (a .motion .y)) (wholeIn (a .corner .x) (a .motion .x)) (fractionOf (a .motion .y)) (fractionOf (a .motion .x)) (c .before .before .before .before .before .before .loop .i))
+    (c .before .row-of-16 .ensures .same ∙ bilinear-row-laid 16 24 (a .block .now) (a .window .now) (wholeIn (a .corner .y) (a .motion .y))
+    (wholeIn (a .corner .x) (a .motion .x)) (fractionOf (a .motion .y)) (fractionOf (a .motion .x)) (c .before .before .before .before .before .before .loop .i))
     (c .before .row-of-16 .ensures .small) (c .if1 .taken) (omega arith)
 
 loop-less : tie.Need-loop-less Inv-loop μ-loop
@@ -34,7 +35,8 @@ loop-again : tie.Need-loop-again Inv-loop μ-loop
 loop-again c =
     let a = c .before .before .before .before .before .before .before .before .before .before .before .before .before .before .before .args in
     next (c .before .before .before .before .before .before .loop .inv) (omega arith)
-    (c .before .row-of-16 .ensures .same ∙ bilinear-row-laid 16 24 (a .block .now) (a .window .now) (wholeIn (a .corner .y) (a .motion .y)) (wholeIn (a .corner .x) (a .motion .x)) (fractionOf (a .motion .y)) (fractionOf (a .motion .x)) (c .before .before .before .before .before .before .loop .i))
+    (c .before .row-of-16 .ensures .same ∙ bilinear-row-laid 16 24 (a .block .now) (a .window .now) (wholeIn (a .corner .y) (a .motion .y))
+    (wholeIn (a .corner .x) (a .motion .x)) (fractionOf (a .motion .y)) (fractionOf (a .motion .x)) (c .before .before .before .before .before .before .loop .i))
     (c .before .row-of-16 .ensures .small) (c .if1 .left)
 
 returns-2 : tie.Need-returns-2 Inv-loop μ-loop

@@ -8,7 +8,7 @@ use lib.ListN.{length, length-set}
 use borrow.Author.Needs.{needs}
 use Rattle.laws.specs.Buffer.{onto}
 use Rattle.laws.specs.Loops.{sum}
-use Rattle.plane.specs.Plane.{listing}
+use Rattle.laws.specs.Parts.{listing}
 use Rattle.plane.proofs.Listing.{listing-more}
 use Rattle.search.specs.Search.{sampleWord, sampleWords, sampleRows, rowsAdded}
 use Rattle.search.specs.declared.blocks.Sampled.{Sampled}

@@ -50,7 +50,12 @@ word-of-requires c κs =
     omega (arith, p .0 .small .low, p .0 .small .narrow, p .1 .row, p .1 .column, e .y-last, e .x-last)
 
 add-rows : tie.Need-add-t22
-add-rows c = omega (arith, c .before .before .before .before .before .before .before .before .before .before .before .before .coarse .ensures .few, c .before .before .before .before .before .before .before .fine .ensures .few)
+add-rows c =
+    omega (
+      arith,
+      c .before .before .before .before .before .before .before .before .before .before .before .before .coarse .ensures .few,
+      c .before .before .before .before .before .before .before .fine .ensures .few,
+    )
 
 returns : tie.Need-returns
 returns c =
@@ -60,27 +65,13 @@ returns c =
     let far = rw (p .input-halved, p .ref-halved) at (c .before .before .before .before .before .before .before .before .before .before .before .before .coarse .ensures .same) in
     let best = c .before .before .before .before .before .before .before .fine .result in
     sampled-is (a .input .now) (a .reference .now) (b .width) (b .height) (b .r) (b .c) best
-    (motion-is (a .input .now) (a .reference .now) (b .width) (b .height) (b .r) (b .c) (c .before .before .before .before .before .before .before .before .before .before .before .before .coarse .result) best far (c .before .before .before .before .before .before .before .fine .ensures .same))
+    (motion-is (a .input .now) (a .reference .now) (b .width) (b .height) (b .r) (b .c)
+    (c .before .before .before .before .before .before .before .before .before .before .before .before .coarse .result)
+    best far (c .before .before .before .before .before .before .before .fine .ensures .same))
     (c .before .before .word-of .ensures)
 
 pub word-at-spec : {M : Type 1} → statement M
 word-at-spec =
     tie.close
-    (tie.spec
-    (search needs)
-    (search needs)
-    coarse-requires
-    (search needs)
-    (search needs)
-    (search needs)
-    (search needs)
-    (search needs)
-    (search needs)
-    fine-requires
-    cast-word-of
-    cast-word-of-2
-    (search needs)
-    (search needs)
-    word-of-requires
-    add-rows
-    returns)
+    (tie.spec (search needs) (search needs) coarse-requires (search needs) (search needs) (search needs) (search needs) (search needs) (search needs)
+    fine-requires cast-word-of cast-word-of-2 (search needs) (search needs) word-of-requires add-rows returns)
