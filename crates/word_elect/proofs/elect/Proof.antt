@@ -6,10 +6,10 @@ use Rattle.word_elect.proofs.elect.Statement.{statement}
 use Rattle.word_elect.proofs.elect.Tie as tie
 
 returns : tie.Need-returns
-returns c = rw (← @{elect-refusal} .ensures, ne-eqb _ 0 (@{if1} .taken)) (@{stopped} .ensures)
+returns c = rw (← c .before .before .elect-refusal .ensures, ne-eqb _ 0 (c .before .if1 .taken)) (c .stopped .ensures)
 
 returns-2 : tie.Need-returns-2
-returns-2 c = rw (← @{elect-refusal} .ensures, @{if1} .left, ← @{winner} .ensures) (@{as-stored} .ensures)
+returns-2 c = rw (← c .before .before .before .elect-refusal .ensures, c .before .before .if1 .left, ← c .before .winner .ensures) (c .as-stored .ensures)
 
 pub elect-spec : {M : Type 1} → statement M
 elect-spec = tie.close (tie.spec (λ c κs. search needs) (λ c κs. search needs) returns (λ c κs. search needs) (λ c κs. search needs) returns-2)

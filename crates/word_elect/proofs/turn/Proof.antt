@@ -9,38 +9,38 @@ use Rattle.word_elect.proofs.turn.Tie as tie
 
 returns : tie.Need-returns
 returns c =
-    let a = @{args} in
-    turn-ended sampleOf (a .flag) (a .words .now) (a .energy) (a .held) (a .gm-type) (@{if1} .taken)
+    let a = c .before .before .before .args in
+    turn-ended sampleOf (a .flag) (a .words .now) (a .energy) (a .held) (a .gm-type) (c .if1 .taken)
 
 returns-2 : tie.Need-returns-2
 returns-2 c =
-    let a = @{args} in
-    let m = @{quantize-trimmed} in
-    @{stopped} .ensures
-    ∙ turn-stops sampleOf (a .flag) (a .words .now) (a .energy) (a .held) (a .gm-type) (@{if1} .left) (m .result) (m .ensures) (@{if2} .taken)
+    let a = c .before .before .before .before .before .before .before .args in
+    let m = c .before .before .before .quantize-trimmed in
+    c .stopped .ensures
+    ∙ turn-stops sampleOf (a .flag) (a .words .now) (a .energy) (a .held) (a .gm-type) (c .before .before .before .before .if1 .left) (m .result) (m .ensures) (c .before .if2 .taken)
 
 returns-3 : tie.Need-returns-3
 returns-3 c =
-    let a = @{args} in
-    let m = @{quantize-trimmed} in
-    turn-passes sampleOf (a .flag) (a .words .now) (a .energy) (a .held) (a .gm-type) (@{if1} .left) (m .result) (m .ensures) (@{if2} .left) (@{if3} .taken)
+    let a = c .before .before .before .before .before .before .before .before .args in
+    let m = c .before .before .before .before .quantize-trimmed in
+    turn-passes sampleOf (a .flag) (a .words .now) (a .energy) (a .held) (a .gm-type) (c .before .before .before .before .before .if1 .left) (m .result) (m .ensures) (c .before .before .if2 .left) (c .if3 .taken)
 
 returns-4 : tie.Need-returns-4
 returns-4 c =
-    let a = @{args} in
-    let m = @{quantize-trimmed} in
-    let running = @{if1} .left in
-    turn-unfit sampleOf (a .flag) (a .words .now) (a .energy) (a .held) (a .gm-type) running (m .result) (m .ensures) (@{if3} .left)
-    (sym (@{unfit} .ensures) ∙ @{if4} .taken)
+    let a = c .before .before .before .before .before .before .before .before .before .before .before .args in
+    let m = c .before .before .before .before .before .before .before .quantize-trimmed in
+    let running = c .before .before .before .before .before .before .before .before .if1 .left in
+    turn-unfit sampleOf (a .flag) (a .words .now) (a .energy) (a .held) (a .gm-type) running (m .result) (m .ensures) (c .before .before .before .if3 .left)
+    (sym (c .before .unfit .ensures) ∙ c .if4 .taken)
 
 returns-5 : tie.Need-returns-5
 returns-5 c =
-    let a = @{args} in
-    let m = @{quantize-trimmed} in
-    let running = @{if1} .left in
-    @{held-after} .ensures
-    ∙ turn-judged sampleOf (a .flag) (a .words .now) (a .energy) (a .held) (a .gm-type) running (m .result) (m .ensures) (@{if3} .left)
-    (sym (@{unfit} .ensures) ∙ @{if4} .left) (@{error-of} .result) (@{error-of} .ensures)
+    let a = c .before .before .before .before .before .before .before .before .before .before .before .before .before .args in
+    let m = c .before .before .before .before .before .before .before .before .before .quantize-trimmed in
+    let running = c .before .before .before .before .before .before .before .before .before .before .if1 .left in
+    c .held-after .ensures
+    ∙ turn-judged sampleOf (a .flag) (a .words .now) (a .energy) (a .held) (a .gm-type) running (m .result) (m .ensures) (c .before .before .before .before .before .if3 .left)
+    (sym (c .before .before .before .unfit .ensures) ∙ c .before .before .if4 .left) (c .before .error-of .result) (c .before .error-of .ensures)
 
 pub turn-spec : {M : Type 1} → statement M
 turn-spec =

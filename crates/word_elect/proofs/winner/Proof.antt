@@ -13,17 +13,17 @@ use Rattle.word_elect.proofs.winner.Tie as tie
 
 returns : tie.Need-returns
 returns c =
-    let a = @{args} in
-    let energy = @{error-of} .ensures ∙ ap (λ (p : List ℤ). errorFrom sampleOf p (a .words .now)) (@{identity-params} .ensures) in
-    @{nobody} .ensures ∙ ap (λ (e : Float). nobody e) energy ∙ sym (winner-still sampleOf (a .flag) (a .words .now) (ap (λ (e : Float). lt e floor) (sym energy) ∙ @{if1} .taken))
+    let a = c .before .before .before .before .before .args in
+    let energy = c .before .before .error-of .ensures ∙ ap (λ (p : List ℤ). errorFrom sampleOf p (a .words .now)) (c .before .before .before .identity-params .ensures) in
+    c .nobody .ensures ∙ ap (λ (e : Float). nobody e) energy ∙ sym (winner-still sampleOf (a .flag) (a .words .now) (ap (λ (e : Float). lt e floor) (sym energy) ∙ c .before .if1 .taken))
 
 returns-2 : tie.Need-returns-2
 returns-2 c =
-    let a = @{args} in
-    let still = @{error-of} in
-    let energy = still .ensures ∙ ap (λ (p : List ℤ). errorFrom sampleOf p (a .words .now)) (@{identity-params} .ensures) in
-    three-turns sampleOf (a .flag) (a .words .now) (still .result) energy (@{if1} .left)
-    (@{nobody2} .ensures) (@{turn} .ensures) (@{turn2} .ensures) (@{turn3} .ensures)
+    let a = c .before .before .before .before .before .before .before .before .args in
+    let still = c .before .before .before .before .before .error-of in
+    let energy = still .ensures ∙ ap (λ (p : List ℤ). errorFrom sampleOf p (a .words .now)) (c .before .before .before .before .before .before .identity-params .ensures) in
+    three-turns sampleOf (a .flag) (a .words .now) (still .result) energy (c .before .before .before .before .if1 .left)
+    (c .before .before .before .nobody2 .ensures) (c .before .before .turn .ensures) (c .before .turn2 .ensures) (c .turn3 .ensures)
 
 pub winner-spec : {M : Type 1} → statement M
 winner-spec =
