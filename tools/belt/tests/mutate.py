@@ -2,8 +2,8 @@
 """mutate.py BELT [COUNT [SEED]]: runs of the tool on damaged pictures, blocks, headers, lists and command lines.
 
 Each run must end with 0, 1 or 2 and never by a signal, say one line where it isn't 0, leave no file then and no
-temporary file ever. A 0 must be right: what a whole file says is held to a reading of the same bytes here, blocks by
-their checks, headers by a second reading of what was printed, pictures by another decoder, JSON by its statuses.
+temporary file ever. A 0 must be right: every block that was listed or converted is whole, every PNG file that was
+measured passes its checks, and the numbers of JSON go with their status.
 Prints how many ended how; ends with 1 at the first run that is wrong, whose files are then left.
 """
 
