@@ -141,7 +141,7 @@ def holds(kind, words, said, folder):
 
 
 def png_is_whole(data):
-    """None if every check up to the last row's data is right."""
+    """None if the head and the rows' data pass their checks; what comes behind them is no part of the picture."""
     at, packed = 8, b""
     while at + 8 <= len(data):
         length, name = struct.unpack(">I4s", data[at : at + 8])
@@ -149,7 +149,7 @@ def png_is_whole(data):
         if name == b"IEND":
             break
         (check,) = struct.unpack(">I", data[at + 8 + length : at + 12 + length].ljust(4, b"\0"))
-        if name[0] & 0x20 == 0 and check != zlib.crc32(name + body):
+        if name in (b"IHDR", b"PLTE", b"IDAT") and check != zlib.crc32(name + body):
             return f"a chunk {name} with a wrong check was read"
         if name == b"IDAT":
             packed += body
