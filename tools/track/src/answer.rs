@@ -48,7 +48,8 @@ impl Status {
 /// How a model was found.
 #[derive(Clone, Copy, Debug, PartialEq, Eq, Hash)]
 pub enum How {
-    /// As the library elects, before the grid and over the blocks that agree.
+    /// As the library elects, and half of all blocks agree; fitted again before the grid, over the blocks that agree, with
+    /// the type that explains these best.
     Elected,
     /// As most of the blocks that can tell their motion say.
     Robust,

@@ -3,7 +3,7 @@
 
 use crate::cloud::Cloud;
 use crate::left;
-use crate::model::{IDENTITY, Model, TYPES};
+use crate::model::{IDENTITY, Model};
 use crate::plane::Pair;
 use crate::polish::{Polished, polished};
 use crate::refit::{self, Refitted};
@@ -87,14 +87,14 @@ impl Found {
         let taken = if others.is_empty() { taken(&elected, &counted, &usable) } else { None };
         let is_elected = taken.is_some();
         let (fit, two_motions) = taken.map_or_else(|| voted(pair, &usable, others), |fit| (fit, false));
-        let elected_type = [fit.model.gm_type];
         let mut agreeing = Vec::new();
         usable.within(&fit.model, fit.within, &mut agreeing);
-        let Polished { model, samples } = polished(pair, &agreeing, &fit.model, if is_elected { &elected_type } else { &TYPES });
+        let Polished { model, samples } = polished(pair, &agreeing, &fit.model);
         let fit = Refitted { model, ..fit };
+        let agree = usable.agreeing(&model, fit.within);
         let predicted = refit::predicted(&samples, &model, pair.first.width, pair.first.height);
         let whole = if others.is_empty() { counted.len() } else { words.len() };
-        Ok(Self { words, elected, is_elected, usable, fit, whole, agree: agreeing.len(), predicted, two_motions })
+        Ok(Self { words, elected, is_elected, usable, fit, whole, agree, predicted, two_motions })
     }
 
     /// Why it isn't to be trusted. An elected model was judged by all blocks already.

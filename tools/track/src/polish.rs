@@ -2,7 +2,7 @@
 //! slopes, and the library's fits over these places.
 
 use crate::left;
-use crate::model::{Model, ROTZOOM, TRANSLATION};
+use crate::model::{Model, ROTZOOM, TRANSLATION, TYPES};
 use crate::plane::Pair;
 use crate::refit::price;
 use crate::texture::slopes;
@@ -21,11 +21,11 @@ pub(crate) struct Polished {
     pub(crate) samples: Vec<MotionSample>,
 }
 
-/// The motion that the pels of the agreeing blocks say, of the one of the types that explains them best. The model
-/// itself where they say none.
-pub(crate) fn polished(pair: Pair<'_>, agreeing: &[u32], model: &Model, types: &[u8]) -> Polished {
+/// The motion that the pels of the agreeing blocks say, of the type that explains them best. The model itself where they
+/// say none.
+pub(crate) fn polished(pair: Pair<'_>, agreeing: &[u32], model: &Model) -> Polished {
     let samples: Vec<MotionSample> = agreeing.iter().filter_map(|&word| sample(pair, word, model)).collect();
-    let fits: Vec<Model> = types.iter().filter_map(|&gm_type| fit(gm_type, &samples)).collect();
+    let fits: Vec<Model> = TYPES.iter().filter_map(|&gm_type| fit(gm_type, &samples)).collect();
     let distances: Vec<Vec<f64>> = fits.iter().map(|fit| distances(fit, &samples)).collect();
     let median = distances.iter().filter_map(|distances| median(distances)).min_by(f64::total_cmp);
     let within = (MEDIANS * median.unwrap_or(0.0)).clamp(LEAST_WITHIN, MOST_STEP);
@@ -97,7 +97,6 @@ fn step(pair: Pair<'_>, x: usize, y: usize, model: &Model) -> (f64, f64) {
 #[cfg(test)]
 mod tests {
     use super::*;
-    use crate::model::TYPES;
     use crate::plane::Plane;
 
     /// A smooth surface seen from a place on.
@@ -114,9 +113,10 @@ mod tests {
         let (first, second) = (plane(0.0, 0.0), plane(-2.19, 1.06));
         let pair = Pair { first: &first, second: &second, kept: &[true; 36] };
         // the eighths that are nearest
-        let words: Vec<u32> =
-            (1..5).flat_map(|row| (1..5).map(move |column| row << 26 | column << 20 | (223 - 8) << 11 | (223 + 18) << 2)).collect();
-        let found = polished(pair, &words, &Model::translation(2.25, -1.0), &TYPES);
+        let words: Vec<u32> = (1..5)
+            .flat_map(|row| (1..5).map(move |column| row << 26 | column << 20 | (223 - 8) << 11 | (223 + 18) << 2))
+            .collect();
+        let found = polished(pair, &words, &Model::translation(2.25, -1.0));
         assert_eq!((found.model.gm_type, found.samples.len()), (TRANSLATION, 16));
         assert!(found.model.apart(&Model::translation(2.19, -1.06), 96, 96) < 0.01, "{:?}", found.model);
     }
@@ -126,7 +126,7 @@ mod tests {
         let flat = Plane { width: 32, height: 32, pels: vec![4096; 1024] };
         let pair = Pair { first: &flat, second: &flat, kept: &[true; 4] };
         let model = Model::translation(1.0, 2.0);
-        let found = polished(pair, &[223 << 11 | 223 << 2], &model, &TYPES);
+        let found = polished(pair, &[223 << 11 | 223 << 2], &model);
         assert_eq!((found.model, found.samples.len()), (model, 0));
     }
 }

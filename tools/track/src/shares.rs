@@ -38,7 +38,8 @@ pub(crate) fn shares(usable: &Cloud) -> Shares {
     if usable.len() == 0 {
         return Shares::NONE;
     }
-    let moved: Vec<(f32, f32)> = usable.u.iter().copied().zip(usable.v.iter().copied()).filter(|&(u, v)| u.hypot(v) > STILL).collect();
+    let moved: Vec<(f32, f32)> =
+        usable.u.iter().copied().zip(usable.v.iter().copied()).filter(|&(u, v)| u.hypot(v) > STILL).collect();
     let share = |count: usize| count as f64 / usable.len() as f64;
     let commonest = commonest(&moved).map(|(motion, count)| Common { motion, share: share(count) });
     Shares { still: share(usable.len() - moved.len()), commonest }
@@ -55,15 +56,18 @@ fn commonest(moved: &[(f32, f32)]) -> Option<(Motion, usize)> {
     for &(u, v) in moved {
         cells[cell(v) * SIDE + cell(u)] += 1;
     }
-    let four = |corner: usize| [0, 1, SIDE, SIDE + 1].map(|step| usize::from(cells[corner + step])).iter().sum::<usize>();
+    let four =
+        |corner: usize| [0, 1, SIDE, SIDE + 1].map(|step| usize::from(cells[corner + step])).iter().sum::<usize>();
     let corners = (0..SIDE * (SIDE - 1) - 1).filter(|corner| corner % SIDE < SIDE - 1);
     // the first of those that are equally common
-    let (corner, count) = corners.map(|corner| (corner, four(corner))).reduce(|best, next| if next.1 > best.1 { next } else { best })?;
+    let (corner, count) =
+        corners.map(|corner| (corner, four(corner))).reduce(|best, next| if next.1 > best.1 { next } else { best })?;
     let inside = |&&(u, v): &&(f32, f32)| {
         let near = |cell: usize, from: usize| cell == from || cell == from + 1;
         near(cell(u), corner % SIDE) && near(cell(v), corner / SIDE)
     };
-    let (u, v) = moved.iter().filter(inside).fold((0.0, 0.0), |sum, &(u, v)| (sum.0 + f64::from(u), sum.1 + f64::from(v)));
+    let (u, v) =
+        moved.iter().filter(inside).fold((0.0, 0.0), |sum, &(u, v)| (sum.0 + f64::from(u), sum.1 + f64::from(v)));
     (count > 0).then(|| (Motion { u: u / count as f64, v: v / count as f64 }, count))
 }
 

@@ -93,7 +93,8 @@ fn through_three(first: [f64; 4], second: [f64; 4], third: [f64; 4]) -> Option<M
     let slopes = |d1: f64, d2: f64| ((d1 * y2 - d2 * y1) / determinant, (x1 * d2 - x2 * d1) / determinant);
     let ((ux, uy), (vx, vy)) = (slopes(u1, u2), slopes(v1, v2));
     let (m0, m1) = (first[2] - ux * first[0] - uy * first[1], first[3] - vx * first[0] - vy * first[1]);
-    Some(Model { gm_type: AFFINE, numbers: [m0, m1, 1.0 + ux, uy, vx, 1.0 + vy] }).filter(|model| model.linear() < STEEP)
+    Some(Model { gm_type: AFFINE, numbers: [m0, m1, 1.0 + ux, uy, vx, 1.0 + vy] })
+        .filter(|model| model.linear() < STEEP)
 }
 
 #[cfg(test)]

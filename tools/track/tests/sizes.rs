@@ -34,7 +34,8 @@ fn any_sides_and_values_have_an_answer() {
             let blocks = (width / 16) * (height / 16);
             assert_eq!(answer.status == Status::NoBlocks, blocks == 0, "{width}×{height}");
             assert!(answer.words.len() == blocks || answer.status == Status::Flat);
-            let numbers = answer.model.numbers.into_iter().chain([answer.right, answer.down, answer.zoom, answer.angle]);
+            let numbers =
+                answer.model.numbers.into_iter().chain([answer.right, answer.down, answer.zoom, answer.angle]);
             assert!(numbers.into_iter().all(f64::is_finite) && answer.score.is_finite(), "{width}×{height}");
         }
     }
