@@ -76,7 +76,7 @@ mod tests {
     #[test]
     fn distances_are_the_librarys() {
         let words: Vec<u32> =
-            (0..40u32).map(|i| i % 8 << 26 | i % 5 << 20 | (i * 11 % 447) << 11 | (i * 7 % 447) << 2).collect();
+            (0..40u32).map(|i| (i % 8) << 26 | (i % 5) << 20 | (i * 11 % 447) << 11 | (i * 7 % 447) << 2).collect();
         let cloud: Cloud = words.iter().copied().collect();
         let grid = belt::Model([70_000, -30_000, 66_000, 100, -2_000, 65_000]);
         let model = Model { gm_type: 3, numbers: grid.0.map(|number| f64::from(number) / 65536.0) };

@@ -135,7 +135,7 @@ fn taken(elected: &Elected, counted: &[u32], usable: &Cloud) -> Option<Refitted>
         return None;
     }
     let model = Model::of_fitted(&belt::fit_trimmed(gm_type, counted).ok()?.fitted)?;
-    Some(refit::polished(usable, model))
+    Some(refit::again(usable, model))
 }
 
 /// The model that the usable blocks fit and all blocks vote for, and whether another one is nearly as good.

@@ -3,21 +3,21 @@
 //! The library's election judges a model by every block, also those of a flat belt, of a rail that stands still and of
 //! noise, so on footage it mostly elects nothing. This crate decides what was *measured*, over the library's search and
 //! its plain fits: it takes light away (`normalise`), asks which blocks can tell their motion (`texture`), finds the
-//! motion that most of these share (`starts`, `refit`), lets all blocks vote between it and its rivals (`votes`), and
-//! warns where the answer isn't to be trusted (`found`). What isn't warned is checked by the way back, and what is
-//! warned is tried on coarser planes (`attempt`). Nothing in it is random: the same frames have the same answer.
+//! motion that most of these share (`starts`, `refit`), lets all blocks vote between it and its rivals (`votes`), makes
+//! it finer than the search's eighths (`polish`), and warns where it isn't to be trusted (`found`). What isn't warned is
+//! checked by the way back unless the agreement is overwhelming, and what is warned is tried on coarser planes
+//! (`attempt`). Nothing in it is random: the same frames have the same answer.
 //!
 //! ```
 //! use track::{Frame, Options, Status};
 //!
-//! // texture that ran three pels to the right
-//! let texture = |x: usize, y: usize| (128.0 + 60.0 * (x as f64 / 3.0).sin() + 50.0 * (y as f64 / 2.5 + x as f64 / 9.0).cos()) as u16;
-//! let frame = |from: usize| (0..128 * 128).map(|i| texture(i % 128 + from, i / 128)).collect::<Vec<u16>>();
-//! let (first, second) = (frame(3), frame(0));
-//! let [first, second] = [&first, &second].map(|pels| Frame { pels, width: 128, height: 128, most: 255 });
+//! // noise that ran three pels to the right and one up
+//! let (mut first, mut second) = ([0; 128 * 128], [0; 128 * 128]);
+//! belt::make_practice_planes(1, 128, 128, -1, 3, &mut first, &mut second)?;
+//! let [first, second] = [&first, &second].map(|pels| Frame { pels, width: 128, height: 128, most: 65_535 });
 //! let answer = track::measure(&first, &second, &Options::default())?;
 //! assert_eq!(answer.status, Status::Measured);
-//! assert!((answer.right - 3.0).abs() < 0.1 && answer.down.abs() < 0.1);
+//! assert!((answer.right - 3.0).abs() < 0.1 && (answer.down + 1.0).abs() < 0.1);
 //! # Ok::<(), track::Refused>(())
 //! ```
 #![forbid(unsafe_code)]

@@ -23,7 +23,7 @@ impl Generator {
     /// A number below `count`, which is at most 65,536.
     fn below(&mut self, count: usize) -> usize {
         self.0 = self.0.wrapping_mul(1_664_525).wrapping_add(1_013_904_223);
-        (self.0 >> 16) as usize * count >> 16
+        ((self.0 >> 16) as usize * count) >> 16
     }
 }
 
