@@ -40,6 +40,7 @@ fn leave(folder: &Path) -> Result<(), Failure> {
         classes: None,
         mask: None,
         within: 0.25,
+        fast: false,
     };
     let mut pairs = Vec::new();
     for pair in frames.windows(2) {

@@ -31,7 +31,7 @@ pub fn run(words: &Measure) -> Result<(), Failure> {
         }
         let measured = measure(&job, &before, &reference)?;
         pairs += 1;
-        warned += usize::from(!measured.warnings.is_empty() || !measured.answer.status.has_motion());
+        warned += usize::from(!measured.warnings.is_empty() || !measured.answer.status.is_known());
         if words.blocks.is_some() {
             blocks.extend(&measured.sample_blocks);
         }
@@ -81,6 +81,7 @@ fn job(words: &Measure) -> Result<Job, Failure> {
         classes: words.classes.as_deref().map(lists::classes).transpose()?,
         mask: None,
         within: words.within,
+        fast: words.fast,
     })
 }
 
