@@ -40,11 +40,6 @@ impl How {
             How::Trimmed => "trimmed",
         }
     }
-
-    /// Whether the blocks of the pictures as they are don't show the motion.
-    pub fn is_coarse(self) -> bool {
-        matches!(self, How::Tracked(track::How::HalfSize | track::How::Shifted))
-    }
 }
 
 /// What to know of an answer.

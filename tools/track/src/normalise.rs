@@ -7,6 +7,8 @@ use crate::plane::Plane;
 const MIDDLE: f64 = 4096.0;
 /// The brightest value of a frame is brought to this.
 const SCALE: f64 = 2040.0;
+/// No value is larger: what the brightest pel comes to at the most contrast. A pel over its frame's white is held to it.
+const MOST: f32 = 8191.0;
 /// The mean is of so many pels on each side of a pel.
 const REACH: usize = 15;
 /// The pels of that window.
@@ -50,7 +52,7 @@ impl Detail {
     fn plane(&self, frame: &Frame<'_>, contrast: f64) -> Plane {
         let factor = (self.unit * contrast) as f32;
         // the cast rounds down, and holds what is below 0
-        let pel = |&value: &i32| (value as f32 * factor + (MIDDLE + 0.5) as f32) as u16;
+        let pel = |&value: &i32| (value as f32 * factor + (MIDDLE + 0.5) as f32).min(MOST) as u16;
         Plane { width: frame.width, height: frame.height, pels: self.values.iter().map(pel).collect() }
     }
 }

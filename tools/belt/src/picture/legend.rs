@@ -62,9 +62,14 @@ fn blocks(measured: &Measured) -> String {
         _ => {
             let (share, usable) = (words::per_cent(measured.share()), words::many(answer.usable, "block"));
             let which = if matches!(answer.how, How::Tracked(_)) { " that can tell their motion" } else { "" };
-            let coarse = match answer.how.is_coarse() {
-                true => "; that took coarser pictures, and the arrows are of these, which don't show it",
-                false => "",
+            let coarse = match answer.how {
+                How::Tracked(track::How::Shifted) => {
+                    " once the second picture is moved; the arrows are of the search as it is, which doesn't reach so far"
+                }
+                How::Tracked(track::How::HalfSize) => {
+                    " at half the size; the arrows are of the full size, which doesn't tell it"
+                }
+                _ => "",
             };
             format!("{share} of {usable}{which} agree with {name}{coarse}")
         }
