@@ -162,3 +162,9 @@ field-more g b n {x} {y} {t} {k} ex ey ek et =
     let e : 8 * (n + 1) ≡ 8 * n + 8 = omega arith in
     let m : 8 * k ≡ 8 * b + 8 * n = omega arith in
     et ∙ rw (ex, ey, m, e) (sym (field-split g (8 * b) (8 * n) 8))
+
+-- five bytes, the first highest
+pub field-five : (g : ℕ → ℕ) (b : ℕ) {b₁ b₂ b₃ b₄ b₅ : ℕ} → b₁ ≡ field g (8 * b) 8 → b₂ ≡ field g (8 * (b + 1)) 8 → b₃ ≡ field g (8 * (b + 2)) 8
+    → b₄ ≡ field g (8 * (b + 3)) 8 → b₅ ≡ field g (8 * (b + 4)) 8 → (((b₁ * 256 + b₂) * 256 + b₃) * 256 + b₄) * 256 + b₅ ≡ field g (8 * b) 40
+field-five g b e₁ e₂ e₃ e₄ e₅ =
+    field-more g b 4 (field-more g b 3 (field-more g b 2 (field-more g b 1 e₁ e₂ refl refl) e₃ refl refl) e₄ refl refl) e₅ refl refl

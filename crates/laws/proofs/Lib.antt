@@ -2,6 +2,7 @@ pub mod Loops
 pub mod Refusal
 pub mod Call
 pub mod Buffer
+pub mod Chosen
 pub mod Fold
 pub mod Cases
 pub mod Products

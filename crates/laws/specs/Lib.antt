@@ -2,6 +2,7 @@ pub mod Loops
 pub mod Refusal
 pub mod Call
 pub mod Buffer
+pub mod Chosen
 pub mod Placed
 pub mod Parts
 pub mod Binary64
