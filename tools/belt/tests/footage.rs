@@ -281,6 +281,8 @@ fn says_one_thing(found: &Value, text: &str) {
     assert!(agree <= usable && usable <= blocks, "{found}");
     let counts = format!("\n  agreement  {agree} of {usable} block");
     assert_eq!(text.contains(&counts), known, "{text}");
+    let otherwise = found["how"] == "elected" && found["measured"]["type"] != found["stored"]["type"];
+    assert_eq!(text.contains(", elected once the pictures' light is taken away\n"), otherwise, "{text}");
     let listed = found["warnings"].as_array().unwrap();
     assert_eq!(text.matches("\nwarning: ").count(), listed.len(), "{text}");
     for warning in listed {

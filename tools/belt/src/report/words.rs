@@ -130,7 +130,8 @@ fn kind(measured: &Measured) -> String {
     let how = match measured.answer.how {
         How::Plain => return name.into(),
         How::Trimmed => "fitted without the blocks that lie far off",
-        How::Tracked(track::How::Elected) => "elected",
+        How::Tracked(track::How::Elected) if measured.stored_type == measured.answer.gm_type => "elected",
+        How::Tracked(track::How::Elected) => "elected once the pictures' light is taken away",
         How::Tracked(track::How::Robust) => "robust: as most of the blocks say that can tell their motion",
         How::Tracked(track::How::HalfSize) => "half-size: as the blocks say at half the size",
         How::Tracked(track::How::Shifted) => {
