@@ -6,7 +6,7 @@ use Rattle.job.proofs.finish.Statement.{statement}
 use Rattle.job.proofs.finish.Tie as tie
 
 model-of-named-requires : tie.Need-model-of-named-requires
-model-of-named-requires c κs = @{pre}
+model-of-named-requires c κs = c .before .before .before .before .before .pre
 
 returns : tie.Need-returns
 returns c =
