@@ -13,7 +13,7 @@ pub enum Refusal {
     TooFar,
     /// 2: plane, class, type, model or prior list of wrong length.
     WrongLength(Length),
-    /// 4: type, class, flag, trim or elect code out of range; type 0 for a fit.
+    /// 4: type, class, flag, trim or elect code out of range; set that names a class over 4; type 0 for a fit.
     NoSuchCode,
     /// 5: slot over 5, or to price one that the type doesn't carry; reference outside 1 to 7.
     NoSuchSlot,
@@ -29,7 +29,7 @@ pub enum Refusal {
     NotHeld,
     /// 3: output or working buffer too short.
     TooShort(Length),
-    /// 15: fewer samples than a trimmed fit needs.
+    /// 15: fewer samples, or fewer of the classes named, than a trimmed fit needs.
     TooFew,
     /// 17: frame number 0: the shutter was closed.
     ShutterClosed,
@@ -71,7 +71,7 @@ impl Refusal {
         (1, "side over 1,024, or over 4,096 samples"),
         (18, "motion of a practice belt beyond 24 pels"),
         (2, "plane, class, type, model or prior list of wrong length"),
-        (4, "type, class, flag, trim or elect code out of range; type 0 for a fit"),
+        (4, "type, class, flag, trim or elect code out of range; set that names a class over 4; type 0 for a fit"),
         (5, "slot over 5, or to price one that the type doesn't carry; reference outside 1 to 7"),
         (14, "start of a header to write over 7"),
         (7, "model off the grid, uncarried slot or pair wrong"),
@@ -79,7 +79,7 @@ impl Refusal {
         (12, "words to store out of range or not rising"),
         (13, "class 4 to be stored in form 1"),
         (3, "output or working buffer too short"),
-        (15, "fewer samples than a trimmed fit needs"),
+        (15, "fewer samples, or fewer of the classes named, than a trimmed fit needs"),
         (17, "frame number 0: the shutter was closed"),
         (6, "elimination refuses"),
         (16, "residual of a trimmed fit not finite"),
