@@ -3,8 +3,8 @@
 mod frames;
 
 use belt::{
-    BLOCK_BYTES, Buffers, ClassSet, FIBRE, FILM, Fitted, Form, Frame, METAL, Model, MotionSample, RIGID_PLASTIC, Refusal,
-    Report, StoredModel, TEXT_BYTES, UNSORTED, sample_count,
+    BLOCK_BYTES, Buffers, ClassSet, FIBRE, FILM, Fitted, Form, Frame, METAL, Model, MotionSample, RIGID_PLASTIC,
+    Refusal, Report, StoredModel, TEXT_BYTES, UNSORTED, sample_count,
 };
 use frames::{Handed, guarded, moved, noisy_plane, smooth_plane};
 

@@ -3,9 +3,7 @@
 mod frames;
 
 use belt::Refusal::{self, *};
-use belt::{
-    Buffers, ClassSet, FIBRE, FILM, Fitted, Form, IDENTITIES, Kind, Length, METAL, Model, Shear, StoredModel,
-};
+use belt::{Buffers, ClassSet, FIBRE, FILM, Fitted, Form, IDENTITIES, Kind, Length, METAL, Model, Shear, StoredModel};
 use frames::{Handed, guarded, noisy_plane};
 
 /// Words that rise, at zero motion.
@@ -784,7 +782,10 @@ fn price_of_a_frame() {
     assert_eq!(price(Kind::Inter, &types, &models, 1, &IDENTITIES), Ok(17));
     for start in 0..8 {
         let mut header = [0; 125];
-        assert_eq!(belt::encode_global_motion(Kind::Inter, &types, &models, 1, &IDENTITIES, start, &mut header), Ok(17));
+        assert_eq!(
+            belt::encode_global_motion(Kind::Inter, &types, &models, 1, &IDENTITIES, start, &mut header),
+            Ok(17)
+        );
     }
     assert_eq!(price(Kind::Inter, &types, &models, 2, &IDENTITIES), Err(NoSuchCode));
     assert_eq!(price(Kind::Inter, &types, &models, 0, &IDENTITIES), Err(OffGrid));
