@@ -41,8 +41,9 @@ pub fn choose(set: u8, words: &[u32], classes: &[u8], out: &mut [u32]) -> usize
     let mut n = 0usize;
     let mut i = 0usize;
     while i < words.len() {
+        let class = classes[i];
         out[n] = words[i];
-        if names(set, classes[i]) {
+        if names(set, class) {
             n += 1;
         }
         i += 1;
