@@ -51,7 +51,7 @@ impl Picture {
     /// Input and reference.
     fn planes(&self) -> (Vec<u16>, Vec<u16>) {
         let mut lcg = Lcg(self.seed);
-        let first = if self.kind == 3 { self.bowl() } else { lcg.plane(self.width, self.height, self.mask) };
+        let first = if self.kind >= 3 { self.bowl() } else { lcg.plane(self.width, self.height, self.mask) };
         if self.kind == 4 {
             return (self.seen(), first);
         }
