@@ -1,16 +1,17 @@
-// The job (docs/RULES.md, 'Job'): search, sample words, fit of those of the named classes for the type
-// asked for or election, grid, score, then the blocks of all words and the header with the model at its reference. In go a frame pair, the settings, a class for
-// each sample, the six other types and models, and the prior; lent are two half planes, words, blocks
-// and header. It calls the public calls alone; its rows are in the crate `job_task`.
+// The job (docs/RULES.md, 'Job'): search, sample words, fit for the type asked for or election over the
+// words of the named classes, grid, score, then the blocks of all words and the header with the model at
+// its reference. In go a frame pair, the settings, a class for each sample, the six other types and
+// models, and the prior; lent are two half planes, words, blocks and header. It calls the public calls
+// alone; its rows are in the crate `job_task`.
 use job_model::Modelled;
 pub use job_outcome::Report;
 pub use job_task::Settings;
 use job_task::Sizes;
 use sample::MOST_SAMPLES;
 ghost use mathlib.Core.Path.{_≡_};
+ghost use Rattle.class_set.specs.Set.{chosen};
 ghost use Rattle.job_task.specs.Task.{task, lend};
 ghost use Rattle.job_task.specs.Rows.{early};
-ghost use Rattle.class_set.specs.Set.{chosen};
 ghost use Rattle.job_model.specs.Modelled.{modelled};
 ghost use Rattle.job_outcome.specs.Outcome.{refused, ended, outcome};
 ghost use Rattle.job_outcome.specs.Done.{Done};

@@ -14,7 +14,7 @@ use Rattle.job_task.specs.Task.{Task, Lent, task, sizesOf}
 use Rattle.job_task.specs.Rows.{sizeRows, refusalBefore, early}
 use Rattle.job_task.proofs.Accepted.{lengths}
 use Rattle.job_outcome.specs.declared.Report.{Report}
-use Rattle.job_outcome.specs.Outcome.{Ended, ended, samples, words, named, late, refused, accepted, outcome}
+use Rattle.job_outcome.specs.Outcome.{ended, words, named, late, refused, accepted, outcome}
 use Rattle.job_outcome.proofs.Samples.{words-length}
 
 -- what rows 1, 2 and 4 let pass of planes and classes

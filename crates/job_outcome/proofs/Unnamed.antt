@@ -5,7 +5,6 @@ use mathlib.Core.Bool.{Bool, true, false}
 use mathlib.Core.List.{[], _∷_}
 use mathlib.Core.Logic.{⊎-elim}
 use mathlib.Core.Path.{_≡_, refl, sym, ap, _∙_}
-use native.Mathlib.Omega.{arith}
 use borrow.Author.Tests.{ne-eqb}
 use lib.Dec.{ltb}
 use lib.ListN.{length}
@@ -19,7 +18,6 @@ use Rattle.job_task.specs.Rows.{tooLittle, tooFewToTrim, sizeRows, codeRows, ro
 use Rattle.job_task.proofs.Accepted.{lengths, codes, ready}
 use Rattle.job_outcome.specs.Outcome.{samples, words, named, outcome}
 use Rattle.job_outcome.specs.Unnamed as unnamed
-use Rattle.job_outcome.proofs.Stages.{refused-early}
 use Rattle.job_outcome.proofs.Samples.{words-length}
 
 either-false : (b : Bool) → either b false ≡ b

@@ -5,10 +5,10 @@
 //! A count, then for each case: seed, mask, width, height, kind, four numbers of the picture, of kind 3 the pels of its
 //! reference, of kind 4 also those of its input; frame number, type, reference, flag, trim, elect, set, start; how many
 //! pels of input and reference, classes, other types, numbers of theirs and of the prior go in, and the last four of
-//! these lists; how much of half planes, words, blocks and header is lent. Then the report (refusal, samples, seven types, 42
-//! numbers, score in two words, bits), the blocks' length in words and their words, the header's length in bytes and
-//! its bytes among `UNTOUCHED` bits, zeros up to a whole word; how many pels of the half planes are written, a sum of
-//! each, the words written and each of them.
+//! these lists; how much of half planes, words, blocks and header is lent. Then the report (refusal, samples, seven
+//! types, 42 numbers, score in two words, bits), the blocks' length in words and their words, the header's length in
+//! bytes and its bytes among `UNTOUCHED` bits, zeros up to a whole word; how many pels of the half planes are written, a
+//! sum of each, how many words, and the words.
 
 use oracle::blocks::{self, TWO};
 use oracle::list::{Lcg, List};
@@ -51,7 +51,7 @@ impl Picture {
     /// Input and reference.
     fn planes(&self) -> (Vec<u16>, Vec<u16>) {
         let mut lcg = Lcg(self.seed);
-        let first = if self.kind == 3 { self.bowl() } else { lcg.plane(self.width, self.height, self.mask) };
+        let first = if self.kind >= 3 { self.bowl() } else { lcg.plane(self.width, self.height, self.mask) };
         if self.kind == 4 {
             return (self.seen(), first);
         }
