@@ -169,7 +169,7 @@ pub fn fit_trimmed_by_class(set: u8, gm_type: u8, words: &[u32], classes: &[u8])
     }
     let mut named = [0u32; 4096];
     let n = class_set::choose(set, words, classes, &mut named);
-    trim::fit_trimmed(gm_type, &named[..n])
+    word_trim::fit_trimmed(gm_type, &named[..n])
 }
 
 pub fn quantize_trimmed_by_class(
@@ -187,7 +187,7 @@ pub fn quantize_trimmed_by_class(
     }
     let mut named = [0u32; 4096];
     let n = class_set::choose(set, words, classes, &mut named);
-    trim::quantize_trimmed(gm_type, flag, &named[..n])
+    word_trim::quantize_trimmed(gm_type, flag, &named[..n])
 }
 
 pub fn elect_by_class(set: u8, flag: u8, words: &[u32], classes: &[u8]) -> Elected
@@ -199,5 +199,5 @@ pub fn elect_by_class(set: u8, flag: u8, words: &[u32], classes: &[u8]) -> Elect
     }
     let mut named = [0u32; 4096];
     let n = class_set::choose(set, words, classes, &mut named);
-    elect::elect(flag, &named[..n])
+    word_elect::elect(flag, &named[..n])
 }

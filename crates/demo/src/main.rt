@@ -264,7 +264,7 @@ fn compare(held: Held, gm_type: u8, error: f64) -> Held {
 
 // A type's trimmed fit on the grid, and what it leaves.
 fn explain_type(held: Held, gate: f64, gm_type: u8, words: &[u32]) -> Held {
-    let candidate = trim::quantize_trimmed(gm_type, HIGH_PRECISION, words);
+    let candidate = word_trim::quantize_trimmed(gm_type, HIGH_PRECISION, words);
     print_type(gm_type);
     if candidate.refusal != 0 {
         print_count(

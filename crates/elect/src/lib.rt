@@ -1,8 +1,8 @@
-// The election of a model: a precision flag and sample words go in; the elected type, its six numbers
-// as stored and its score come out, IDENTITY where nobody wins (`estimate_global_motion`,
-// encoder/global_motion.rs; docs/RULES.md, 'Election', rows 1, 4 and 16). Over numbers of the call's
-// own, as a fit after trimming, so sample words and lent samples share one code. Who is held is an
-// answer whose numbers are still x first.
+// The election of a model: a precision flag and samples go in; the elected type, its six numbers as
+// stored and its score come out, IDENTITY where nobody wins (`estimate_global_motion`,
+// encoder/global_motion.rs; docs/RULES.md, 'Election', rows 1, 4 and 16). Who is passed over and who is
+// held, for `word_elect` too; and the election over numbers in a call's own memory, which lent samples
+// take. Who is held is an answer whose numbers are still x first.
 
 use fit::AFFINE;
 use fit::NO_SUCH_CODE;
@@ -13,13 +13,12 @@ use trim::NOT_FINITE;
 ghost use mathlib.Core.Path.{_≡_};
 ghost use Prim.Native.Nat.{_≤_};
 ghost use Rattle.sample.specs.Word.{mostSamples};
-ghost use Rattle.sample.specs.Sample.{sampleOf};
 ghost use Rattle.fit.specs.Sums.{itself};
 ghost use Rattle.trim.specs.Inner.{samplesIn};
 ghost use Rattle.elect.specs.Elect.{identityParams, errorFrom, isIdentity, invalidShear, unfit, nobody, stopped, beats, heldAfter, turn, winnerFrom, electRefusal, asStored, electedFrom};
 
 // A field of less energy than this stands still.
-const MIN_MOTION_ENERGY: f64 = 0.25;
+pub const MIN_MOTION_ENERGY: f64 = 0.25;
 
 // The part of the energy that a model must explain.
 const ELECT_ENERGY_RATIO: f64 = 0.75;
@@ -40,7 +39,7 @@ pub struct Elected {
 
 // ---- errors
 
-fn identity_params() -> [i32; 6]
+pub fn identity_params() -> [i32; 6]
     ensures { λ r. ⌜ r ≡ identityParams ⌝ }
 {
     [0, 0, 65536, 0, 0, 65536]
@@ -81,7 +80,7 @@ fn invalid_shear(gm_type: u8, params: [i32; 6]) -> bool
     shear.valid == 0
 }
 
-fn unfit(gm_type: u8, params: [i32; 6]) -> bool
+pub fn unfit(gm_type: u8, params: [i32; 6]) -> bool
     ensures { λ r. ⌜ r ≡ unfit «gm_type» params ⌝ }
 {
     if is_identity(params) {
@@ -92,7 +91,7 @@ fn unfit(gm_type: u8, params: [i32; 6]) -> bool
 
 // ---- who is held
 
-fn nobody(energy: f64) -> Elected
+pub fn nobody(energy: f64) -> Elected
     ensures { λ r. ⌜ r ≡ nobody energy ⌝ }
 {
     let params = identity_params();
@@ -129,7 +128,7 @@ fn beats(err: f64, held: Elected) -> bool
     false
 }
 
-fn held_after(energy: f64, held: Elected, gm_type: u8, params: [i32; 6], err: f64) -> Elected
+pub fn held_after(energy: f64, held: Elected, gm_type: u8, params: [i32; 6], err: f64) -> Elected
     ensures { λ r. ⌜ r ≡ heldAfter energy held «gm_type» params err ⌝ }
 {
     if (1.0 - ELECT_ENERGY_RATIO) * energy < err {
@@ -190,7 +189,7 @@ fn winner(flag: u8, numbers: &[f64; 16384], n: usize) -> Elected
     turn(flag, numbers, n, energy, second, AFFINE)
 }
 
-fn as_stored(held: Elected) -> Elected
+pub fn as_stored(held: Elected) -> Elected
     ensures { λ r. ⌜ r ≡ asStored held ⌝ }
 {
     let own = held.params;
@@ -203,9 +202,9 @@ fn as_stored(held: Elected) -> Elected
     }
 }
 
-// ---- the calls
+// ---- the call
 
-fn elect_refusal(flag: u8, samples: usize) -> u32
+pub fn elect_refusal(flag: u8, samples: usize) -> u32
     ensures { λ r. ⌜ r ≡ electRefusal flag samples ⌝ }
 {
     let first = fit::list_refusal(samples);
@@ -227,13 +226,4 @@ pub fn elected_in(flag: u8, numbers: &[f64; 16384], n: usize) -> Elected
         return stopped(refusal);
     }
     as_stored(winner(flag, numbers, n))
-}
-
-// Over sample words.
-pub fn elect(flag: u8, words: &[u32]) -> Elected
-    ensures { λ r. ⌜ r ≡ electedFrom sampleOf flag (now (words .entry)) ⌝ }
-{
-    let mut numbers = [0.0f64; 16384];
-    trim::unpack(words, &mut numbers);
-    elected_in(flag, &numbers, words.len())
 }

@@ -39,7 +39,7 @@ fn trimmed(settings: Settings, words: &[u32]) -> Quantized
     requires { ⌜ Trimming settings (now words) true ⌝ }
     ensures { λ r. ⌜ r ≡ gridAnswer settings (now (words .entry)) ⌝ }
 {
-    let t = trim::quantize_trimmed(settings.gm_type, settings.flag, words);
+    let t = word_trim::quantize_trimmed(settings.gm_type, settings.flag, words);
     let params = t.params;
     Quantized {
         refusal: t.refusal,
@@ -98,7 +98,7 @@ fn own_of(settings: Settings, words: &[u32]) -> Elected
     ensures { λ r. ⌜ r ≡ ownAnswer settings (now (words .entry)) ⌝ }
 {
     if settings.elect == 1 {
-        return elect::elect(settings.flag, words);
+        return word_elect::elect(settings.flag, words);
     }
     asked(settings, words)
 }

@@ -1,14 +1,15 @@
--- What a trim answers, by its cases: the first fit refuses, a residual isn't finite, or a last fit is made; and what the calls make of it.
+-- What a trim answers, by its cases: the first fit refuses, a residual isn't finite, or a last fit is made; and what the calls make of it. Over any list whose elements are read as samples.
 -- Assumes nothing.
 use Prim.Native.Nat.{ℕ, zero, suc, _≤_}
 use mathlib.Core.Bool.{Bool, true, false, not}
 use mathlib.Core.List.{List, [], _∷_}
 use mathlib.Core.Path.{_≡_, refl, sym, ap, subst, _∙_}
+use native.Mathlib.Nat.{le-refl}
 use native.Mathlib.Omega.{arith}
 use borrow.Author.Tests.{lt-ltb, le-ltb, ne-eqb, ltb-false}
 use lib.Dec.{ltb}
 use lib.ListN.{length, replicate}
-use lib.Ieee.{Float}
+use lib.Ieee.{Float, le}
 use Rattle.laws.specs.Binary64.{nought}
 use Rattle.laws.specs.Call.{answered}
 use Rattle.laws.specs.Refusal.{row, choose, orElse}
@@ -19,22 +20,18 @@ use Rattle.sample.specs.Word.{mostSamples}
 use Rattle.median.specs.Median.{allFinite}
 use Rattle.fit.specs.declared.Fitted.{Fitted}
 use Rattle.fit.specs.declared.Fitted.the-variants.{Refused}
-use Rattle.fit.specs.Sums.{itself}
 use Rattle.fit.specs.Fitted.{refusalOf, typeOf, fitRefusal}
 use Rattle.fit.proofs.Accepted.{fit-few, fit-type}
 use Rattle.fit.proofs.OfType.{fit-of-type}
 use Rattle.quantize.specs.declared.Quantized.{Quantized}
 use Rattle.quantize.specs.Quantize.{paramsFrom, quantizeRefusal, quantizedAs, quantizedFrom}
 use Rattle.quantize.specs.Quantize as quantizing
-use Rattle.trim.specs.declared.Cut.{Cut}
 use Rattle.trim.specs.declared.Trimmed.{Trimmed}
 use Rattle.trim.specs.declared.TrimmedModel.{TrimmedModel}
-use Rattle.trim.specs.Trim.{leastOf, tooFew, residualsFrom, keptFrom, firstFrom, usedFrom, lastFrom}
+use Rattle.trim.specs.Trim.{leastOf, tooFew, residual, residualsFrom, cutoff, keptFrom, firstFrom, usedFrom, lastFrom}
 use Rattle.trim.specs.Trim.{fewRefusal, flagRefusal, residualRefusal, trimRefusal, trimmedAs, trimmedModelAs, trimmedFrom, trimmedModelFrom}
-use Rattle.trim.specs.Inner.{sampleAt, upTo, samplesIn, under, cutAs, refusedCut, cutOf, listRefusal, modelRefusal, refusedModel, modelAs, Untrimmed, Cuts}
-use Rattle.trim.proofs.Indices.{length-upTo}
-use Rattle.trim.proofs.Mapped.{trimmed-mapped, model-mapped}
-use Rattle.trim.proofs.Under.{under-few}
+use Rattle.trim.specs.Inner.{listRefusal, modelRefusal, refusedModel, modelAs, trimAnswer, Untrimmed}
+use Rattle.trim.proofs.Passing.{passing-few}
 
 or-else-assoc : (a b c : ℕ) → orElse a (orElse b c) ≡ orElse (orElse a b) c
 or-else-assoc zero b c = refl
@@ -42,7 +39,7 @@ or-else-assoc (suc a) b c = refl
 
 -- ---- what rows 1, 4 and 15 let pass
 
-few-passes : (gmType n : ℕ) → fewRefusal gmType n ≡ 0 → leastOf gmType ≤ n
+pub few-passes : (gmType n : ℕ) → fewRefusal gmType n ≡ 0 → leastOf gmType ≤ n
 few-passes gmType n e = ltb-false n (leastOf gmType) (quiet (row 15 (tooFew gmType n) ∷ []) tt e .0)
 
 untrimmed : (gmType n : ℕ) → fitRefusal gmType n ≡ 0 → fewRefusal gmType n ≡ 0 → Untrimmed gmType n (replicate mostSamples nought)
@@ -54,10 +51,10 @@ list-untrimmed gmType n e =
     untrimmed gmType n (q .0) (q .1)
 
 module _ (gmType flag n : ℕ) (e : modelRefusal gmType flag n ≡ 0) where
-  first-quiet : (fitRefusal gmType n ≡ 0) × (orElse (flagRefusal flag) (fewRefusal gmType n) ≡ 0)
+  pub first-quiet : (fitRefusal gmType n ≡ 0) × (orElse (flagRefusal flag) (fewRefusal gmType n) ≡ 0)
   first-quiet = or-else-quiet (fitRefusal gmType n) (orElse (flagRefusal flag) (fewRefusal gmType n)) e
 
-  then-quiet : (flagRefusal flag ≡ 0) × (fewRefusal gmType n ≡ 0)
+  pub then-quiet : (flagRefusal flag ≡ 0) × (fewRefusal gmType n ≡ 0)
   then-quiet = or-else-quiet (flagRefusal flag) (fewRefusal gmType n) (first-quiet .1)
 
   pub model-few : n ≤ mostSamples
@@ -76,23 +73,17 @@ module _ (gmType flag n : ℕ) (e : modelRefusal gmType flag n ≡ 0) where
 quantize-accepts : (f : Fitted) (flag samples : ℕ) → samples ≤ mostSamples → (typeOf f ≡ 0 → ⊥) → flag ≤ 1 → quantizeRefusal f flag samples ≡ 0
 quantize-accepts f flag samples h m l = rw (le-ltb 4096 samples h, ne-eqb (typeOf f) 0 m, le-ltb 1 flag l)
 
-module _ (numbers : List Float) (gmType n : ℕ) where
-  abbrev read : ℕ → MotionSample
-  read = sampleAt numbers
-
-  abbrev xs : List ℕ
-  xs = upTo n
-
+module _ {A : Type 0} (read : A → MotionSample) (gmType : ℕ) (xs : List A) where
   abbrev first : Fitted
   first = firstFrom read gmType xs
 
   abbrev residuals : List Float
   residuals = residualsFrom read first xs
 
-  abbrev kept : List ℕ
+  abbrev kept : List A
   kept = keptFrom read first xs
 
-  abbrev used : List ℕ
+  abbrev used : List A
   used = usedFrom read gmType xs
 
   abbrev last : Fitted
@@ -117,15 +108,22 @@ module _ (numbers : List Float) (gmType n : ℕ) where
   unfolding usedFrom
   used-kept h = ap (λ (b : Bool). choose b xs kept) (le-ltb (length kept) (leastOf gmType) h)
 
+  either-few : (b : Bool) (ys : List A) → length ys ≤ length xs → length (choose b xs ys) ≤ length xs
+  either-few true ys h = le-refl (length xs)
+  either-few false ys h = h
+
+  kept-few : length kept ≤ length xs
+  unfolding keptFrom
+  kept-few = passing-few (λ (x : A). le (residual first (read x)) (cutoff residuals)) xs
+
+  pub used-few : length used ≤ length xs
+  unfolding usedFrom
+  used-few = either-few (tooFew gmType (length kept)) kept kept-few
+
   -- ---- the trim
 
-  pub refused-cuts : (squares : List Float) (k : ℕ) → n ≤ length squares → (k ≡ 0 → ⊥) → refusal ≡ k → Cuts numbers gmType n squares (refusedCut k)
-  refused-cuts squares k room h e =
-      record {
-        long = room;
-        answers = sym (ap (λ (r : ℕ). answered refusedAs r whole) e ∙ answered-refused refusedAs k whole h);
-        within = λ z. absurd (h (sym e ∙ z));
-      }
+  pub refused-answer : (k : ℕ) → (k ≡ 0 → ⊥) → refusal ≡ k → refusedAs k ≡ trimAnswer read gmType xs
+  refused-answer k h e = sym (ap (λ (r : ℕ). answered refusedAs r whole) e ∙ answered-refused refusedAs k whole h)
 
   pub first-refused : (f : Fitted) → f ≡ first → (refusalOf f ≡ 0 → ⊥) → refusal ≡ refusalOf f
   unfolding trimRefusal
@@ -145,28 +143,16 @@ module _ (numbers : List Float) (gmType n : ℕ) where
         ap (λ (k : ℕ). orElse k (orElse (residualRefusal residuals) (refusalOf last))) fitted
         ∙ ap (λ (b : Bool). orElse (choose (not b) 16 0) (refusalOf last)) e
 
-    module _ (squares : List Float) (room : n ≤ length squares) (f : Fitted) (samples : ℕ) (limit : Float)
-        (finite : allFinite residuals ≡ true) (is : f ≡ last) (counted : samples ≡ length used) (within : under squares limit n ≡ used) where
-      made : (k : ℕ) → refusalOf f ≡ k → Cuts numbers gmType n squares (answered refusedCut k (cutAs f samples limit))
-      made zero e =
-          record {
-            long = room;
-            answers =
-                ap (λ (g : Fitted). trimmedAs g samples) is
-                ∙ ap (λ (m : ℕ). trimmedAs last m) counted
-                ∙ sym (answered-accepted refusedAs refusal whole (last-decides finite ∙ sym (ap refusalOf is) ∙ e));
-            within = λ z. within;
-          }
-      made (suc k) e =
-          let no : (suc k ≡ 0 → ⊥) = λ z. absurd (omega arith) in
-          subst (λ (c : Cut). Cuts numbers gmType n squares c) (sym (answered-refused refusedCut (suc k) (cutAs f samples limit) no))
-          (refused-cuts squares (suc k) room no (last-decides finite ∙ sym (ap refusalOf is) ∙ e))
+    module _ (finite : allFinite residuals ≡ true) (f : Fitted) (samples : ℕ) (is : f ≡ last) (counted : samples ≡ length used) where
+      pub own-decides : refusal ≡ refusalOf f
+      own-decides = last-decides finite ∙ sym (ap refusalOf is)
 
       -- the last fit, or its refusal
-      pub made-cuts : Cuts numbers gmType n squares (cutOf f samples limit)
-      made-cuts = made (refusalOf f) refl
-
-  -- ---- the calls
+      pub last-answer : answered refusedAs (refusalOf f) (trimmedAs f samples) ≡ trimAnswer read gmType xs
+      last-answer =
+          ap (λ (k : ℕ). answered refusedAs k (trimmedAs f samples)) (sym own-decides)
+          ∙ ap (λ (g : Fitted). answered refusedAs refusal (trimmedAs g samples)) is
+          ∙ ap (λ (m : ℕ). answered refusedAs refusal (trimmedAs last m)) counted
 
   last-quiet : refusal ≡ 0 → refusalOf last ≡ 0
   unfolding trimRefusal
@@ -174,101 +160,86 @@ module _ (numbers : List Float) (gmType n : ℕ) where
       or-else-quiet (residualRefusal residuals) (refusalOf last)
       (or-else-quiet (refusalOf first) (orElse (residualRefusal residuals) (refusalOf last)) e .1) .1
 
-  trimmed-is : trimmedFrom read gmType xs ≡ answered refusedAs (orElse (listRefusal gmType n) refusal) whole
-  trimmed-is =
-      ap (λ (m : ℕ). answered refusedAs (orElse (fitRefusal gmType m) (orElse (fewRefusal gmType m) refusal)) whole) (length-upTo n)
-      ∙ ap (λ (k : ℕ). answered refusedAs k whole) (or-else-assoc (fitRefusal gmType n) (fewRefusal gmType n) refusal)
+  number-of : (k : ℕ) → refusal ≡ k → refusalOf (trimAnswer read gmType xs .fitted) ≡ k
+  number-of zero e = ap (λ (t : Trimmed). refusalOf (t .fitted)) (answered-accepted refusedAs refusal whole e) ∙ last-quiet e
+  number-of (suc k) e =
+      let no : (refusal ≡ 0 → ⊥) = λ z. let x : _≡_ {A = ℕ} (suc k) 0 = sym e ∙ z in absurd (omega arith) in
+      ap (λ (t : Trimmed). refusalOf (t .fitted)) (answered-refused refusedAs refusal whole no) ∙ e
 
-  pub trimmed-refused : (listRefusal gmType n ≡ 0 → ⊥) → refusedAs (listRefusal gmType n) ≡ trimmedFrom itself gmType (samplesIn numbers n)
-  trimmed-refused h =
-      sym
-      (trimmed-mapped read gmType xs
-      ∙ trimmed-is
-      ∙ ap (λ (k : ℕ). answered refusedAs k whole) (sym (or-else-refused (listRefusal gmType n) refusal h))
-      ∙ answered-refused refusedAs (listRefusal gmType n) whole h)
+  -- ---- the calls, over so many
 
-  module _ (squares : List Float) (c : Cut) (cuts : Cuts numbers gmType n squares c) where
-    pub trimmed-accepted : listRefusal gmType n ≡ 0 → trimmedAs (c .fitted) (c .used) ≡ trimmedFrom itself gmType (samplesIn numbers n)
-    trimmed-accepted e =
-        cuts .answers
-        ∙ ap (λ (k : ℕ). answered refusedAs k whole) (or-else-none (listRefusal gmType n) refusal e)
-        ∙ sym trimmed-is
-        ∙ sym (trimmed-mapped read gmType xs)
+  module _ (n : ℕ) (long : length xs ≡ n) where
+    trimmed-is : trimmedFrom read gmType xs ≡ answered refusedAs (orElse (listRefusal gmType n) refusal) whole
+    trimmed-is =
+        ap (λ (m : ℕ). answered refusedAs (orElse (fitRefusal gmType m) (orElse (fewRefusal gmType m) refusal)) whole) long
+        ∙ ap (λ (k : ℕ). answered refusedAs k whole) (or-else-assoc (fitRefusal gmType n) (fewRefusal gmType n) refusal)
 
-    cut-number : (k : ℕ) → refusal ≡ k → refusalOf (c .fitted) ≡ k
-    cut-number zero e =
-        ap (λ (t : Trimmed). refusalOf (t .fitted)) (cuts .answers ∙ answered-accepted refusedAs refusal whole e) ∙ last-quiet e
-    cut-number (suc k) e =
-        let no : (refusal ≡ 0 → ⊥) = λ z. let x : _≡_ {A = ℕ} (suc k) 0 = sym e ∙ z in absurd (omega arith) in
-        ap (λ (t : Trimmed). refusalOf (t .fitted)) (cuts .answers ∙ answered-refused refusedAs refusal whole no) ∙ e
-
-    -- the cut's own number is the trim's
-    cut-refusal : refusalOf (c .fitted) ≡ refusal
-    cut-refusal = cut-number refusal refl
-
-  module _ (flag : ℕ) where
-    abbrev wholeModel : TrimmedModel
-    wholeModel = trimmedModelAs 0 (length used) (paramsFrom read last flag used)
-
-    model-is : trimmedModelFrom read gmType flag xs ≡ answered refusedModel (orElse (modelRefusal gmType flag n) refusal) wholeModel
-    model-is =
-        ap (λ (m : ℕ). answered refusedModel (orElse (fitRefusal gmType m) (orElse (flagRefusal flag) (orElse (fewRefusal gmType m) refusal))) wholeModel) (length-upTo n)
-        ∙ ap (λ (k : ℕ). answered refusedModel (orElse (fitRefusal gmType n) k) wholeModel) (or-else-assoc (flagRefusal flag) (fewRefusal gmType n) refusal)
-        ∙ ap (λ (k : ℕ). answered refusedModel k wholeModel) (or-else-assoc (fitRefusal gmType n) (orElse (flagRefusal flag) (fewRefusal gmType n)) refusal)
-
-    pub model-refused : (modelRefusal gmType flag n ≡ 0 → ⊥) → refusedModel (modelRefusal gmType flag n) ≡ trimmedModelFrom itself gmType flag (samplesIn numbers n)
-    model-refused h =
+    pub trimmed-refused : (listRefusal gmType n ≡ 0 → ⊥) → refusedAs (listRefusal gmType n) ≡ trimmedFrom read gmType xs
+    trimmed-refused h =
         sym
-        (model-mapped read gmType xs flag
-        ∙ model-is
-        ∙ ap (λ (k : ℕ). answered refusedModel k wholeModel) (sym (or-else-refused (modelRefusal gmType flag n) refusal h))
-        ∙ answered-refused refusedModel (modelRefusal gmType flag n) wholeModel h)
+        (trimmed-is
+        ∙ ap (λ (k : ℕ). answered refusedAs k whole) (sym (or-else-refused (listRefusal gmType n) refusal h))
+        ∙ answered-refused refusedAs (listRefusal gmType n) whole h)
 
-    module _ (squares : List Float) (c : Cut) (cuts : Cuts numbers gmType n squares c) (listed : modelRefusal gmType flag n ≡ 0) where
-      -- by the cut's own number
-      model-by : trimmedModelFrom itself gmType flag (samplesIn numbers n) ≡ answered refusedModel (refusalOf (c .fitted)) wholeModel
-      model-by =
-          model-mapped read gmType xs flag
-          ∙ model-is
-          ∙ ap (λ (k : ℕ). answered refusedModel k wholeModel) (sym (or-else-none (modelRefusal gmType flag n) refusal listed) ∙ sym (cut-refusal squares c cuts))
+    pub trimmed-accepted : listRefusal gmType n ≡ 0 → trimAnswer read gmType xs ≡ trimmedFrom read gmType xs
+    trimmed-accepted e =
+        ap (λ (k : ℕ). answered refusedAs k whole) (or-else-none (listRefusal gmType n) refusal e) ∙ sym trimmed-is
 
-      pub model-cut-refused : (refusalOf (c .fitted) ≡ 0 → ⊥) → refusedModel (refusalOf (c .fitted)) ≡ trimmedModelFrom itself gmType flag (samplesIn numbers n)
-      model-cut-refused h = sym (model-by ∙ answered-refused refusedModel (refusalOf (c .fitted)) wholeModel h)
+    module _ (flag : ℕ) where
+      abbrev wholeModel : TrimmedModel
+      wholeModel = trimmedModelAs 0 (length used) (paramsFrom read last flag used)
 
-      module _ (fitted : refusalOf (c .fitted) ≡ 0) where
-        quiet-trim : refusal ≡ 0
-        quiet-trim = sym (cut-refusal squares c cuts) ∙ fitted
+      model-is : trimmedModelFrom read gmType flag xs ≡ answered refusedModel (orElse (modelRefusal gmType flag n) refusal) wholeModel
+      model-is =
+          ap (λ (m : ℕ). answered refusedModel (orElse (fitRefusal gmType m) (orElse (flagRefusal flag) (orElse (fewRefusal gmType m) refusal))) wholeModel) long
+          ∙ ap (λ (k : ℕ). answered refusedModel (orElse (fitRefusal gmType n) k) wholeModel) (or-else-assoc (flagRefusal flag) (fewRefusal gmType n) refusal)
+          ∙ ap (λ (k : ℕ). answered refusedModel k wholeModel) (or-else-assoc (fitRefusal gmType n) (orElse (flagRefusal flag) (fewRefusal gmType n)) refusal)
 
-        cut-is : trimmedAs (c .fitted) (c .used) ≡ whole
-        cut-is = cuts .answers ∙ answered-accepted refusedAs refusal whole quiet-trim
+      pub model-refused : (modelRefusal gmType flag n ≡ 0 → ⊥) → refusedModel (modelRefusal gmType flag n) ≡ trimmedModelFrom read gmType flag xs
+      model-refused h =
+          sym
+          (model-is
+          ∙ ap (λ (k : ℕ). answered refusedModel k wholeModel) (sym (or-else-refused (modelRefusal gmType flag n) refusal h))
+          ∙ answered-refused refusedModel (modelRefusal gmType flag n) wholeModel h)
 
-        within : under squares (c .limit) n ≡ used
-        within = cuts .within quiet-trim
+      module _ (listed : modelRefusal gmType flag n ≡ 0) (t : Trimmed) (is : t ≡ trimAnswer read gmType xs) where
+        -- the answer's own number is the trim's
+        own-number : refusalOf (t .fitted) ≡ refusal
+        own-number = ap (λ (a : Trimmed). refusalOf (a .fitted)) is ∙ number-of refusal refl
 
-        pub cut-counted : c .used ≡ length (under squares (c .limit) n)
-        cut-counted = ap (λ (t : Trimmed). t .used) cut-is ∙ ap (λ (l : List ℕ). length l) (sym within)
+        model-by : trimmedModelFrom read gmType flag xs ≡ answered refusedModel (refusalOf (t .fitted)) wholeModel
+        model-by =
+            model-is ∙ ap (λ (k : ℕ). answered refusedModel k wholeModel) (sym (or-else-none (modelRefusal gmType flag n) refusal listed) ∙ sym own-number)
 
-        few-used : length used ≤ mostSamples
-        few-used =
-            let h : length (under squares (c .limit) n) ≤ n = under-few squares (c .limit) n in
-            let e : length (under squares (c .limit) n) ≡ length used = ap (λ (l : List ℕ). length l) within in
-            omega (arith, h, e, model-few gmType flag n listed)
+        pub model-fit-refused : (refusalOf (t .fitted) ≡ 0 → ⊥) → refusedModel (refusalOf (t .fitted)) ≡ trimmedModelFrom read gmType flag xs
+        model-fit-refused h = sym (model-by ∙ answered-refused refusedModel (refusalOf (t .fitted)) wholeModel h)
 
-        typed : typeOf last ≡ 0 → ⊥
-        typed e =
-            let t = model-type gmType flag n listed in
-            let same : typeOf last ≡ gmType = fit-of-type read gmType used (t .0) (t .1) .same (last-quiet quiet-trim) in
-            absurd (omega (arith, e, same, t .0))
+        module _ (fitted : refusalOf (t .fitted) ≡ 0) where
+          pub quiet-trim : refusal ≡ 0
+          quiet-trim = sym own-number ∙ fitted
 
-        on-grid : quantizedFrom read last flag used ≡ quantizedAs 0 (paramsFrom read last flag used)
-        on-grid =
-            answered-accepted quantizing.refusedModel (quantizeRefusal last flag (length used)) (quantizedAs 0 (paramsFrom read last flag used))
-            (quantize-accepts last flag (length used) few-used typed (model-flag gmType flag n listed))
+          is-whole : t ≡ whole
+          is-whole = is ∙ answered-accepted refusedAs refusal whole quiet-trim
 
-        pub model-accepted : modelAs (c .used) (quantizedFrom read (c .fitted) flag (under squares (c .limit) n)) ≡ trimmedModelFrom itself gmType flag (samplesIn numbers n)
-        model-accepted =
-            ap (λ (t : Trimmed). modelAs (t .used) (quantizedFrom read (t .fitted) flag (under squares (c .limit) n))) cut-is
-            ∙ ap (λ (l : List ℕ). modelAs (length used) (quantizedFrom read last flag l)) within
-            ∙ ap (λ (q : Quantized). modelAs (length used) q) on-grid
-            ∙ sym (answered-accepted refusedModel (refusalOf (c .fitted)) wholeModel fitted)
-            ∙ sym model-by
+          pub used-counted : t .used ≡ length used
+          used-counted = ap (λ (a : Trimmed). a .used) is-whole
+
+          typed : typeOf last ≡ 0 → ⊥
+          typed e =
+              let t = model-type gmType flag n listed in
+              let same : typeOf last ≡ gmType = fit-of-type read gmType used (t .0) (t .1) .same (last-quiet quiet-trim) in
+              absurd (omega (arith, e, same, t .0))
+
+          on-grid : quantizedFrom read last flag used ≡ quantizedAs 0 (paramsFrom read last flag used)
+          on-grid =
+              let few : length used ≤ mostSamples = omega (arith, used-few, long, model-few gmType flag n listed) in
+              answered-accepted quantizing.refusedModel (quantizeRefusal last flag (length used)) (quantizedAs 0 (paramsFrom read last flag used))
+              (quantize-accepts last flag (length used) few typed (model-flag gmType flag n listed))
+
+          pub model-accepted : (l : List A) → l ≡ used → modelAs (t .used) (quantizedFrom read (t .fitted) flag l) ≡ trimmedModelFrom read gmType flag xs
+          model-accepted l e =
+              ap (λ (a : Trimmed). modelAs (a .used) (quantizedFrom read (a .fitted) flag l)) is-whole
+              ∙ ap (λ (ys : List A). modelAs (length used) (quantizedFrom read last flag ys)) e
+              ∙ ap (λ (q : Quantized). modelAs (length used) q) on-grid
+              ∙ sym (answered-accepted refusedModel (refusalOf (t .fitted)) wholeModel fitted)
+              ∙ sym model-by

@@ -18,7 +18,8 @@ use Rattle.fit.specs.declared.Fitted.{Fitted}
 use Rattle.fit.specs.Fitted.{fitFrom}
 use Rattle.trim.specs.Trim.{leastOf, residualsFrom, cutoff, keptFrom, firstFrom, usedFrom}
 use Rattle.trim.specs.Inner.{sampleAt, upTo, squaresFrom, under, refusedCut, cutOf, Limits, Under, Squared, Cuts}
-use Rattle.trim.proofs.Answers.{used-all, used-kept, refused-cuts, not-finite, made-cuts}
+use Rattle.trim.proofs.Answers.{used-all, used-kept, not-finite}
+use Rattle.trim.proofs.Cuts.{refused-cuts, made-cuts}
 use Rattle.trim.proofs.Indices.{length-upTo}
 use Rattle.trim.proofs.NoSign.{squares-bare}
 use Rattle.trim.proofs.Roots.{finite-roots, roots-of-squares}
@@ -33,7 +34,7 @@ some-of true b = lit< tt
 some-of false true = lit< tt
 some-of false false = lit< tt
 
-some-least : (gmType : ℕ) → 0 < leastOf gmType
+pub some-least : (gmType : ℕ) → 0 < leastOf gmType
 some-least gmType = some-of (eqb gmType 1) (eqb gmType 2)
 
 module _ (numbers : List Float) (gmType n : ℕ) (squares : List Float) (first : Fitted) (r : Squared numbers gmType n squares first) where
@@ -75,7 +76,7 @@ module _ (numbers : List Float) (gmType n : ℕ) (squares : List Float) (first :
 
   pub infinite-cuts : allFinite (take n squares) ≡ false → Cuts numbers gmType n squares (refusedCut 16)
   infinite-cuts e =
-      refused-cuts numbers gmType n squares 16 squares-long (λ z. absurd (omega arith)) (not-finite numbers gmType n (r .fitted) (finite-is false e))
+      refused-cuts numbers gmType n squares 16 squares-long (λ z. absurd (omega arith)) (not-finite read gmType (upTo n) (r .fitted) (finite-is false e))
 
   module _ (finite : allFinite (take n squares) ≡ true) where
     each-finite : allFinite residuals ≡ true
@@ -105,16 +106,16 @@ module _ (numbers : List Float) (gmType n : ℕ) (squares : List Float) (first :
       -- too few are kept: the first fit is the last
       pub stood-cuts : count < leastOf gmType → (top : Float) → top ≡ inf false → Cuts numbers gmType n squares (cutOf first n top)
       stood-cuts h top q =
-          let all : usedFrom read gmType (upTo n) ≡ upTo n = used-all numbers gmType n (omega (arith, h, kept-count)) in
-          made-cuts numbers gmType n (r .fitted) squares squares-long first n top each-finite
+          let all : usedFrom read gmType (upTo n) ≡ upTo n = used-all read gmType (upTo n) (omega (arith, h, kept-count)) in
+          made-cuts numbers gmType n (r .fitted) each-finite squares squares-long first n top
           (r .is ∙ ap (λ (l : List ℕ). fitFrom read gmType l) (sym all))
           (sym (length-upTo n) ∙ ap (λ (l : List ℕ). length l) (sym all))
           (ap (λ (l : List Float). under l top n) (r .squared) ∙ all-under numbers before n (r .old) each-measured top q ∙ sym all)
 
       pub fitted-cuts : leastOf gmType ≤ count → (f : Fitted) → f ≡ fitFrom read gmType (under squares limit n) → Cuts numbers gmType n squares (cutOf f count limit)
       fitted-cuts h f q =
-          let those : under squares limit n ≡ usedFrom read gmType (upTo n) = is-kept ∙ sym (used-kept numbers gmType n (omega (arith, h, kept-count))) in
-          made-cuts numbers gmType n (r .fitted) squares squares-long f count limit each-finite
+          let those : under squares limit n ≡ usedFrom read gmType (upTo n) = is-kept ∙ sym (used-kept read gmType (upTo n) (omega (arith, h, kept-count))) in
+          made-cuts numbers gmType n (r .fitted) each-finite squares squares-long f count limit
           (q ∙ ap (λ (l : List ℕ). fitFrom read gmType l) those)
           (counted ∙ ap (λ (l : List ℕ). length l) those)
           those

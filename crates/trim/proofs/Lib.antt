@@ -6,5 +6,6 @@ pub mod NoSign
 pub mod Roots
 pub mod Under
 pub mod Answers
+pub mod Cuts
 pub mod FirstFit
 pub mod LastFit

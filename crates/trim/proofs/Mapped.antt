@@ -1,20 +1,16 @@
 -- A list that is read as samples has the trimmed fit of those samples: a fit, the residuals, what is kept and the grid numbers take what is read and nothing else.
 -- Assumes nothing.
-use Prim.Native.Nat.{ℕ, _≤_, _<_}
+use Prim.Native.Nat.{ℕ}
 use mathlib.Core.Bool.{Bool, true, false}
 use mathlib.Core.List.{List, [], _∷_, map}
-use mathlib.Core.Logic.{⊎-elim}
-use mathlib.Core.Path.{_≡_, refl, sym, ap, _∙_}
-use borrow.Author.Tests.{lt-ltb}
+use mathlib.Core.Path.{_≡_, refl, ap, _∙_}
 use lib.Dec.{eqb}
 use lib.IntN.{ℤ}
 use lib.ListN.{length, length-map}
 use lib.Ieee.{Float, le}
 use Rattle.laws.specs.Call.{answered}
 use Rattle.laws.specs.Refusal.{choose, orElse}
-use Rattle.laws.proofs.Cases.{lt-or-le}
 use Rattle.sample.specs.declared.MotionSample.{MotionSample}
-use Rattle.sample.specs.Word.{mostSamples}
 use Rattle.fit.specs.declared.Fitted.{Fitted}
 use Rattle.fit.specs.declared.Fitted.the-variants.{Refused}
 use Rattle.fit.specs.Sums.{Summing, itself}
@@ -124,33 +120,6 @@ module _ {A : Type 0} (read : A → MotionSample) where
           ∙ ap (λ (n : ℕ). modelBy (length xs) (trimRefusal read gmType xs) (trimmedModelAs 0 n ps)) used-length
           ∙ ap (λ (p : List ℤ). modelBy (length xs) (trimRefusal read gmType xs) (trimmedModelAs 0 (length used) p)) last-params
 
--- ---- numbers that hold a list's samples
-
-module _ {A : Type 0} (read : A → MotionSample) where
-  -- a list that is too long is refused, whatever it holds
-  long-trimmed : (gmType : ℕ) (xs : List A) → mostSamples < length xs → trimmedFrom read gmType xs ≡ trimmedAs (Refused 1) 0
-  long-trimmed gmType xs h = rw (lt-ltb 4096 (length xs) h)
-
-  long-model : (gmType flag : ℕ) (xs : List A) → mostSamples < length xs → trimmedModelFrom read gmType flag xs ≡ refusedModel 1
-  long-model gmType flag xs h = rw (lt-ltb 4096 (length xs) h)
-
+-- as many as were asked for
 pub length-samplesIn : (numbers : List Float) (n : ℕ) → length (samplesIn numbers n) ≡ n
 length-samplesIn numbers n = length-map (upTo n) (sampleAt numbers) ∙ length-upTo n
-
-module _ {A : Type 0} (read : A → MotionSample) (xs : List A) (numbers : List Float) (held : length xs ≤ mostSamples → samplesIn numbers (length xs) ≡ map read xs) (gmType : ℕ) where
-  abbrev unpacked : List MotionSample
-  unpacked = samplesIn numbers (length xs)
-
-  pub trimmed-unpacked : trimmedFrom itself gmType unpacked ≡ trimmedFrom read gmType xs
-  trimmed-unpacked =
-      ⊎-elim
-      (λ (h : mostSamples < length xs). long-trimmed itself gmType unpacked (rw (length-samplesIn numbers (length xs)) h) ∙ sym (long-trimmed read gmType xs h))
-      (λ (h : length xs ≤ mostSamples). ap (λ (l : List MotionSample). trimmedFrom itself gmType l) (held h) ∙ trimmed-mapped read gmType xs)
-      (lt-or-le mostSamples (length xs))
-
-  pub model-unpacked : (flag : ℕ) → trimmedModelFrom itself gmType flag unpacked ≡ trimmedModelFrom read gmType flag xs
-  model-unpacked flag =
-      ⊎-elim
-      (λ (h : mostSamples < length xs). long-model itself gmType flag unpacked (rw (length-samplesIn numbers (length xs)) h) ∙ sym (long-model read gmType flag xs h))
-      (λ (h : length xs ≤ mostSamples). ap (λ (l : List MotionSample). trimmedModelFrom itself gmType flag l) (held h) ∙ model-mapped read gmType xs flag)
-      (lt-or-le mostSamples (length xs))

@@ -24,6 +24,7 @@ use Rattle.fit.specs.declared.Fitted.the-variants.{Refused}
 use Rattle.fit.specs.Fitted.{refusalOf, fitRefusal}
 use Rattle.quantize.specs.declared.Quantized.{Quantized}
 use Rattle.trim.specs.declared.Cut.{Cut}
+use Rattle.trim.specs.declared.Trimmed.{Trimmed}
 use Rattle.trim.specs.declared.TrimmedModel.{TrimmedModel}
 use Rattle.trim.specs.Trim.{leastOf, continuousFit, passing, firstFrom, usedFrom, lastFrom, fewRefusal, flagRefusal, trimRefusal, trimmedAs, trimmedModelAs}
 
@@ -115,13 +116,16 @@ pub record Squared (numbers : List Float) (gmType n : ℕ) (squares : List Float
   pub long : length old ≡ mostSamples
   pub squared : squares ≡ onto (squaresFrom (sampleAt numbers) (firstFrom (sampleAt numbers) gmType (upTo n)) (upTo n)) old
 
--- the answer after rows 1, 4 and 15, and the limit that the last fit's samples are under
+-- the answer after rows 1, 4 and 15
+abbrev pub trimAnswer : {A : Type 0} → (A → MotionSample) → ℕ → List A → Trimmed
+trimAnswer read gmType xs =
+    answered (λ k. trimmedAs (Refused k) 0) (trimRefusal read gmType xs)
+    (trimmedAs (lastFrom read gmType xs) (length (usedFrom read gmType xs)))
+
+-- of a cut, and the limit that the last fit's samples are under
 pub record Cuts (numbers : List Float) (gmType n : ℕ) (squares : List Float) (c : Cut) : Type 0 where
   pub long : n ≤ length squares
-  pub answers :
-      trimmedAs (c .fitted) (c .used)
-      ≡ answered (λ k. trimmedAs (Refused k) 0) (trimRefusal (sampleAt numbers) gmType (upTo n))
-      (trimmedAs (lastFrom (sampleAt numbers) gmType (upTo n)) (length (usedFrom (sampleAt numbers) gmType (upTo n))))
+  pub answers : trimmedAs (c .fitted) (c .used) ≡ trimAnswer (sampleAt numbers) gmType (upTo n)
   pub within : trimRefusal (sampleAt numbers) gmType (upTo n) ≡ 0 → under squares (c .limit) n ≡ usedFrom (sampleAt numbers) gmType (upTo n)
 
 -- ---- the calls

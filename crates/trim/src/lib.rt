@@ -26,7 +26,6 @@ ghost use lib.ListN.{length, take};
 ghost use Rattle.laws.specs.Buffer.{onto};
 ghost use Rattle.laws.specs.Loops.{fold};
 ghost use Rattle.sample.specs.Word.{mostSamples};
-ghost use Rattle.sample.specs.Sample.{sampleOf};
 ghost use Rattle.median.specs.Inner.{Findable};
 ghost use Rattle.root.specs.Root.{root};
 ghost use Rattle.median.specs.Median.{allFinite};
@@ -35,7 +34,7 @@ ghost use Rattle.fit.specs.Fitted.{fitFrom};
 ghost use Rattle.quantize.specs.Quantize.{quantizedFrom};
 ghost use Rattle.quantize.specs.Inner.{refitStep};
 ghost use Rattle.trim.specs.Trim.{leastOf, continuousFit, cutoff, fewRefusal, trimmedFrom, trimmedModelFrom};
-ghost use Rattle.trim.specs.Inner.{mostNumbers, sampleAt, upTo, samplesIn, stored, squaresFrom, under, refusedCut, cutOf};
+ghost use Rattle.trim.specs.Inner.{sampleAt, upTo, samplesIn, stored, squaresFrom, under, refusedCut, cutOf};
 ghost use Rattle.trim.specs.Inner.{listRefusal, modelRefusal, refusedModel, modelAs, Bare, Limits, Under, Untrimmed, Squared, Cuts};
 
 // Rows of the rules' table.
@@ -51,7 +50,7 @@ const LEAST_ROTZOOM: usize = 6;
 const LEAST_AFFINE: usize = 8;
 
 // The pattern of infinity.
-const INFINITE: u64 = 0x7ff0_0000_0000_0000;
+pub const INFINITE: u64 = 0x7ff0_0000_0000_0000;
 
 // So many patterns from the square of a cutoff the limit of the squares is looked for first.
 const BESIDE: u64 = 4;
@@ -108,25 +107,9 @@ pub fn sample_at(numbers: &[f64; 16384], i: usize) -> MotionSample
     }
 }
 
-// A list that is too long isn't unpacked: the call refuses it.
-pub fn unpack(words: &[u32], numbers: &mut [f64; 16384])
-    requires { ⌜ length (now numbers) ≡ mostNumbers ⌝ }
-    ensures { λ _. ⌜ (length (now (words .entry)) ≤ mostSamples → samplesIn (now (numbers .exit)) (length (now (words .entry))) ≡ map sampleOf (now (words .entry))) ⌝ }
-{
-    if words.len() > MOST_SAMPLES {
-        return;
-    }
-    let centres = sample::centres();
-    let mut i = 0usize;
-    while i < words.len() {
-        store(numbers, i, sample::sample_by(&centres, words[i]));
-        i += 1;
-    }
-}
-
 // ---- residuals
 
-fn continuous_fit(fitted: Fitted) -> ContinuousModel
+pub fn continuous_fit(fitted: Fitted) -> ContinuousModel
     ensures { λ r. ⌜ r ≡ continuousFit fitted ⌝ }
 {
     match fitted {
@@ -339,7 +322,7 @@ pub fn least_of(gm_type: u8) -> usize
     LEAST_AFFINE
 }
 
-fn all_finite(squares: &[f64], n: usize) -> bool
+pub fn all_finite(squares: &[f64], n: usize) -> bool
     requires { ⌜ n ≤ length (now squares) ⌝ }
     ensures { λ r. ⌜ r ≡ allFinite (take n (now (squares .entry))) ⌝ }
 {
@@ -409,7 +392,7 @@ fn square_limit(cutoff: f64) -> f64
 }
 
 // A residual is at most the cutoff where its square is at most this.
-fn limit_of(squares: &[f64], n: usize) -> f64
+pub fn limit_of(squares: &[f64], n: usize) -> f64
     requires { ⌜ n ≤ length (now squares) ⌝ }
     requires { ⌜ Findable (take n (now squares)) ⌝ }
     ensures { λ r. ⌜ Limits (cutoff (map root (take n (now (squares .entry))))) r ⌝ }
@@ -489,7 +472,7 @@ fn few_refusal(gm_type: u8, samples: usize) -> u32
     0
 }
 
-fn list_refusal(gm_type: u8, samples: usize) -> u32
+pub fn list_refusal(gm_type: u8, samples: usize) -> u32
     ensures { λ r. ⌜ r ≡ listRefusal «gm_type» samples ⌝ }
 {
     let first = fit::fit_refusal(gm_type, samples);
@@ -499,7 +482,7 @@ fn list_refusal(gm_type: u8, samples: usize) -> u32
     few_refusal(gm_type, samples)
 }
 
-fn model_refusal(gm_type: u8, flag: u8, samples: usize) -> u32
+pub fn model_refusal(gm_type: u8, flag: u8, samples: usize) -> u32
     ensures { λ r. ⌜ r ≡ modelRefusal «gm_type» flag samples ⌝ }
 {
     let first = fit::fit_refusal(gm_type, samples);
@@ -532,7 +515,7 @@ pub fn trimmed_fit(gm_type: u8, numbers: &[f64; 16384], n: usize) -> Trimmed
     }
 }
 
-fn refused_model(number: u32) -> TrimmedModel
+pub fn refused_model(number: u32) -> TrimmedModel
     ensures { λ r. ⌜ r ≡ refusedModel number ⌝ }
 {
     let params = [0i32; 6];
@@ -580,22 +563,4 @@ pub fn trimmed_model(gm_type: u8, flag: u8, numbers: &[f64; 16384], n: usize) ->
         return refused_model(number);
     }
     on_grid(fitted, flag, numbers, &squares, n, cut.limit, cut.used)
-}
-
-// The fit of a type code over sample words, after trimming.
-pub fn fit_trimmed(gm_type: u8, words: &[u32]) -> Trimmed
-    ensures { λ r. ⌜ r ≡ trimmedFrom sampleOf «gm_type» (now (words .entry)) ⌝ }
-{
-    let mut numbers = [0.0f64; 16384];
-    unpack(words, &mut numbers);
-    trimmed_fit(gm_type, &numbers, words.len())
-}
-
-// The same on the grid, x first.
-pub fn quantize_trimmed(gm_type: u8, flag: u8, words: &[u32]) -> TrimmedModel
-    ensures { λ r. ⌜ r ≡ trimmedModelFrom sampleOf «gm_type» flag (now (words .entry)) ⌝ }
-{
-    let mut numbers = [0.0f64; 16384];
-    unpack(words, &mut numbers);
-    trimmed_model(gm_type, flag, &numbers, words.len())
 }

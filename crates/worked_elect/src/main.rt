@@ -21,7 +21,7 @@ fn agrees(list: i32, e: Elected) -> bool {
 
 fn elected_holds(list: i32, words: &[u32]) -> bool {
     let flag = replay::next_code(list);
-    agrees(list, elect::elect(flag, words))
+    agrees(list, word_elect::elect(flag, words))
 }
 
 // The words of a case, up to one more than a list may have.

@@ -194,8 +194,8 @@ fn trimmed_holds(list: i32, words: &[u32]) -> bool {
     let refusal = replay::next_word(list);
     let used = replay::next_word(list);
     let wanted = replay::next_params(list);
-    let fitted = trim::fit_trimmed(gm_type, words);
-    let model = trim::quantize_trimmed(gm_type, flag, words);
+    let fitted = word_trim::fit_trimmed(gm_type, words);
+    let model = word_trim::quantize_trimmed(gm_type, flag, words);
     let params = model.params;
     same_trimmed(fitted, fit_refusal, fit_used, values)
         && model.refusal == refusal

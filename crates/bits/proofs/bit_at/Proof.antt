@@ -1,4 +1,5 @@
 -- `bits::bit_at`: inside the bytes the bit of its byte, past them the definition's 0. Assumes nothing.
+use native.Mathlib.Omega.{arith}
 use borrow.Author.Needs.{needs}
 use Rattle.bits.proofs.bit_at.Statement.{statement}
 use Rattle.bits.proofs.bit_at.Tie as tie
@@ -20,4 +21,4 @@ returns-2 c = (sym (rw (List·getD-eq-default (c .before .before .args .bytes .n
 pub bit-at-spec : {M : Type 1} → statement M
 bit-at-spec =
     tie.close
-    (tie.spec (search needs) (search needs) (search needs) (search needs) (search needs) returns returns-2)
+    (tie.spec (λ c. omega arith) (λ c. omega arith) (λ c. omega arith) (λ c. omega arith) (λ c. omega arith) returns returns-2)

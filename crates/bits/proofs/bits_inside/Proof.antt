@@ -22,12 +22,12 @@ pub bits-inside-spec : {M : Type 1} → statement M
 bits-inside-spec =
     tie.close
     (tie.spec
-    (search needs)
-    (search needs)
-    (search needs)
-    (search needs)
-    (search needs)
-    (search needs)
+    (λ c. omega arith)
+    (λ c. omega arith)
+    (λ c. omega arith)
+    (λ c. omega arith)
+    (λ c. omega arith)
+    (λ c. omega arith)
     rem-result
     cast-result-2
     returns)

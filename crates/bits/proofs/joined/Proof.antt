@@ -56,12 +56,12 @@ pub joined-spec : {M : Type 1} → statement M
 joined-spec =
     tie.close
     (tie.spec
-    (search needs)
-    (search needs)
+    (λ c. omega arith)
+    (λ c. omega arith)
     div-before
-    (search needs)
+    (λ c. omega arith)
     mul-result
-    (search needs)
+    (λ c. omega arith)
     rem-result
     add-result
     returns)

@@ -29,4 +29,4 @@ returns-2 c =
     )
 
 pub ns-field-spec : {M : Type 1} → statement M
-ns-field-spec = tie.close (tie.spec (search needs) (search needs) returns (search needs) returns-2)
+ns-field-spec = tie.close (tie.spec (λ c. omega arith) (λ c. omega arith) returns (λ c. omega arith) returns-2)

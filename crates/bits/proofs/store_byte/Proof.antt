@@ -12,4 +12,4 @@ returns c =
     rw (c .low-byte .ensures) (sym (put-byte (a .buffer .now) (a .at) (c .before .before .pre) (omega (arith, c .before .slice-known .given (a .at))) (a .word)))
 
 pub store-byte-spec : {M : Type 1} → statement M
-store-byte-spec = tie.close (tie.spec (search needs) (search needs) (search needs) returns)
+store-byte-spec = tie.close (tie.spec (λ c. omega arith) (λ c. omega arith) (search needs) returns)

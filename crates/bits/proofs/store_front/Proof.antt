@@ -15,4 +15,4 @@ returns c =
 pub store-front-spec : {M : Type 1} → statement M
 store-front-spec =
     tie.close
-    (tie.spec (search needs) (search needs) (search needs) (search needs) returns)
+    (tie.spec (λ c. omega arith) (λ c. omega arith) (λ c. omega arith) (search needs) returns)

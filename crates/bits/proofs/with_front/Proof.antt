@@ -52,10 +52,10 @@ pub with-front-spec : {M : Type 1} → statement M
 with-front-spec =
     tie.close
     (tie.spec
-    (search needs)
-    (search needs)
+    (λ c. omega arith)
+    (λ c. omega arith)
     rem-kept
-    (search needs)
+    (λ c. omega arith)
     rem-result
     mul-result
     add-result

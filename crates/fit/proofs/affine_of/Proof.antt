@@ -1,5 +1,6 @@
 -- `fit::affine_of`: the two systems share their matrix, and each solution is the definition's.
 -- Assumes nothing.
+use native.Mathlib.Omega.{arith}
 use mathlib.Core.List.{[], _∷_}
 use mathlib.Core.Path.{ap, _∙_}
 use Rattle.laws.specs.Binary64.{nought}
@@ -28,8 +29,8 @@ pub affine-of-spec : {M : Type 1} → statement M
 affine-of-spec =
     tie.close
     (tie.spec
-    (search needs)
-    (search needs)
-    (search needs)
-    (search needs)
+    (λ c. omega arith)
+    (λ c. omega arith)
+    (λ c. omega arith)
+    (λ c. omega arith)
     returns)

@@ -1,5 +1,6 @@
 -- `fit::affine_sums`: the sums of the fields give the sums of the samples.
 -- Assumes nothing.
+use native.Mathlib.Omega.{arith}
 use borrow.Author.Needs.{needs}
 use mathlib.Core.Path.{_∙_, ap}
 use lib.ListN.{length}
@@ -17,4 +18,4 @@ returns c =
     c .affine-over .ensures ∙ ap (λ (t : Fields). affineOver t (length ws)) (counts .0) ∙ affine-over ws (counts .1 .1) (s .pre)
 
 pub affine-sums-spec : {M : Type 1} → statement M
-affine-sums-spec = tie.close (tie.spec (search needs) (search needs) (search needs) returns)
+affine-sums-spec = tie.close (tie.spec (λ c. omega arith) (λ c. omega arith) (λ c. omega arith) returns)

@@ -1,5 +1,6 @@
 -- `fit::rotzoom_fit`: the sums are the definition's, and the fit is theirs.
 -- Assumes nothing.
+use native.Mathlib.Omega.{arith}
 use Rattle.fit.specs.Fitted.{rotZoomFrom}
 use borrow.Author.Needs.{needs}
 use Rattle.fit.proofs.rotzoom_fit.Statement.{statement}
@@ -10,4 +11,4 @@ unfolding rotZoomFrom
 returns c = rw (← c .before .rotzoom-sums .ensures) (c .rotzoom-of .ensures)
 
 pub rotzoom-fit-spec : {M : Type 1} → statement M
-rotzoom-fit-spec = tie.close (tie.spec (search needs) (search needs) returns)
+rotzoom-fit-spec = tie.close (tie.spec (λ c. omega arith) (λ c. omega arith) returns)

@@ -1,5 +1,6 @@
 -- `fit::rotzoom_of`: the sums make the system, and its solution the fit.
 -- Assumes nothing.
+use native.Mathlib.Omega.{arith}
 use borrow.Author.Needs.{needs}
 use Rattle.fit.proofs.rotzoom_of.Statement.{statement}
 use Rattle.fit.proofs.rotzoom_of.Tie as tie
@@ -11,8 +12,8 @@ pub rotzoom-of-spec : {M : Type 1} → statement M
 rotzoom-of-spec =
     tie.close
     (tie.spec
-    (search needs)
-    (search needs)
-    (search needs)
-    (search needs)
+    (λ c. omega arith)
+    (λ c. omega arith)
+    (λ c. omega arith)
+    (λ c. omega arith)
     returns)

@@ -1,5 +1,6 @@
 -- `fit::rotzoom_over`: each sum is the definition's, of the same sums of fields.
 -- Assumes nothing.
+use native.Mathlib.Omega.{arith}
 use borrow.Author.Needs.{needs}
 use Rattle.fit.proofs.rotzoom_over.Statement.{statement}
 use Rattle.fit.proofs.rotzoom_over.Tie as tie
@@ -11,14 +12,14 @@ pub rotzoom-over-spec : {M : Type 1} → statement M
 rotzoom-over-spec =
     tie.close
     (tie.spec
-    (search needs)
-    (search needs)
-    (search needs)
-    (search needs)
-    (search needs)
-    (search needs)
-    (search needs)
-    (search needs)
-    (search needs)
-    (search needs)
+    (λ c. omega arith)
+    (λ c. omega arith)
+    (λ c. omega arith)
+    (λ c. omega arith)
+    (λ c. omega arith)
+    (λ c. omega arith)
+    (λ c. omega arith)
+    (λ c. omega arith)
+    (λ c. omega arith)
+    (λ c. omega arith)
     returns)

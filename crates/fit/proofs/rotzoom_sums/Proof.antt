@@ -1,5 +1,6 @@
 -- `fit::rotzoom_sums`: the sums of the fields give the sums of the samples.
 -- Assumes nothing.
+use native.Mathlib.Omega.{arith}
 use borrow.Author.Needs.{needs}
 use mathlib.Core.Path.{_∙_, ap}
 use lib.ListN.{length}
@@ -17,4 +18,4 @@ returns c =
     c .rotzoom-over .ensures ∙ ap (λ (t : Fields). rotZoomOver t (length ws)) (counts .0) ∙ rotZoom-over ws (counts .1 .1) (s .pre)
 
 pub rotzoom-sums-spec : {M : Type 1} → statement M
-rotzoom-sums-spec = tie.close (tie.spec (search needs) (search needs) (search needs) returns)
+rotzoom-sums-spec = tie.close (tie.spec (λ c. omega arith) (λ c. omega arith) (λ c. omega arith) returns)

@@ -1,5 +1,6 @@
 -- `fit::translation_fit`: the sums are the definition's, and the fit is theirs.
 -- Assumes nothing.
+use native.Mathlib.Omega.{arith}
 use Rattle.fit.specs.Fitted.{translationFrom}
 use borrow.Author.Needs.{needs}
 use Rattle.fit.proofs.translation_fit.Statement.{statement}
@@ -11,4 +12,4 @@ returns c = rw (← c .before .translation-sums .ensures) (c .translation-of .en
 
 pub translation-fit-spec : {M : Type 1} → statement M
 translation-fit-spec =
-    tie.close (tie.spec (search needs) (search needs) returns)
+    tie.close (tie.spec (λ c. omega arith) (λ c. omega arith) returns)

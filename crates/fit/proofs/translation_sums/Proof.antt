@@ -1,5 +1,6 @@
 -- `fit::translation_sums`: the sums of the stored motions give the sums of the samples.
 -- Assumes nothing.
+use native.Mathlib.Omega.{arith}
 use borrow.Author.Needs.{needs}
 use Rattle.fit.proofs.Whole.{translation-over}
 use Rattle.fit.proofs.translation_sums.Statement.{statement}
@@ -13,4 +14,4 @@ returns c =
 
 pub translation-sums-spec : {M : Type 1} → statement M
 translation-sums-spec =
-    tie.close (tie.spec (search needs) (search needs) (search needs) (search needs) returns)
+    tie.close (tie.spec (λ c. omega arith) (λ c. omega arith) (λ c. omega arith) (λ c. omega arith) returns)

@@ -44,4 +44,4 @@ returns c =
 
 pub whole-over-spec : {M : Type 1} → statement M
 whole-over-spec =
-    tie.close (tie.spec (search needs) (search needs) sub-result int-to-float-result returns)
+    tie.close (tie.spec (λ c. omega arith) (λ c. omega arith) sub-result int-to-float-result returns)

@@ -1,5 +1,6 @@
 -- `code_refusal`: the first of the three rows that holds.
 -- Assumes nothing.
+use native.Mathlib.Omega.{arith}
 use mathlib.Core.Path.{sym, _∙_}
 use borrow.Author.Needs.{needs}
 use borrow.Author.Tests.{lt-ltb, le-ltb}
@@ -33,4 +34,4 @@ returns-4 c =
     )
 
 pub code-refusal-spec : {M : Type 1} → statement M
-code-refusal-spec = tie.close (tie.spec (search needs) returns (search needs) returns-2 returns-3 returns-4)
+code-refusal-spec = tie.close (tie.spec (λ c. omega arith) returns (λ c. omega arith) returns-2 returns-3 returns-4)

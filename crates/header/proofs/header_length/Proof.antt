@@ -49,4 +49,4 @@ pub header-length-spec : {M : Type 1} → statement M
 header-length-spec =
     tie.close
     (tie.spec Inv-loop μ-loop (λ c. (refl, omega arith, omega arith)) shared-slice-read-reference-length
-    (search needs) reference-length-requires (λ c. search needs) (search needs) (search needs) loop-again returns)
+    (λ c. omega arith) reference-length-requires (λ c. search needs) (λ c. omega arith) (λ c. omega arith) loop-again returns)

@@ -37,4 +37,4 @@ loop-again c = more _ _ _ (c .before .before .before .loop .inv) (c .before .bef
 pub identities-spec : {M : Type 1} → statement M
 identities-spec =
     tie.close
-    (tie.spec Inv-loop μ-loop loop-holds (search needs) (search needs) (search needs) (λ c. c .before .before .before .loop .inv) (search needs) (search needs) loop-again (λ c. c .before .loop .inv))
+    (tie.spec Inv-loop μ-loop loop-holds (λ c. omega arith) (λ c. omega arith) (λ c. omega arith) (λ c. c .before .before .before .loop .inv) (λ c. omega arith) (λ c. omega arith) loop-again (λ c. c .before .loop .inv))

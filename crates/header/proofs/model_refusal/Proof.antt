@@ -36,4 +36,4 @@ returns-4 c =
     )
 
 pub model-refusal-spec : {M : Type 1} → statement M
-model-refusal-spec = tie.close (tie.spec (search needs) returns models-wrong-requires returns-2 (search needs) returns-3 returns-4)
+model-refusal-spec = tie.close (tie.spec (λ c. omega arith) returns models-wrong-requires returns-2 (λ c. omega arith) returns-3 returns-4)

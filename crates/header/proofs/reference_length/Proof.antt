@@ -71,4 +71,4 @@ returns c =
 pub reference-length-spec : {M : Type 1} → statement M
 reference-length-spec =
     tie.close
-    (tie.spec Inv-loop μ-loop (search needs) (search needs) (search needs) loop-holds array-read-slot-length slot-length-requires (search needs) add-n (search needs) (search needs) loop-again returns)
+    (tie.spec Inv-loop μ-loop (λ c. omega arith) (λ c. omega arith) (λ c. omega arith) loop-holds array-read-slot-length slot-length-requires (λ c. omega arith) add-n (λ c. omega arith) (λ c. omega arith) loop-again returns)

@@ -1,5 +1,6 @@
 -- `slot_length`: the two numbers are read, and handed on.
 -- Assumes nothing.
+use native.Mathlib.Omega.{arith}
 use borrow.Author.Needs.{needs}
 use mir.Syntax.{w32}
 use Rattle.laws.proofs.Signed.{result-reads}
@@ -23,4 +24,4 @@ returns c =
     at (c .global-param-length .ensures)
 
 pub slot-length-spec : {M : Type 1} → statement M
-slot-length-spec = tie.close (tie.spec (search needs) (search needs) (search needs) (search needs) (search needs) (search needs) global-param-length-requires returns)
+slot-length-spec = tie.close (tie.spec (λ c. omega arith) (λ c. omega arith) (λ c. omega arith) (λ c. omega arith) (λ c. omega arith) (λ c. omega arith) global-param-length-requires returns)

@@ -55,4 +55,4 @@ returns c =
     )
 
 pub write-after-spec : {M : Type 1} → statement M
-write-after-spec = tie.close (tie.spec (search needs) (search needs) write-seven-requires sub-bits (search needs) byte-align-requires (search needs) copy-bytes-requires (search needs) returns)
+write-after-spec = tie.close (tie.spec (λ c. omega arith) (λ c. omega arith) write-seven-requires sub-bits (λ c. omega arith) byte-align-requires (λ c. omega arith) copy-bytes-requires (λ c. omega arith) returns)

@@ -43,7 +43,7 @@ write-global-param-spec =
     tie.close
     (tie.spec
     symbols-of-requires
-    (search needs)
+    (λ c. omega arith)
     encode-unsigned-subexp-with-ref-requires
-    (search needs)
+    (λ c. omega arith)
     returns)

@@ -30,4 +30,4 @@ returns-2 : tie.Need-returns-2
 returns-2 c = c .before .before .write-after2 .ensures
 
 pub write-header-spec : {M : Type 1} → statement M
-write-header-spec = tie.close (tie.spec write-after-requires (search needs) returns (search needs) write-after-requires-2 (search needs) returns-2)
+write-header-spec = tie.close (tie.spec write-after-requires (λ c. omega arith) returns (λ c. omega arith) write-after-requires-2 (λ c. omega arith) returns-2)

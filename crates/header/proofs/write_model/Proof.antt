@@ -84,4 +84,4 @@ returns c =
     reached-last (rw (drop-of-length-le (slotsOf (a .gm-type)) done) at (l .inv .1))
 
 pub write-model-spec : {M : Type 1} → statement M
-write-model-spec = tie.close (tie.spec Inv-loop μ-loop (search needs) loop-holds array-read-write-slot write-slot-requires (search needs) (search needs) loop-again same-length returns)
+write-model-spec = tie.close (tie.spec Inv-loop μ-loop (λ c. omega arith) loop-holds array-read-write-slot write-slot-requires (λ c. omega arith) (λ c. omega arith) loop-again same-length returns)

@@ -148,6 +148,6 @@ returns c =
 pub write-references-spec : {M : Type 1} → statement M
 write-references-spec =
     tie.close
-    (tie.spec Inv-loop μ-loop loop-holds identities-requires shared-slice-read-write-reference mul-write-reference write-reference-requires (search needs) (search needs) loop-again cast-t17
+    (tie.spec Inv-loop μ-loop loop-holds identities-requires shared-slice-read-write-reference mul-write-reference write-reference-requires (λ c. omega arith) (λ c. omega arith) loop-again cast-t17
     put-requires add-r-2 loop-less-2
     loop-again-2 same-length returns)

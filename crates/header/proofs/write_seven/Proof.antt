@@ -1,5 +1,6 @@
 -- `write_seven`: the pen is new and holds nothing, and what it holds at the end is written when it is lifted.
 -- Assumes nothing.
+use native.Mathlib.Omega.{arith}
 use mathlib.Core.Path.{subst, sym}
 use Prim.Native.Nat.{ℕ}
 use borrow.Author.Needs.{needs}
@@ -33,4 +34,4 @@ returns c =
     rw (fresh .ensures .0) at (put-lifted _ (write-references .ensures) (fresh .ensures .1) _ _ (c .before .before .lift .ensures))
 
 pub write-seven-spec : {M : Type 1} → statement M
-write-seven-spec = tie.close (tie.spec (search needs) write-references-requires lift-requires (search needs) returns)
+write-seven-spec = tie.close (tie.spec (λ c. omega arith) write-references-requires lift-requires (λ c. omega arith) returns)

@@ -1,5 +1,6 @@
 -- `write_slot`: the value and the prior read at the slot are those whose bits the definition puts.
 -- Assumes nothing.
+use native.Mathlib.Omega.{arith}
 use borrow.Author.Needs.{needs}
 use mir.Syntax.{w32}
 use Rattle.laws.proofs.Signed.{result-reads}
@@ -27,4 +28,4 @@ returns c =
     at (c .before .before .write-global-param .ensures)
 
 pub write-slot-spec : {M : Type 1} → statement M
-write-slot-spec = tie.close (tie.spec (search needs) (search needs) (search needs) (search needs) (search needs) (search needs) write-global-param-requires (search needs) returns)
+write-slot-spec = tie.close (tie.spec (λ c. omega arith) (λ c. omega arith) (λ c. omega arith) (λ c. omega arith) (λ c. omega arith) (λ c. omega arith) write-global-param-requires (λ c. omega arith) returns)

@@ -17,4 +17,4 @@ returns : tie.Need-returns
 returns c = put-as _ _ (c .before .before .before .type-field .ensures .0 .bits) (c .before .before .put .ensures)
 
 pub write-type-spec : {M : Type 1} → statement M
-write-type-spec = tie.close (tie.spec (search needs) put-requires (search needs) returns)
+write-type-spec = tie.close (tie.spec (λ c. omega arith) put-requires (λ c. omega arith) returns)

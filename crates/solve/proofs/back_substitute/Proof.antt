@@ -1,5 +1,6 @@
 -- `solve::back_substitute`: what is left to find, from here as from the last row.
 -- Assumes nothing.
+use native.Mathlib.Omega.{arith}
 use Prim.Native.Nat.{_-_}
 use Rattle.laws.proofs.Loops.{again, done}
 use Rattle.laws.specs.Loops.{run}
@@ -33,4 +34,4 @@ returns c =
 pub back-substitute-spec : {M : Type 1} → statement M
 back-substitute-spec =
     tie.close
-    (tie.spec Inv-loop μ-loop loop-holds (search needs) (search needs) (search needs) loop-again returns)
+    (tie.spec Inv-loop μ-loop loop-holds (λ c. omega arith) (λ c. omega arith) (λ c. omega arith) loop-again returns)

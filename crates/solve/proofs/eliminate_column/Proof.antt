@@ -1,5 +1,6 @@
 -- `solve::eliminate_column`: the pivot found is the definition's, and its magnitude decides.
 -- Assumes nothing.
+use native.Mathlib.Omega.{arith}
 use Rattle.solve.proofs.Rows.{column-refused, column-passed}
 use Rattle.solve.specs.Elimination.{system}
 use borrow.Author.Needs.{needs}
@@ -24,13 +25,13 @@ pub eliminate-column-spec : {M : Type 1} → statement M
 eliminate-column-spec =
     tie.close
     (tie.spec
-    (search needs)
-    (search needs)
-    (search needs)
-    (search needs)
-    (search needs)
-    (search needs)
+    (λ c. omega arith)
+    (λ c. omega arith)
+    (λ c. omega arith)
+    (λ c. omega arith)
+    (λ c. omega arith)
+    (λ c. omega arith)
     returns
-    (search needs)
-    (search needs)
+    (λ c. omega arith)
+    (λ c. omega arith)
     returns-2)

@@ -1,5 +1,6 @@
 -- `solve::eliminate_column_pair`: as with one right side, for each of the two: the pivot is the matrix's.
 -- Assumes nothing.
+use native.Mathlib.Omega.{arith}
 use Rattle.solve.proofs.Rows.{column-refused, column-passed}
 use Rattle.solve.specs.Elimination.{system}
 use borrow.Author.Needs.{needs}
@@ -30,13 +31,13 @@ pub eliminate-column-pair-spec : {M : Type 1} → statement M
 eliminate-column-pair-spec =
     tie.close
     (tie.spec
-    (search needs)
-    (search needs)
-    (search needs)
-    (search needs)
-    (search needs)
-    (search needs)
+    (λ c. omega arith)
+    (λ c. omega arith)
+    (λ c. omega arith)
+    (λ c. omega arith)
+    (λ c. omega arith)
+    (λ c. omega arith)
     returns
-    (search needs)
-    (search needs)
+    (λ c. omega arith)
+    (λ c. omega arith)
     returns-2)

@@ -1,5 +1,6 @@
 -- `solve::exchange`: a pivot that stands needs no exchange, and any other exchanges matrix and right side.
 -- Assumes nothing.
+use native.Mathlib.Omega.{arith}
 use Rattle.solve.proofs.Rows.{stands, both-exchanged}
 use Rattle.solve.specs.Elimination.{system}
 use borrow.Author.Needs.{needs}
@@ -18,4 +19,4 @@ returns-2 c =
 
 pub exchange-spec : {M : Type 1} → statement M
 exchange-spec =
-    tie.close (tie.spec returns (search needs) (search needs) returns-2)
+    tie.close (tie.spec returns (λ c. omega arith) (λ c. omega arith) returns-2)

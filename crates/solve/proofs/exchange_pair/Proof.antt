@@ -1,5 +1,6 @@
 -- `solve::exchange_pair`: as with one right side, for each of the two.
 -- Assumes nothing.
+use native.Mathlib.Omega.{arith}
 use Rattle.solve.proofs.Rows.{stands, both-exchanged}
 use Rattle.solve.specs.Elimination.{system}
 use borrow.Author.Needs.{needs}
@@ -24,7 +25,7 @@ exchange-pair-spec =
     tie.close
     (tie.spec
     returns
-    (search needs)
-    (search needs)
-    (search needs)
+    (λ c. omega arith)
+    (λ c. omega arith)
+    (λ c. omega arith)
     returns-2)

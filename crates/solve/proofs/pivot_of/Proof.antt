@@ -1,5 +1,6 @@
 -- `solve::pivot_of`: what is left to compare, from here as from the diagonal.
 -- Assumes nothing.
+use native.Mathlib.Omega.{arith}
 use Prim.Native.Nat.{_-_, _<_}
 use Rattle.laws.proofs.Loops.{again, done}
 use Rattle.laws.specs.Loops.{run}
@@ -34,10 +35,10 @@ pivot-of-spec =
     (tie.spec
     Inv-loop
     μ-loop
-    (search needs)
+    (λ c. omega arith)
     loop-holds
-    (search needs)
-    (search needs)
-    (search needs)
+    (λ c. omega arith)
+    (λ c. omega arith)
+    (λ c. omega arith)
     loop-again
     returns)

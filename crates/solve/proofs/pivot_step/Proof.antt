@@ -1,5 +1,6 @@
 -- `solve::pivot_step`: the comparison is that of the two entries' magnitudes.
 -- Assumes nothing.
+use native.Mathlib.Omega.{arith}
 use borrow.Author.Needs.{needs}
 use Rattle.solve.proofs.pivot_step.Statement.{statement}
 use Rattle.solve.proofs.pivot_step.Tie as tie
@@ -14,15 +15,15 @@ pub pivot-step-spec : {M : Type 1} → statement M
 pivot-step-spec =
     tie.close
     (tie.spec
-    (search needs)
-    (search needs)
-    (search needs)
-    (search needs)
-    (search needs)
-    (search needs)
-    (search needs)
-    (search needs)
-    (search needs)
-    (search needs)
+    (λ c. omega arith)
+    (λ c. omega arith)
+    (λ c. omega arith)
+    (λ c. omega arith)
+    (λ c. omega arith)
+    (λ c. omega arith)
+    (λ c. omega arith)
+    (λ c. omega arith)
+    (λ c. omega arith)
+    (λ c. omega arith)
     returns
     returns-2)

@@ -1,5 +1,6 @@
 -- `solve::reduce_below`: what is left to reduce, from here as from the row below the diagonal.
 -- Assumes nothing.
+use native.Mathlib.Omega.{arith}
 use Rattle.solve.proofs.Rows.{row-reduced}
 use Prim.Native.Nat.{_-_}
 use Rattle.laws.proofs.Loops.{again, done}
@@ -39,11 +40,11 @@ reduce-below-spec =
     (tie.spec
     Inv-loop
     μ-loop
-    (search needs)
+    (λ c. omega arith)
     loop-holds
-    (search needs)
-    (search needs)
-    (search needs)
-    (search needs)
+    (λ c. omega arith)
+    (λ c. omega arith)
+    (λ c. omega arith)
+    (λ c. omega arith)
     loop-again
     returns)

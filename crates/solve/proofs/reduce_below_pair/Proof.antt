@@ -1,5 +1,6 @@
 -- `solve::reduce_below_pair`: as with one right side, for each of the two: the factor is the matrix's.
 -- Assumes nothing.
+use native.Mathlib.Omega.{arith}
 use Rattle.solve.proofs.Rows.{row-reduced}
 use Prim.Native.Nat.{ℕ, _-_}
 use Rattle.laws.proofs.Loops.{again, done}
@@ -48,12 +49,12 @@ reduce-below-pair-spec =
     (tie.spec
     Inv-loop
     μ-loop
-    (search needs)
+    (λ c. omega arith)
     loop-holds
-    (search needs)
-    (search needs)
-    (search needs)
-    (search needs)
-    (search needs)
+    (λ c. omega arith)
+    (λ c. omega arith)
+    (λ c. omega arith)
+    (λ c. omega arith)
+    (λ c. omega arith)
     loop-again
     returns)

@@ -1,5 +1,6 @@
 -- `solve::unknown_step`: the row's residue divided by its diagonal entry.
 -- Assumes nothing.
+use native.Mathlib.Omega.{arith}
 use borrow.Author.Needs.{needs}
 use Rattle.solve.proofs.unknown_step.Statement.{statement}
 use Rattle.solve.proofs.unknown_step.Tie as tie
@@ -11,13 +12,13 @@ pub unknown-step-spec : {M : Type 1} → statement M
 unknown-step-spec =
     tie.close
     (tie.spec
-    (search needs)
-    (search needs)
-    (search needs)
-    (search needs)
-    (search needs)
-    (search needs)
-    (search needs)
-    (search needs)
-    (search needs)
+    (λ c. omega arith)
+    (λ c. omega arith)
+    (λ c. omega arith)
+    (λ c. omega arith)
+    (λ c. omega arith)
+    (λ c. omega arith)
+    (λ c. omega arith)
+    (λ c. omega arith)
+    (λ c. omega arith)
     returns)

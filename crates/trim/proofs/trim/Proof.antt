@@ -2,7 +2,9 @@
 -- Assumes nothing.
 use borrow.Author.Needs.{needs}
 use mathlib.Core.Path.{sym, _∙_}
-use Rattle.trim.proofs.Answers.{refused-cuts, first-refused}
+use Rattle.trim.specs.Inner.{sampleAt, upTo}
+use Rattle.trim.proofs.Answers.{first-refused}
+use Rattle.trim.proofs.Cuts.{refused-cuts}
 use Rattle.trim.proofs.FirstFit.{room, all-under-nought, first-is, squared}
 use Rattle.trim.proofs.trim.Statement.{statement}
 use Rattle.trim.proofs.trim.Tie as tie
@@ -22,7 +24,7 @@ returns c =
     let is = first-is (a .numbers .now) (a .gm-type) (a .n) (a .squares .now) (s .pre) (first .result) (first .ensures) in
     rw (c .refused-cut .ensures)
     (refused-cuts (a .numbers .now) (a .gm-type) (a .n) (a .squares .now) (number .result) (room (a .numbers .now) (a .gm-type) (a .n) (a .squares .now) (s .pre)) (c .before .if1 .taken)
-    (first-refused (a .numbers .now) (a .gm-type) (a .n) (first .result) is (λ z. c .before .if1 .taken (number .ensures ∙ z)) ∙ sym (number .ensures)))
+    (first-refused (sampleAt (a .numbers .now)) (a .gm-type) (upTo (a .n)) (first .result) is (λ z. c .before .if1 .taken (number .ensures ∙ z)) ∙ sym (number .ensures)))
 
 residuals-requires : tie.Need-residuals-requires
 residuals-requires c κs =

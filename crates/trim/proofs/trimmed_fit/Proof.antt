@@ -5,7 +5,10 @@ use Prim.Native.Nat.{ℕ}
 use mathlib.Core.Path.{sym, ap, _∙_}
 use Rattle.fit.specs.declared.Fitted.the-variants.{Refused}
 use Rattle.trim.specs.Trim.{trimmedAs}
+use Rattle.trim.specs.Inner.{sampleAt, upTo}
 use Rattle.trim.proofs.Answers.{list-untrimmed, trimmed-refused, trimmed-accepted}
+use Rattle.trim.proofs.Indices.{length-upTo}
+use Rattle.trim.proofs.Mapped.{trimmed-mapped}
 use Rattle.trim.proofs.trimmed_fit.Statement.{statement}
 use Rattle.trim.proofs.trimmed_fit.Tie as tie
 
@@ -14,7 +17,8 @@ returns c =
     let a = c .before .before .args in
     let number = c .before .list-refusal in
     ap (λ (k : ℕ). trimmedAs (Refused k) 0) (number .ensures)
-    ∙ trimmed-refused (a .numbers .now) (a .gm-type) (a .n) (λ z. c .if1 .taken (number .ensures ∙ z))
+    ∙ trimmed-refused (sampleAt (a .numbers .now)) (a .gm-type) (upTo (a .n)) (a .n) (length-upTo (a .n)) (λ z. c .if1 .taken (number .ensures ∙ z))
+    ∙ sym (trimmed-mapped (sampleAt (a .numbers .now)) (a .gm-type) (upTo (a .n)))
 
 trim-requires : tie.Need-trim-requires
 trim-requires c κs =
@@ -24,8 +28,10 @@ trim-requires c κs =
 returns-2 : tie.Need-returns-2
 returns-2 c =
     let a = c .before .before .before .before .before .args in
-    trimmed-accepted (a .numbers .now) (a .gm-type) (a .n) _ (c .before .trim .result) (c .before .trim .ensures)
+    c .before .trim .ensures .answers
+    ∙ trimmed-accepted (sampleAt (a .numbers .now)) (a .gm-type) (upTo (a .n)) (a .n) (length-upTo (a .n))
     (sym (c .before .before .before .before .list-refusal .ensures) ∙ c .before .before .before .if1 .left)
+    ∙ sym (trimmed-mapped (sampleAt (a .numbers .now)) (a .gm-type) (upTo (a .n)))
 
 pub trimmed-fit-spec : {M : Type 1} → statement M
 trimmed-fit-spec = tie.close (tie.spec (λ c κs. search needs) returns (search needs) trim-requires returns-2)

@@ -2,9 +2,14 @@
 -- Assumes nothing.
 use borrow.Author.Needs.{needs}
 use Prim.Native.Nat.{ℕ}
+use mathlib.Core.List.{List}
 use mathlib.Core.Path.{sym, ap, _∙_}
-use Rattle.trim.specs.Inner.{refusedModel}
-use Rattle.trim.proofs.Answers.{model-few, model-untrimmed, model-refused, model-cut-refused, cut-counted, model-accepted}
+use lib.ListN.{length}
+use Rattle.trim.specs.Trim.{trimmedAs}
+use Rattle.trim.specs.Inner.{sampleAt, upTo, refusedModel}
+use Rattle.trim.proofs.Answers.{model-few, model-untrimmed, model-refused, model-fit-refused, quiet-trim, used-counted, model-accepted}
+use Rattle.trim.proofs.Indices.{length-upTo}
+use Rattle.trim.proofs.Mapped.{model-mapped}
 use Rattle.trim.proofs.trimmed_model.Statement.{statement}
 use Rattle.trim.proofs.trimmed_model.Tie as tie
 
@@ -14,7 +19,8 @@ returns c =
     let number = c .before .before .model-refusal in
     c .refused-model .ensures
     ∙ ap (λ (k : ℕ). refusedModel k) (number .ensures)
-    ∙ model-refused (a .numbers .now) (a .gm-type) (a .n) (a .flag) (λ z. c .before .if1 .taken (number .ensures ∙ z))
+    ∙ model-refused (sampleAt (a .numbers .now)) (a .gm-type) (upTo (a .n)) (a .n) (length-upTo (a .n)) (a .flag) (λ z. c .before .if1 .taken (number .ensures ∙ z))
+    ∙ sym (model-mapped (sampleAt (a .numbers .now)) (a .gm-type) (upTo (a .n)) (a .flag))
 
 trim-requires : tie.Need-trim-requires
 trim-requires c κs =
@@ -29,18 +35,25 @@ returns-2 c =
     let listed = sym (c .before .before .before .before .before .before .before .model-refusal .ensures) ∙ c .before .before .before .before .before .before .if1 .left in
     c .refused-model2 .ensures
     ∙ ap (λ (k : ℕ). refusedModel k) (number .ensures)
-    ∙ model-cut-refused (a .numbers .now) (a .gm-type) (a .n) (a .flag) _ (cut .result) (cut .ensures) listed (λ z. c .before .if2 .taken (number .ensures ∙ z))
+    ∙ model-fit-refused (sampleAt (a .numbers .now)) (a .gm-type) (upTo (a .n)) (a .n) (length-upTo (a .n)) (a .flag) listed
+    (trimmedAs (cut .result .fitted) (cut .result .used)) (cut .ensures .answers) (λ z. c .before .if2 .taken (number .ensures ∙ z))
+    ∙ sym (model-mapped (sampleAt (a .numbers .now)) (a .gm-type) (upTo (a .n)) (a .flag))
 
 on-grid-requires : tie.Need-on-grid-requires
 on-grid-requires c κs =
     let a = c .before .before .before .before .before .before .before .before .args in
     let cut = c .before .before .before .before .trim in
     let listed = sym (c .before .before .before .before .before .before .before .model-refusal .ensures) ∙ c .before .before .before .before .before .before .if1 .left in
+    let fitted = sym (c .before .before .refusal-of .ensures) ∙ c .before .if2 .left in
+    let read = sampleAt (a .numbers .now) in
+    let t = trimmedAs (cut .result .fitted) (cut .result .used) in
     record {
       few = model-few (a .gm-type) (a .flag) (a .n) listed;
       long = cut .ensures .long;
       counted =
-          cut-counted (a .numbers .now) (a .gm-type) (a .n) (a .flag) _ (cut .result) (cut .ensures) listed (sym (c .before .before .refusal-of .ensures) ∙ c .before .if2 .left);
+          used-counted read (a .gm-type) (upTo (a .n)) (a .n) (length-upTo (a .n)) (a .flag) listed t (cut .ensures .answers) fitted
+          ∙ ap (λ (l : List ℕ). length l)
+          (sym (cut .ensures .within (quiet-trim read (a .gm-type) (upTo (a .n)) (a .n) (length-upTo (a .n)) (a .flag) listed t (cut .ensures .answers) fitted)));
     }
 
 returns-3 : tie.Need-returns-3
@@ -48,8 +61,13 @@ returns-3 c =
     let a = c .before .before .before .before .before .before .before .before .before .args in
     let cut = c .before .before .before .before .before .trim in
     let listed = sym (c .before .before .before .before .before .before .before .before .model-refusal .ensures) ∙ c .before .before .before .before .before .before .before .if1 .left in
+    let fitted = sym (c .before .before .before .refusal-of .ensures) ∙ c .before .before .if2 .left in
+    let read = sampleAt (a .numbers .now) in
+    let t = trimmedAs (cut .result .fitted) (cut .result .used) in
     c .on-grid .ensures
-    ∙ model-accepted (a .numbers .now) (a .gm-type) (a .n) (a .flag) _ (cut .result) (cut .ensures) listed (sym (c .before .before .before .refusal-of .ensures) ∙ c .before .before .if2 .left)
+    ∙ model-accepted read (a .gm-type) (upTo (a .n)) (a .n) (length-upTo (a .n)) (a .flag) listed t (cut .ensures .answers) fitted _
+    (cut .ensures .within (quiet-trim read (a .gm-type) (upTo (a .n)) (a .n) (length-upTo (a .n)) (a .flag) listed t (cut .ensures .answers) fitted))
+    ∙ sym (model-mapped read (a .gm-type) (upTo (a .n)) (a .flag))
 
 pub trimmed-model-spec : {M : Type 1} → statement M
 trimmed-model-spec =

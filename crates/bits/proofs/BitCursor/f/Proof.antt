@@ -30,4 +30,4 @@ returns c =
     }
 
 pub f-spec : {M : Type 1} → statement M
-f-spec = tie.close (tie.spec (search needs) (search needs) (search needs) (search needs) returns)
+f-spec = tie.close (tie.spec (λ c. omega arith) (λ c. omega arith) (λ c. omega arith) (λ c. omega arith) returns)

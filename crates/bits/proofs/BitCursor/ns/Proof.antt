@@ -55,12 +55,12 @@ pub ns-spec : {M : Type 1} → statement M
 ns-spec =
     tie.close
     (tie.spec
-    (search needs)
-    (search needs)
-    (search needs)
+    (λ c. omega arith)
+    (λ c. omega arith)
+    (λ c. omega arith)
     returns
-    (search needs)
+    (λ c. omega arith)
     mul-t11
-    (search needs)
+    (λ c. omega arith)
     add-t14
     returns-2)

@@ -1,4 +1,5 @@
 -- `bits::BitCursor::write_bit`: byte at / 8 takes the bit at weight 7 - at % 8, as in the definition. Assumes nothing.
+use native.Mathlib.Omega.{arith}
 use borrow.Author.Needs.{needs}
 use Rattle.bits.proofs.BitCursor.write_bit.Statement.{statement}
 use Rattle.bits.proofs.BitCursor.write_bit.Tie as tie
@@ -13,11 +14,11 @@ pub write-bit-spec : {M : Type 1} → statement M
 write-bit-spec =
     tie.close
     (tie.spec
-    (search needs)
-    (search needs)
-    (search needs)
-    (search needs)
-    (search needs)
-    (search needs)
+    (λ c. omega arith)
+    (λ c. omega arith)
+    (λ c. omega arith)
+    (λ c. omega arith)
+    (λ c. omega arith)
+    (λ c. omega arith)
     (search needs)
     returns)

@@ -42,4 +42,4 @@ returns c = rw (← c .before .before .weighted .ensures, ← c .before .weighte
 
 pub blend-spec : {M : Type 1} → statement M
 blend-spec =
-    tie.close (tie.spec (search needs) (search needs) weighted-requires-3 add-result cast-result returns)
+    tie.close (tie.spec (λ c. omega arith) (λ c. omega arith) weighted-requires-3 add-result cast-result returns)

@@ -16,4 +16,4 @@ add-result : tie.Need-add-result
 add-result c = omega (arith, weighted-le 524280 (c .args .a) (c .args .b) (c .args .f) (c .pre .f-small) (c .pre .a-small) (c .pre .b-small))
 
 pub weighted-spec : {M : Type 1} → statement M
-weighted-spec = tie.close (tie.spec (search needs) mul-result mul-result-2 add-result (search needs))
+weighted-spec = tie.close (tie.spec (λ c. omega arith) mul-result mul-result-2 add-result (λ c. omega arith))
