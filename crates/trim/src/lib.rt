@@ -1,11 +1,11 @@
 // A fit after trimming: the fit of all samples, how far each sample lies from it, the samples that
 // stay, and the fit of those if they are enough (`candidate_for`, encoder/global_motion.rs;
-// docs/RULES.md, 'Trimming', rows 1, 4, 6, 15 and 16). A call unpacks its samples into numbers of its
-// own, so sample words and lent samples share one code. Nothing is moved: a sample is passed over where
-// its squared residual is above a limit. The root rises, so the residuals' median is the root of their
-// squares' median, and a residual is at most the cutoff where its square is at most the greatest number
-// whose root is: a call takes some sixty roots, however many samples there are. Before the first fit
-// every square is 0.0 and so is the limit.
+// docs/RULES.md, 'Trimming', rows 1, 4, 6, 15 and 16). Here are the cutoff, its limit and the refusals,
+// for `word_trim` too, and the trim over numbers in a call's own memory, which lent samples take.
+// Nothing is moved there: a sample is passed over where its squared residual is above a limit. The root
+// rises, so the residuals' median is the root of their squares' median, and a residual is at most the
+// cutoff where its square is at most the greatest number whose root is: a call takes some sixty roots,
+// however many samples there are. Before the first fit every square is 0.0 and so is the limit.
 
 use fit::AffineSums;
 use fit::Fitted;

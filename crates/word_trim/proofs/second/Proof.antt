@@ -106,11 +106,11 @@ second-spec =
     float-from-bits-keep
     keep-requires-2
     trim-of-requires
-    (search needs)
+    (λ c. omega arith)
     returns-2
     slice-reshare-prefix-fit-model
     slice-aggregate-fit-model
     (λ c κs. search needs)
     trim-of-requires-2
-    (search needs)
+    (λ c. omega arith)
     returns-3)

@@ -1,0 +1,110 @@
+/* How much of a thread's stack the calls take that have lists of their own: each runs on a stack that was filled with
+   one value before, and what no longer has it was used. Ends with 1 where a call takes more than belt.h says, or
+   refuses. It is C99, and C++11, with the contexts of POSIX. */
+#define _XOPEN_SOURCE 700
+#include <stdio.h>
+#include <stdlib.h>
+#include <string.h>
+#include <ucontext.h>
+
+#include "belt.h"
+#include "belt_motion.h"
+
+enum {
+    WIDTH = 80,
+    HEIGHT = 64,
+    PELS = WIDTH * HEIGHT,
+    HALF = (WIDTH / 2) * (HEIGHT / 2),
+    SAMPLES = (WIDTH / 16) * (HEIGHT / 16),
+    BLOCKS = (SAMPLES + BELT_FORM_2_SAMPLES - 1) / BELT_FORM_2_SAMPLES * BELT_BLOCK_BYTES,
+    STACK = 1 << 20,
+    FILL = 0xa5,
+    KB = 1000
+};
+
+static const struct belt_stored_model identity = {BELT_IDENTITY_PARAMS};
+static const uint8_t other_types[BELT_OTHER_TYPES] = {0};
+static struct belt_stored_model prior[BELT_REFERENCES];
+static uint16_t input[PELS], reference[PELS], input_half[HALF], ref_half[HALF];
+static uint32_t words[SAMPLES];
+static uint8_t classes[SAMPLES], blocks[BLOCKS], header[BELT_HEADER_BYTES];
+static struct belt_motion_sample samples[SAMPLES];
+
+static uint8_t stack[STACK];
+static ucontext_t own, painted;
+static uint32_t refusal;
+
+static void nothing(void) { refusal = BELT_ACCEPTED; }
+
+static void job(uint8_t trim, uint8_t elect) {
+    struct belt_settings settings = {1, BELT_AFFINE, 1, BELT_HIGH_PRECISION, trim, elect, 0};
+    refusal = belt_job(input, PELS, reference, PELS, WIDTH, HEIGHT, settings, classes, SAMPLES, other_types,
+                       BELT_OTHER_TYPES, prior, BELT_OTHER_NUMBERS, prior, BELT_NUMBERS, input_half, HALF, ref_half,
+                       HALF, words, SAMPLES, blocks, BLOCKS, header, BELT_HEADER_BYTES)
+                  .refusal;
+}
+
+static void plain_job(void) { job(BELT_ALL_SAMPLES, BELT_ASKED_TYPE); }
+static void trimming_job(void) { job(BELT_TRIM, BELT_ASKED_TYPE); }
+static void electing_job(void) { job(BELT_ALL_SAMPLES, BELT_ELECT); }
+static void fit_trimmed(void) { refusal = belt_fit_trimmed(BELT_AFFINE, words, SAMPLES).refusal; }
+static void quantize_trimmed(void) {
+    refusal = belt_quantize_trimmed(BELT_AFFINE, BELT_HIGH_PRECISION, words, SAMPLES).refusal;
+}
+static void elect(void) { refusal = belt_elect(BELT_HIGH_PRECISION, words, SAMPLES).refusal; }
+static void fit_trimmed_samples(void) {
+    refusal = belt_fit_trimmed_samples(samples, SAMPLES, BELT_AFFINE).refusal;
+}
+static void elect_samples(void) { refusal = belt_elect_samples(samples, SAMPLES, BELT_HIGH_PRECISION).refusal; }
+
+static const struct {
+    const char *name;
+    void (*call)(void);
+    size_t most; /* kB */
+} calls[] = {
+    {"a job", plain_job, 40},
+    {"a job that trims", trimming_job, 70},
+    {"a job that elects", electing_job, 90},
+    {"belt_fit_trimmed", fit_trimmed, 60},
+    {"belt_quantize_trimmed", quantize_trimmed, 60},
+    {"belt_elect", elect, 60},
+    {"belt_fit_trimmed_samples", fit_trimmed_samples, 170},
+    {"belt_elect_samples", elect_samples, 170},
+};
+
+/* The bytes from the stack's upper end down to the last one that was written. */
+static size_t used_by(void (*call)(void)) {
+    memset(stack, FILL, sizeof stack);
+    getcontext(&painted);
+    painted.uc_stack.ss_sp = stack;
+    painted.uc_stack.ss_size = sizeof stack;
+    painted.uc_link = &own;
+    makecontext(&painted, call, 0);
+    swapcontext(&own, &painted);
+    if (refusal != BELT_ACCEPTED) {
+        printf("refused %u: %s\n", (unsigned)refusal, belt_refusal_text(refusal));
+        exit(1);
+    }
+    size_t free_bytes = 0;
+    while (free_bytes < sizeof stack && stack[free_bytes] == FILL)
+        free_bytes++;
+    return sizeof stack - free_bytes;
+}
+
+int main(void) {
+    int over = 0;
+    for (int r = 0; r < BELT_REFERENCES; r++)
+        prior[r] = identity;
+    if (belt_make_practice_planes(1, WIDTH, HEIGHT, 2, 3, input, PELS, reference, PELS).refusal != BELT_ACCEPTED)
+        return 1;
+    plain_job();
+    for (size_t i = 0; i < SAMPLES; i++)
+        samples[i] = belt_motion_sample_of(words[i]);
+    size_t empty = used_by(nothing);
+    for (size_t i = 0; i < sizeof calls / sizeof calls[0]; i++) {
+        size_t used = used_by(calls[i].call) - empty;
+        printf("%s: %u bytes of stack, at most %u kB\n", calls[i].name, (unsigned)used, (unsigned)calls[i].most);
+        over |= used > calls[i].most * KB;
+    }
+    return over;
+}
