@@ -285,7 +285,7 @@ static void without_film(struct belt_settings settings) {
     draw(4, -2);
     for (size_t y = 0; y < HEIGHT; y++)
         for (size_t x = WIDTH - BELT_BLOCK_SIDE; x < WIDTH; x++)
-            input[y * WIDTH + x] = reference[held(y, -8, HEIGHT) * WIDTH + held(x, -5, WIDTH)];
+            input[y * WIDTH + x] = reference[held(y, -8, HEIGHT) * WIDTH + held(x, -6, WIDTH)];
     struct belt_report all = run(settings, PELS);
     refused("belt_job", all.refusal);
     print_motion(own_model(&all, settings), all.samples);
