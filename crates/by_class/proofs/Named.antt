@@ -8,8 +8,10 @@ use lib.ListN.{length}
 use Rattle.laws.specs.Call.{answered}
 use Rattle.laws.specs.Refusal.{orElse}
 use Rattle.sample.specs.declared.MotionSample.{MotionSample}
+use Rattle.sample.specs.Sample.{sampleOf}
 use Rattle.class_set.specs.Set.{allClasses, chosen}
 use Rattle.class_set.proofs.Chosen.{all-chosen, read-chosen}
+use Rattle.fit.proofs.SameSamples.{withoutClass, class-plays-no-part}
 use Rattle.by_class.specs.ByClass.{letsPass, emptyRefusal, byClass}
 use Rattle.by_class.specs.Agree.{Pass, Agree}
 use Rattle.by_class.proofs.Rows.{passed}
@@ -40,3 +42,9 @@ module _ {A B : Type 0} (refused : ℕ → B) (wrong : Bool) (call : List A → 
         (sym (mapped (chosen set xs cs))
         ∙ ap over (sym (read-chosen read set xs cs) ∙ a .named ∙ read-chosen read set ys ds)
         ∙ mapped (chosen set ys ds))
+
+-- words that differ in their class bits alone agree: a class stands in the list of classes
+pub class-bits-agree : (wrong : Bool) (set : ℕ) (ws vs cs : List ℕ) → map withoutClass ws ≡ map withoutClass vs
+    → Pass wrong set ws cs vs cs → Agree sampleOf wrong set ws cs vs cs
+class-bits-agree wrong set ws vs cs e p =
+    record { pass = p; named = ap (λ (l : List MotionSample). chosen set l cs) (class-plays-no-part ws vs e .samples) }
