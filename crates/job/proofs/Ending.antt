@@ -9,7 +9,7 @@ use native.Mathlib.Omega.{arith}
 use borrow.Author.Tests.{ne-eqb, lt-ltb}
 use lib.Dec.{ltb}
 use lib.IntN.{ℤ}
-use lib.ListN.{length, take, length-take}
+use lib.ListN.{length, take}
 use Rattle.laws.specs.Buffer.{onto}
 use Rattle.laws.specs.Chosen.{Front}
 use Rattle.laws.specs.Refusal.{choose}
@@ -39,15 +39,6 @@ use Rattle.job_outcome.proofs.Samples.{words-length, words-few}
 use Rattle.job_outcome.proofs.Blocks.{stored}
 use Rattle.job_outcome.proofs.Written.{bits-written, header-written}
 use Rattle.job.specs.Inner.{Naming, Finished, finish, reportOf, writtenOut, finished}
-
--- ---- the front of a buffer
-
-module _ {A : Type 0} {l out : List A} {n : ℕ} (f : Front l out n) where
-  pub front-count : n ≡ length (take n out)
-  front-count = f .counted ∙ sym (ap length (f .front))
-
-  pub front-there : n ≤ length out
-  front-there = omega (arith, front-count, length-take n out)
 
 -- ---- the search of a job that is ready
 

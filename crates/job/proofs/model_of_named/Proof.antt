@@ -4,8 +4,8 @@ use mathlib.Core.List.{List}
 use mathlib.Core.Path.{ap, _∙_}
 use Prim.Native.Nat.{ℕ}
 use borrow.Author.Needs.{needs}
+use Rattle.class_set.proofs.Front.{front-count, front-there}
 use Rattle.job_model.specs.Modelled.{modelled}
-use Rattle.job.proofs.Ending.{front-there, front-count}
 use Rattle.job.proofs.model_of_named.Statement.{statement}
 use Rattle.job.proofs.model_of_named.Tie as tie
 

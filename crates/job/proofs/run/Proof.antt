@@ -1,9 +1,10 @@
 -- `job::run`: the search accepts, the words that it found are the job's, and what follows from them is its outcome.
 -- Assumes nothing.
 use borrow.Author.Needs.{needs}
+use Rattle.class_set.proofs.Front.{front-count, front-there}
 use Rattle.job_task.specs.Task.{Task, Lent, task, lend}
 use Rattle.job_task.proofs.Accepted.{ready}
-use Rattle.job.proofs.Ending.{front-there, front-count, found-front, found-naming, ended-found}
+use Rattle.job.proofs.Ending.{found-front, found-naming, ended-found}
 use Rattle.job.proofs.run.Statement.{statement}
 use Rattle.job.proofs.run.Tie as tie
 
