@@ -195,8 +195,8 @@ struct belt_written { uint32_t refusal; size_t bits; };
 struct belt_models { uint32_t refusal; uint8_t types[7]; struct belt_stored_model models[7]; size_t bits; };
 /* The frame number of the blocks, the type to fit (1 to 3), the reference of the model (1 to 7), the flag, whether the
    job trims (BELT_TRIM), whether it elects (BELT_ELECT; type and trim code then aren't looked at), the set of classes
-   whose samples it fits and scores (BELT_ALL_CLASSES for every sample; 0, as in settings that are left out, is refused),
-   and the bit of the header's first byte at which writing begins (0 to 7). */
+   whose samples it fits and scores (BELT_ALL_CLASSES for every sample; 0, as where it is left out, is refused), and the
+   bit of the header's first byte at which writing begins (0 to 7). */
 struct belt_settings {
     uint16_t frame; uint8_t type; uint8_t reference; uint8_t flag; uint8_t trim; uint8_t elect; uint8_t set;
     size_t start;

@@ -74,6 +74,11 @@ const MEASURE: Command = Command {
             "A class for each block, row by row: unsorted, fibre, rigid-plastic, metal, film, or 0 to 4. All are unsorted if it isn't given.",
         ),
         opt(
+            "--set",
+            "LIST",
+            "Measure only the blocks of these classes, by names or numbers with commas between them; the others are stored all the same. All classes if it isn't given.",
+        ),
+        opt(
             "--frame",
             "N",
             "The frame's number, 1 to 65535, which its blocks carry; 1 if it isn't given. Of more pictures, that of the first pair.",

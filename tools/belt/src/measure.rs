@@ -3,7 +3,7 @@
 use crate::failure::Failure;
 use crate::frames::Frame;
 use crate::model::{IDENTITY, Model};
-use belt::{Buffers, IDENTITIES, MOST_EIGHTHS, Motion, Refusal, Report, Sample, Settings, StoredModel, Task};
+use belt::{Buffers, ClassSet, IDENTITIES, MOST_EIGHTHS, Motion, Refusal, Report, Sample, Settings, StoredModel, Task};
 
 /// A motion of so many pels, across or down, lies at the end of the range: the search looks at whole pels up to here.
 pub const END_OF_RANGE: f64 = 27.0;
@@ -30,6 +30,8 @@ pub struct Job {
     pub prior: [StoredModel; 7],
     /// A class for each block; unsorted where none are given.
     pub classes: Option<Vec<u8>>,
+    /// The classes whose blocks are measured.
+    pub set: ClassSet,
     /// A block agrees with the model within so many pels.
     pub within: f64,
 }
@@ -90,6 +92,7 @@ pub struct Measured {
     /// The model found, x first.
     pub model: belt::Model,
     pub report: Report,
+    /// The blocks of the classes that are measured.
     pub blocks: Vec<Block>,
     pub within: f64,
     pub warnings: Vec<Warning>,
@@ -110,7 +113,7 @@ pub fn judge_sides(width: usize, height: usize) -> Result<(), Refusal> {
 /// Runs the job on two pictures of the same sides.
 pub fn measure(job: &Job, input: &Frame, reference: &Frame) -> Result<Measured, Failure> {
     let (width, height) = (input.width, input.height);
-    let settings = job.model.settings(job.frame, job.reference, job.flag, job.start);
+    let settings = Settings { set: job.set, ..job.model.settings(job.frame, job.reference, job.flag, job.start) };
     let unsorted = vec![belt::UNSORTED; belt::sample_count(width, height)];
     let mut buffers = Buffers::new(width, height);
     let task = Task {
@@ -129,7 +132,8 @@ pub fn measure(job: &Job, input: &Frame, reference: &Frame) -> Result<Measured, 
     let place = usize::from(job.reference) - 1;
     let gm_type = report.types[place];
     let model = report.models[place].x_first(gm_type);
-    let blocks: Vec<Block> = buffers.words[..report.samples].iter().map(|&word| block(model, word)).collect();
+    let named = buffers.words.iter().zip(task.classes).filter(|&(_, &class)| job.set.names(class));
+    let blocks: Vec<Block> = named.map(|(&word, _)| block(model, word)).collect();
     buffers.header.truncate((settings.start + report.bits).div_ceil(8));
     let mut measured = Measured {
         input: input.name.clone(),
@@ -234,7 +238,17 @@ pub mod tests {
     /// A job that fits a type, or elects one for the identity.
     pub fn job(kind: u8) -> Job {
         let model = if kind == IDENTITY { Model::Elected } else { Model::Plain(kind) };
-        Job { model, frame: 1, reference: 1, flag: 1, start: 0, prior: IDENTITIES, classes: None, within: 0.25 }
+        Job {
+            model,
+            frame: 1,
+            reference: 1,
+            flag: 1,
+            start: 0,
+            prior: IDENTITIES,
+            classes: None,
+            set: ClassSet::ALL,
+            within: 0.25,
+        }
     }
 
     #[test]

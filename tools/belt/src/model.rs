@@ -63,7 +63,7 @@ impl Model {
             Model::Plain(kind) => (kind, 0, 0),
             Model::Trimmed(kind) => (kind, 1, 0),
         };
-        Settings { frame, gm_type, reference, flag, trim, elect, start }
+        Settings { frame, gm_type, reference, flag, trim, elect, start, ..Settings::default() }
     }
 }
 
@@ -80,7 +80,7 @@ mod tests {
             assert!(Model::chosen(Some(name), false).is_err(), "{name}");
         }
         let settings = |model: Model| model.settings(5, 7, 1, 3);
-        let plain = Settings { frame: 5, gm_type: 2, reference: 7, flag: 1, trim: 0, elect: 0, start: 3 };
+        let plain = Settings { frame: 5, gm_type: 2, reference: 7, flag: 1, start: 3, ..Settings::default() };
         assert_eq!(settings(Model::Plain(2)), plain);
         assert_eq!(settings(Model::Trimmed(2)), Settings { trim: 1, ..plain });
         assert_eq!(settings(Model::Elected), Settings { gm_type: 0, elect: 1, ..plain });

@@ -127,6 +127,8 @@ fn words_that_are_not_known() {
     );
     folder.write("glass", "metal\nglass");
     bad(&folder, &measure(&["--classes", "glass"]), "glass: line 2: 'glass' is no class");
+    bad(&folder, &measure(&["--set", "film"]), "--set: it goes by classes: --classes FILE has one for each block");
+    bad(&folder, &measure(&["--classes", "three", "--set", "film,tin"]), "--set: 'tin' is no class");
     let shear = ["measure", "still.pgm", "pan.pgm", "--type", "shear"];
     bad(&folder, &shear, "--type: 'shear' isn't translation, rotzoom or affine");
     bad(&folder, &["list"], "list: it takes 1 file, not 0: belt list FILE [OPTIONS]");
@@ -159,6 +161,9 @@ fn refusals() {
     refused(&measure(&["--classes", "few"]), &format!("{pair}, 2: {}: classes has 5 elements, 80 are wanted", row(2)));
     folder.write("five", "5 ".repeat(80));
     refused(&measure(&["--classes", "five"]), &format!("{pair}, 4: {}", row(4)));
+    folder.write("sheets", "film ".repeat(80));
+    refused(&measure(&["--classes", "sheets", "--set", "film,5"]), &format!("{pair}, 4: {}", row(4)));
+    refused(&measure(&["--classes", "sheets", "--set", "metal", "--trim"]), &format!("{pair}, 15: {}", row(15)));
     folder.write("prior", "0 0 65536 8193 0 65536 ".repeat(7));
     refused(&measure(&["--prior", "prior"]), &format!("{pair}, 8: {}", row(8)));
     let small = ["measure", "still.pgm", "pan.pgm", "--type", "rotzoom", "--crop", "0,0,15,15"];
@@ -180,7 +185,7 @@ fn refusals() {
     folder.write("off", "affine 0 0 65537 0 0 65536 ".repeat(7));
     refused(&["price", "off"], &format!("off: refused, 7: {}", row(7)));
     let mut after = folder.names();
-    after.retain(|name| !["few", "five", "prior", "header", "off"].contains(&name.as_str()));
+    after.retain(|name| !["few", "five", "sheets", "prior", "header", "off"].contains(&name.as_str()));
     assert_eq!(after, before);
 }
 

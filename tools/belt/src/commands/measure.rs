@@ -10,6 +10,7 @@ use crate::model::Model;
 use crate::output::{Files, print};
 use crate::picture;
 use crate::report::{json, words};
+use belt::ClassSet;
 use std::ffi::OsString;
 use std::path::Path;
 
@@ -65,8 +66,18 @@ fn job(given: &Given) -> Result<Job, Failure> {
         start: given.number("--start", 0, "a bit, 0 to 7")?,
         prior: prior(given)?,
         classes: given.value("--classes").map(lists::classes).transpose()?,
+        set: set(given)?,
         within,
     })
+}
+
+/// The classes that are measured; all if none are named.
+fn set(given: &Given) -> Result<ClassSet, Failure> {
+    let Some(text) = given.text("--set")? else { return Ok(ClassSet::ALL) };
+    if !given.has("--classes") {
+        return Err(Failure::bad("--set", "it goes by classes: --classes FILE has one for each block"));
+    }
+    lists::class_set(text).map_err(|what| Failure::bad("--set", what))
 }
 
 fn window(given: &Given) -> Result<Option<Window>, Failure> {
