@@ -21,6 +21,14 @@ impl Failure {
         Failure::Refused { place: place.into(), refusal, advice: String::new() }
     }
 
+    /// What is wrong with the words of the command line: what stands ahead of the usage, in one line.
+    pub fn words(text: &str) -> Self {
+        let usage = |line: &&str| line.starts_with("Usage") || line.starts_with("For more information");
+        let lines: Vec<&str> = text.lines().map(str::trim).take_while(|line| !usage(line)).collect();
+        let said = lines.into_iter().filter(|line| !line.is_empty()).collect::<Vec<_>>().join(" ");
+        Failure::bad("the command line", said.strip_prefix("error: ").unwrap_or(&said))
+    }
+
     /// The same refusal with what helps.
     pub fn with_advice(self, text: impl Into<String>) -> Self {
         match self {
@@ -51,18 +59,4 @@ impl fmt::Display for Failure {
 /// A text without control characters, which file names and broken files may bring in.
 pub fn one_line(text: &str) -> String {
     text.chars().flat_map(|c| if c.is_control() { c.escape_default().collect() } else { vec![c] }).collect()
-}
-
-#[cfg(test)]
-mod tests {
-    use super::*;
-
-    #[test]
-    fn a_failure_is_one_line_with_its_status() {
-        let bad = Failure::bad("a\nb.pgm", "cut short");
-        assert_eq!((bad.to_string().as_str(), bad.status()), ("a\\nb.pgm: cut short", 2));
-        let refused = Failure::refused("a.pgm", Refusal::TooLarge).with_advice("--crop X,Y,W,H measures a part");
-        let text = "a.pgm: refused, 1: side over 1,024, or over 4,096 samples; --crop X,Y,W,H measures a part";
-        assert_eq!((refused.to_string().as_str(), refused.status()), (text, 1));
-    }
 }

@@ -4,10 +4,10 @@ use crate::failure::Failure;
 use crate::model::{self, TYPES};
 use crate::output::shown;
 use belt::{CLASSES, StoredModel};
-use std::ffi::OsStr;
 use std::fmt::Write;
 use std::fs::File;
 use std::io::{self, Read};
+use std::path::Path;
 
 /// A list is no longer than this.
 const LONGEST_TEXT: u64 = 1 << 20;
@@ -19,22 +19,25 @@ pub struct ModelList {
     pub models: [StoredModel; 7],
 }
 
-/// All bytes of a file; `-` is standard input.
-pub fn bytes(place: &OsStr, most: u64) -> Result<Vec<u8>, Failure> {
+/// Opens a file; `-` is standard input.
+pub fn open(place: &Path) -> Result<Box<dyn Read>, Failure> {
+    if place == Path::new("-") {
+        return Ok(Box::new(io::stdin()));
+    }
+    Ok(Box::new(File::open(place).map_err(|error| Failure::bad(shown(place), error))?))
+}
+
+/// All bytes of a file.
+pub fn bytes(place: &Path, most: u64) -> Result<Vec<u8>, Failure> {
     let mut bytes = Vec::new();
-    let read = if place == "-" {
-        io::stdin().take(most + 1).read_to_end(&mut bytes)
-    } else {
-        File::open(place).and_then(|file| file.take(most + 1).read_to_end(&mut bytes))
-    };
-    read.map_err(|error| Failure::bad(shown(place), error))?;
+    open(place)?.take(most + 1).read_to_end(&mut bytes).map_err(|error| Failure::bad(shown(place), error))?;
     if bytes.len() as u64 > most {
         return Err(Failure::bad(shown(place), format!("it is over {most} bytes long")));
     }
     Ok(bytes)
 }
 
-fn read<T>(place: &OsStr, parse: impl Fn(&str) -> Result<T, String>) -> Result<T, Failure> {
+fn read<T>(place: &Path, parse: impl Fn(&str) -> Result<T, String>) -> Result<T, Failure> {
     let text = String::from_utf8(bytes(place, LONGEST_TEXT)?).map_err(|_| "it is no text".to_string());
     text.and_then(|text| parse(&text)).map_err(|what| Failure::bad(shown(place), what))
 }
@@ -48,7 +51,7 @@ fn words(text: &str) -> impl Iterator<Item = (usize, &str)> {
 }
 
 /// Reads seven models: of each its six numbers as stored, with the type's name before them or without.
-pub fn models(place: &OsStr) -> Result<ModelList, Failure> {
+pub fn models(place: &Path) -> Result<ModelList, Failure> {
     read(place, parse_models)
 }
 
@@ -56,7 +59,10 @@ fn parse_models(text: &str) -> Result<ModelList, String> {
     let (mut types, mut numbers) = (Vec::new(), Vec::new());
     for (line, word) in words(text) {
         match model::code(word) {
-            Some(code) if numbers.len() % 6 == 0 => types.push(code),
+            Some(code) if numbers.len() == 6 * types.len() => types.push(code),
+            Some(_) if numbers.len() % 6 == 0 => {
+                return Err(format!("line {line}: '{word}' isn't the one type ahead of its model's six numbers"));
+            }
             Some(_) => return Err(format!("line {line}: '{word}' stands among a model's six numbers")),
             None => numbers.push(word.parse().map_err(|_| format!("line {line}: '{word}' is no number of 32 bits"))?),
         }
@@ -85,7 +91,7 @@ pub fn models_text(types: &[u8; 7], models: &[StoredModel; 7]) -> String {
 }
 
 /// Reads classes, by their codes or words, one for each block, row by row.
-pub fn classes(place: &OsStr) -> Result<Vec<u8>, Failure> {
+pub fn classes(place: &Path) -> Result<Vec<u8>, Failure> {
     read(place, parse_classes)
 }
 
@@ -118,6 +124,10 @@ mod tests {
         assert_eq!(said("2147483648"), "line 1: '2147483648' is no number of 32 bits");
         assert_eq!(said("1 affine"), "line 1: 'affine' stands among a model's six numbers");
         assert_eq!(said("1 2 3"), "it has 3 numbers; seven models have 42, six for each of references 1 to 7");
+        let twice = format!("affine affine {}", "0 ".repeat(42));
+        assert_eq!(said(&twice), "line 1: 'affine' isn't the one type ahead of its model's six numbers");
+        let late = format!("{}\naffine {}", "0 ".repeat(6), "0 ".repeat(36));
+        assert_eq!(said(&late), "line 2: 'affine' isn't the one type ahead of its model's six numbers");
         let one = format!("affine {}", "0 ".repeat(42));
         assert_eq!(said(&one), "it has 1 types; name all seven or none");
     }

@@ -1,30 +1,35 @@
 //! belt: the motion core from a command line.
 //!
-//! Pictures, blocks and headers come in (`frames`, `lists`), the library is asked (`measure`, `commands`), and the answer
-//! goes out in words, as JSON (`report`) or as a picture (`picture`). `help` has the text of every command, and the
-//! manual page is made of it. Whatever goes wrong is a [`failure::Failure`]: one line and a status.
+//! Pictures, blocks and headers come in (`frames`, `lists`), the library is asked (`measure`, by `way`), and the answer
+//! goes out in words, as JSON (`report`) or as a picture (`picture`). `cli` has the words that are taken and their help;
+//! the manual page is made of it. Whatever goes wrong is a [`failure::Failure`]: one line and a status.
 
-mod args;
+mod cli;
 mod commands;
+mod demo;
 mod failure;
 mod frames;
-mod help;
 mod lists;
 mod measure;
+mod memory;
 mod model;
 mod output;
 mod picture;
 mod report;
+mod way;
 
-use std::env;
+use std::io::{self, Write};
 use std::process::ExitCode;
 
+#[global_allocator]
+static MEMORY: memory::Told = memory::Told;
+
 fn main() -> ExitCode {
-    let words = env::args_os().skip(1).collect();
-    match commands::run(words) {
+    match cli::parse(std::env::args_os().collect()).and_then(commands::run) {
         Ok(()) => ExitCode::SUCCESS,
         Err(failure) => {
-            eprintln!("belt: {failure}");
+            // there is nobody to tell that standard error can't be written
+            let _ = writeln!(io::stderr(), "belt: {failure}");
             ExitCode::from(failure.status())
         }
     }

@@ -1,28 +1,29 @@
-//! A job on two pictures, and how far each block is from the model that it finds.
+//! A job on two pictures: what is stored, what was measured (by `way`), and what each block has to do with it.
 
 use crate::failure::Failure;
 use crate::frames::Frame;
-use crate::model::{IDENTITY, Model};
+use crate::model::{Asked, IDENTITY, Map};
+use crate::way::{self, Answer, Status};
 use belt::{Buffers, IDENTITIES, MOST_EIGHTHS, Motion, Refusal, Report, Sample, Settings, StoredModel, Task};
+use std::collections::HashMap;
 
 /// A motion of so many pels, across or down, lies at the end of the range: the search looks at whole pels up to here.
 pub const END_OF_RANGE: f64 = 27.0;
 /// The largest motion that the search finds, in pels.
 pub const RANGE: f64 = MOST_EIGHTHS as f64 / 8.0;
-/// The mean square of the motion, in square pels, below which an election takes the load for standing still
-/// (docs/RULES.md, 'Election').
-const STILL_ENERGY: f64 = 0.25;
 /// An election takes so many blocks.
 pub const LEAST_TO_ELECT: usize = 4;
-/// The share of blocks that agree, below which they are few.
-const FEW: f64 = 0.5;
-/// The share of blocks at the end of the range, from which on they are many.
+/// The share of blocks at the end of the range, or of those that move otherwise, from which on they are many.
 const MANY: f64 = 0.05;
+/// A block that moves by at most so many pels stands still, and blocks move alike within as much.
+const ALIKE: f64 = 0.25;
+/// From this many pels on a load surely moves.
+const MOVES: f64 = 0.5;
 
 /// What a job is told beside its pictures.
 #[derive(Clone, Debug)]
 pub struct Job {
-    pub model: Model,
+    pub asked: Asked,
     pub frame: u16,
     pub reference: u8,
     pub flag: u8,
@@ -30,11 +31,13 @@ pub struct Job {
     pub prior: [StoredModel; 7],
     /// A class for each block; unsorted where none are given.
     pub classes: Option<Vec<u8>>,
+    /// What isn't black in it is left out of what is measured.
+    pub mask: Option<Frame>,
     /// A block agrees with the model within so many pels.
     pub within: f64,
 }
 
-/// A block of the picture: what was found, and how far the model is from it.
+/// A block of the picture: what was found, and how far the answer's model is from it.
 #[derive(Clone, Copy, Debug)]
 pub struct Block {
     pub x: f64,
@@ -42,22 +45,23 @@ pub struct Block {
     pub motion: Motion,
     /// The distance between its motion and the model's, in pels.
     pub off: f64,
+    pub masked: bool,
 }
 
 impl Block {
-    pub fn at_end(&self) -> bool {
-        self.motion.u.abs().max(self.motion.v.abs()) >= END_OF_RANGE
+    fn length(&self) -> f64 {
+        self.motion.u.hypot(self.motion.v)
     }
 }
 
-/// Why the numbers aren't to be trusted.
+/// What to know of an answer, beside its status.
 #[derive(Clone, Copy, Debug, PartialEq, Eq)]
 pub enum Warning {
-    NoBlocks,
-    Flat,
-    NoModel,
+    FewBlocks,
     FewAgree,
     EndOfRange,
+    PartMoves,
+    PartStill,
     WarpNotKept,
 }
 
@@ -65,14 +69,21 @@ impl Warning {
     /// Its name for programs.
     pub fn name(self) -> &'static str {
         match self {
-            Warning::NoBlocks => "no-blocks",
-            Warning::Flat => "flat",
-            Warning::NoModel => "no-model",
+            Warning::FewBlocks => "few-blocks",
             Warning::FewAgree => "few-agree",
             Warning::EndOfRange => "end-of-range",
+            Warning::PartMoves => "part-moves",
+            Warning::PartStill => "part-still",
             Warning::WarpNotKept => "warp-not-kept",
         }
     }
+}
+
+/// The commonest motion of some blocks, and its share of all.
+#[derive(Clone, Copy, Debug, PartialEq)]
+pub struct Commonest {
+    pub motion: Motion,
+    pub share: f64,
 }
 
 /// What was measured.
@@ -80,21 +91,22 @@ impl Warning {
 pub struct Measured {
     pub input: String,
     pub reference: String,
+    /// The sides of what was measured, and how many pels of the picture, across and down, are one of it.
     pub width: usize,
     pub height: usize,
+    pub times: usize,
     pub settings: Settings,
-    /// The model asked for.
-    pub asked: Model,
-    /// The type of the model found.
-    pub gm_type: u8,
-    /// The model found, x first.
-    pub model: belt::Model,
+    pub asked: Asked,
+    pub answer: Answer,
+    /// The type and model stored, x first.
+    pub stored_type: u8,
+    pub stored: belt::Model,
     pub report: Report,
     pub blocks: Vec<Block>,
     pub within: f64,
     pub warnings: Vec<Warning>,
     /// The frame's sample blocks.
-    pub stored: Vec<u8>,
+    pub sample_blocks: Vec<u8>,
     /// The header's bytes, from the start's byte on.
     pub header: Vec<u8>,
 }
@@ -110,7 +122,7 @@ pub fn judge_sides(width: usize, height: usize) -> Result<(), Refusal> {
 /// Runs the job on two pictures of the same sides.
 pub fn measure(job: &Job, input: &Frame, reference: &Frame) -> Result<Measured, Failure> {
     let (width, height) = (input.width, input.height);
-    let settings = job.model.settings(job.frame, job.reference, job.flag, job.start);
+    let settings = job.asked.settings(job.frame, job.reference, job.flag, job.start);
     let unsorted = vec![belt::UNSORTED; belt::sample_count(width, height)];
     let mut buffers = Buffers::new(width, height);
     let task = Task {
@@ -127,90 +139,156 @@ pub fn measure(job: &Job, input: &Frame, reference: &Frame) -> Result<Measured, 
     let pair = format!("{} to {}", input.name, reference.name);
     let report = belt::job(&task, &mut buffers.lend()).map_err(|refusal| Failure::refused(pair, refusal))?;
     let place = usize::from(job.reference) - 1;
-    let gm_type = report.types[place];
-    let model = report.models[place].x_first(gm_type);
-    let blocks: Vec<Block> = buffers.words[..report.samples].iter().map(|&word| block(model, word)).collect();
+    let stored_type = report.types[place];
     buffers.header.truncate((settings.start + report.bits).div_ceil(8));
+    let words = &buffers.words[..report.samples];
+    let masked = |word: u32| job.mask.as_ref().is_some_and(|mask| is_masked(mask, word));
+    let kept: Vec<u32> = words.iter().copied().filter(|&word| !masked(word)).collect();
+    let mut answer = way::answer(job.asked, job.flag, job.within, &kept, (width, height));
+    if !kept.is_empty() && (input.is_flat() || reference.is_flat()) {
+        answer.status = Status::Flat;
+    }
+    let block = |&word: &u32| {
+        let sample = Sample::of_word(word);
+        let Sample { x, y, motion, .. } = sample;
+        Block { x, y, motion, off: answer.map.off(&sample), masked: masked(word) }
+    };
     let mut measured = Measured {
         input: input.name.clone(),
         reference: reference.name.clone(),
         width,
         height,
+        times: input.times,
         settings,
-        asked: job.model,
-        gm_type,
-        model,
+        asked: job.asked,
+        answer,
+        stored_type,
+        stored: report.models[place].x_first(stored_type),
         report,
-        blocks,
+        blocks: words.iter().map(block).collect(),
         within: job.within,
         warnings: Vec::new(),
-        stored: buffers.blocks,
+        sample_blocks: buffers.blocks,
         header: buffers.header,
     };
-    measured.warnings = warnings(&measured, input.is_flat() || reference.is_flat());
+    measured.warnings = warnings(&measured);
     Ok(measured)
 }
 
-fn block(model: belt::Model, word: u32) -> Block {
-    let Sample { x, y, motion, .. } = Sample::of_word(word);
-    let own = model.motion_at(x, y);
-    Block { x, y, motion, off: (motion.u - own.u).hypot(motion.v - own.v) }
+/// Whether a pel of the mask under a block isn't black.
+fn is_masked(mask: &Frame, word: u32) -> bool {
+    let Sample { row, column, .. } = Sample::of_word(word);
+    let (top, left) = (16 * row as usize, 16 * column as usize);
+    (top..top + 16).any(|y| mask.pels[y * mask.width + left..][..16].iter().any(|&pel| pel > 0))
 }
 
-fn warnings(measured: &Measured, flat: bool) -> Vec<Warning> {
-    if measured.blocks.is_empty() {
-        return vec![Warning::NoBlocks];
+fn warnings(measured: &Measured) -> Vec<Warning> {
+    let status = measured.answer.status;
+    let kept = measured.stored_type < 2
+        || belt::setup_shear(measured.stored_type, &measured.stored.row_first(measured.stored_type).0)
+            .is_ok_and(|shear| shear.valid);
+    if matches!(status, Status::Flat | Status::NoBlocks) {
+        return Vec::new();
     }
-    if flat {
-        return vec![Warning::Flat];
-    }
-    let count = measured.blocks.len() as f64;
-    let numbers = measured.model.row_first(measured.gm_type).0;
-    let kept = measured.gm_type < 2 || belt::setup_shear(measured.gm_type, &numbers).is_ok_and(|shear| shear.valid);
+    let count = measured.used().count() as f64;
+    let few = measured.asked == Asked::Elected && count < LEAST_TO_ELECT as f64;
+    let (still, moving) = (measured.still() / count, measured.moving().count() as f64 / count);
+    let moves = status != Status::Still && measured.middle().u.hypot(measured.middle().v) > MOVES;
     let found = [
-        (Warning::NoModel, measured.is_unexplained()),
-        (Warning::FewAgree, measured.share() < FEW && !measured.is_unexplained()),
+        (Warning::FewBlocks, few),
+        (Warning::FewAgree, status == Status::Unexplained && !few),
         (Warning::EndOfRange, measured.at_end() as f64 >= MANY * count),
+        (Warning::PartMoves, status == Status::Still && moving >= MANY),
+        (Warning::PartStill, moves && still >= MANY && moving >= MANY),
         (Warning::WarpNotKept, !kept),
     ];
     found.into_iter().filter(|(_, holds)| *holds).map(|(warning, _)| warning).collect()
 }
 
 impl Measured {
-    /// How many blocks agree with the model.
+    /// The blocks that aren't masked.
+    pub fn used(&self) -> impl Iterator<Item = &Block> {
+        self.blocks.iter().filter(|block| !block.masked)
+    }
+
+    /// How many blocks agree with what was measured.
     pub fn agreeing(&self) -> usize {
-        self.blocks.iter().filter(|block| block.off <= self.within).count()
+        self.used().filter(|block| block.off <= self.within).count()
     }
 
     /// The share of them, 0 to 1; 0 without blocks.
     pub fn share(&self) -> f64 {
-        if self.blocks.is_empty() { 0.0 } else { self.agreeing() as f64 / self.blocks.len() as f64 }
+        let used = self.used().count();
+        if used == 0 { 0.0 } else { self.agreeing() as f64 / used as f64 }
     }
 
-    /// Whether no type was elected because the load stands still, or nearly.
-    pub fn is_still(&self) -> bool {
-        self.gm_type == IDENTITY && self.report.score < STILL_ENERGY
-    }
-
-    /// Whether no type was elected though the load moves.
-    pub fn is_unexplained(&self) -> bool {
-        self.gm_type == IDENTITY && !self.is_still()
+    /// How many blocks stand still.
+    pub fn still(&self) -> f64 {
+        self.used().filter(|block| block.length() <= ALIKE).count() as f64
     }
 
     /// How many motions lie at the end of the range.
     pub fn at_end(&self) -> usize {
-        self.blocks.iter().filter(|block| block.at_end()).count()
+        self.used().filter(|block| block.motion.u.abs().max(block.motion.v.abs()) >= END_OF_RANGE).count()
     }
 
-    /// The model's motion in the middle of the picture.
+    /// The commonest motion of all blocks.
+    pub fn commonest(&self) -> Option<Commonest> {
+        commonest(self.used(), self.used().count(), self.times)
+    }
+
+    /// The blocks that surely move.
+    fn moving(&self) -> impl Iterator<Item = &Block> {
+        self.used().filter(|block| block.length() > MOVES)
+    }
+
+    /// Their commonest motion.
+    pub fn commonest_moving(&self) -> Option<Commonest> {
+        commonest(self.moving(), self.used().count(), self.times)
+    }
+
+    /// The model that was measured, in pels of the picture.
+    pub fn map(&self) -> Map {
+        self.answer.map.magnified(self.times)
+    }
+
+    /// A model's motion in the middle of the picture, in pels of the picture that it is a model of.
+    pub fn middle_of(&self, map: Map, times: usize) -> Motion {
+        let middle = |side: usize| ((side * times) as f64 - 1.0) / 2.0;
+        map.motion_at(middle(self.width), middle(self.height))
+    }
+
+    /// What was measured, in the middle of the picture.
     pub fn middle(&self) -> Motion {
-        self.model.motion_at((self.width as f64 - 1.0) / 2.0, (self.height as f64 - 1.0) / 2.0)
+        self.middle_of(self.map(), self.times)
     }
 
-    /// The root of the score: a typical error of a block, in pels.
-    pub fn error(&self) -> f64 {
-        self.report.score.sqrt()
+    /// What is stored, in pels of what was measured.
+    pub fn stored_map(&self) -> Map {
+        Map::of_grid(self.stored)
     }
+
+    pub fn is_stored_still(&self) -> bool {
+        self.stored_type == IDENTITY
+    }
+}
+
+/// The motion that most blocks have within [`ALIKE`], in pels of the picture.
+fn commonest<'a>(blocks: impl Iterator<Item = &'a Block>, all: usize, times: usize) -> Option<Commonest> {
+    let mut counts: HashMap<(i32, i32), usize> = HashMap::new();
+    for block in blocks {
+        let eighths = |pels: f64| (pels * 8.0) as i32;
+        *counts.entry((eighths(block.motion.u), eighths(block.motion.v))).or_default() += 1;
+    }
+    let reach = (ALIKE * 8.0) as i32;
+    let near = |&(u, v): &(i32, i32)| {
+        let places = (-reach..=reach).flat_map(|i| (-reach..=reach).map(move |j| (i, j)));
+        let near = places.filter(|(i, j)| i * i + j * j <= reach * reach);
+        near.filter_map(|(i, j)| counts.get(&(u + i, v + j))).sum::<usize>()
+    };
+    let (u, v) = counts.keys().copied().max_by_key(|key| (near(key), counts[key], *key))?;
+    let pels = |eighths: i32| f64::from(eighths) / 8.0 * times as f64;
+    Some(Commonest { motion: Motion { u: pels(u), v: pels(v) }, share: near(&(u, v)) as f64 / all as f64 })
 }
 
 #[cfg(test)]
@@ -228,62 +306,67 @@ pub mod tests {
     pub fn frame(name: &str, width: usize, height: usize, dy: i64, dx: i64) -> Frame {
         let pel = |i: usize| texture((i / width) as i64 + dy, (i % width) as i64 + dx);
         let pels = (0..width * height).map(pel).collect();
-        Frame { name: name.into(), width, height, whole: (width, height), most: 255, pels }
+        Frame { name: name.into(), width, height, whole: (width, height), times: 1, most: 255, pels }
+    }
+
+    /// A frame of which every pel with a quality shows the texture from another place on.
+    fn parted(moved: (i64, i64), rest: (i64, i64), own: impl Fn(usize, usize) -> bool) -> Frame {
+        let (inside, outside) = (frame("a", 160, 160, moved.0, moved.1), frame("a", 160, 160, rest.0, rest.1));
+        let pel = |i: usize| if own(i % 160, i / 160) { inside.pels[i] } else { outside.pels[i] };
+        Frame { pels: (0..160 * 160).map(pel).collect(), ..outside.clone() }
     }
 
     /// A job that fits a type, or elects one for the identity.
     pub fn job(kind: u8) -> Job {
-        let model = if kind == IDENTITY { Model::Elected } else { Model::Plain(kind) };
-        Job { model, frame: 1, reference: 1, flag: 1, start: 0, prior: IDENTITIES, classes: None, within: 0.25 }
+        let asked = if kind == IDENTITY { Asked::Elected } else { Asked::Plain(kind) };
+        let (prior, classes, mask) = (IDENTITIES, None, None);
+        Job { asked, frame: 1, reference: 1, flag: 1, start: 0, prior, classes, mask, within: 0.25 }
     }
 
     #[test]
     fn a_pan_is_measured_and_every_block_agrees() {
-        let found = measure(&job(1), &frame("a", 96, 64, 2, -4), &frame("b", 96, 64, 0, 0)).unwrap();
-        assert_eq!((found.middle().u, found.middle().v), (-4.0, 2.0));
-        assert_eq!((found.gm_type, found.blocks.len(), found.stored.len()), (1, 24, 512));
-        assert!(found.agreeing() >= 20 && found.warnings.is_empty(), "{found:?}");
-        assert_eq!(found.agreeing(), found.model.agreeing(&words(&found), 0.25));
+        for kind in [IDENTITY, 1] {
+            let found = measure(&job(kind), &frame("a", 96, 64, 2, -4), &frame("b", 96, 64, 0, 0)).unwrap();
+            assert_eq!((found.answer.status, found.middle()), (Status::Measured, Motion { u: -4.0, v: 2.0 }));
+            assert_eq!((found.stored_type, found.blocks.len(), found.sample_blocks.len()), (1, 24, 512));
+            assert!(found.agreeing() >= 20 && found.warnings.is_empty(), "{found:?}");
+        }
     }
 
     #[test]
-    fn a_type_is_elected_or_it_is_said_why_not() {
-        let still = frame("a", 96, 64, 0, 0);
-        let found = measure(&job(IDENTITY), &frame("a", 96, 64, 2, -4), &still).unwrap();
-        assert_eq!((found.gm_type, found.middle()), (1, Motion { u: -4.0, v: 2.0 }));
-        assert!(!found.is_still() && !found.is_unexplained());
-        let found = measure(&job(IDENTITY), &still, &still).unwrap();
-        assert!(found.gm_type == IDENTITY && found.is_still() && found.warnings.is_empty(), "{found:?}");
-        // two halves that part
-        let halves = |by: i64| {
-            let (left, right) = (frame("a", 96, 64, 0, by), frame("a", 96, 64, 0, -by));
-            let pels = (0..96 * 64).map(|i| if i % 96 < 48 { left.pels[i] } else { right.pels[i] }).collect();
-            Frame { pels, ..left }
-        };
-        let found = measure(&job(IDENTITY), &halves(8), &halves(0)).unwrap();
-        assert!(found.gm_type == IDENTITY && found.is_unexplained(), "{found:?}");
-        assert_eq!(found.warnings, [Warning::NoModel]);
-    }
-
-    fn words(found: &Measured) -> Vec<u32> {
-        let (mut words, mut classes) = (vec![0; 4096], vec![0; 4096]);
-        let frame = belt::read_both(&found.stored, &mut words, &mut classes).unwrap();
-        words.truncate(frame.samples);
-        words
-    }
-
-    #[test]
-    fn warnings_are_raised_where_they_belong() {
-        let (still, far) = (frame("a", 160, 160, 0, 0), frame("b", 160, 160, 40, 0));
-        assert_eq!(measure(&job(1), &still, &still).unwrap().warnings, []);
-        assert_eq!(measure(&job(1), &far, &still).unwrap().warnings[0], Warning::FewAgree);
+    fn each_status_is_told_where_it_belongs() {
+        let still = frame("a", 160, 160, 0, 0);
+        let status = |a: &Frame, b: &Frame| measure(&job(IDENTITY), a, b).unwrap().answer.status;
+        assert_eq!(status(&still, &still), Status::Still);
         let flat = Frame { pels: vec![9; 160 * 160], ..still.clone() };
-        assert_eq!(measure(&job(1), &flat, &flat).unwrap().warnings, [Warning::Flat]);
+        assert_eq!([status(&flat, &flat), status(&flat, &still)], [Status::Flat; 2]);
         let small = frame("a", 15, 40, 0, 0);
-        assert_eq!(measure(&job(1), &small, &small).unwrap().warnings, [Warning::NoBlocks]);
-        let slope =
-            |by: usize| Frame { pels: (0..25600).map(|i| (i % 160 + by) as u16 * 16).collect(), ..still.clone() };
-        assert!(measure(&job(1), &slope(40), &slope(0)).unwrap().warnings.contains(&Warning::EndOfRange));
+        assert_eq!(status(&small, &small), Status::NoBlocks);
+        let halves = |by: i64| parted((0, by), (0, -by), |x, _| x < 80);
+        let found = measure(&job(IDENTITY), &halves(8), &halves(0)).unwrap();
+        assert_eq!((found.answer.status, &found.warnings[..]), (Status::Unexplained, &[Warning::FewAgree][..]));
+        assert_eq!(found.commonest().map(|common| common.motion.u.abs()), Some(8.0));
+        let far = measure(&job(1), &frame("b", 160, 160, 40, 0), &still).unwrap();
+        assert_eq!((far.answer.status, far.warnings[0]), (Status::Unexplained, Warning::FewAgree));
+        let few = |dx| frame("a", 48, 16, 0, dx);
+        assert_eq!(measure(&job(IDENTITY), &few(6), &few(0)).unwrap().warnings, [Warning::FewBlocks]);
+    }
+
+    #[test]
+    fn parts_that_move_otherwise_are_told() {
+        let piece = |x: usize, y: usize| (32..80).contains(&x) && (32..80).contains(&y);
+        let still = parted((0, 0), (0, 0), piece);
+        let found = measure(&job(IDENTITY), &parted((0, 6), (0, 0), piece), &still).unwrap();
+        assert_eq!((found.answer.status, &found.warnings[..]), (Status::Still, &[Warning::PartMoves][..]));
+        assert_eq!(found.commonest_moving().unwrap().motion, Motion { u: 6.0, v: 0.0 });
+        let rail = |_, y: usize| y < 16;
+        let found = measure(&job(IDENTITY), &parted((0, 0), (4, 6), rail), &still).unwrap();
+        assert_eq!((found.answer.status, &found.warnings[..]), (Status::Measured, &[Warning::PartStill][..]));
+        let mask = Frame { pels: (0..160 * 160).map(|i| u16::from(i < 16 * 160)).collect(), ..still.clone() };
+        let job = Job { mask: Some(mask), ..job(IDENTITY) };
+        let found = measure(&job, &parted((0, 0), (4, 6), rail), &still).unwrap();
+        assert_eq!((found.answer.status, &found.warnings[..]), (Status::Measured, &[][..]));
+        assert_eq!((found.used().count(), found.middle()), (90, Motion { u: 6.0, v: 4.0 }));
     }
 
     #[test]
@@ -292,10 +375,6 @@ pub mod tests {
         let said = |job: Job| measure(&job, &still, &still).unwrap_err().to_string();
         assert_eq!(said(Job { frame: 0, ..job(1) }), "a to a: refused, 17: frame number 0: the shutter was closed");
         assert_eq!(said(Job { start: 8, ..job(1) }), "a to a: refused, 14: start of a header to write over 7");
-        let short = said(Job { classes: Some(vec![0; 3]), ..job(1) });
-        assert!(short.ends_with("list of wrong length: classes has 3 elements, 4 are wanted"), "{short}");
-        assert!(judge_sides(1024, 1024).is_ok());
-        assert_eq!(judge_sides(1025, 1), Err(Refusal::TooLarge));
-        assert_eq!(judge_sides(1, 1025), Err(Refusal::TooLarge));
+        assert_eq!([judge_sides(1024, 1024), judge_sides(1025, 1)], [Ok(()), Err(Refusal::TooLarge)]);
     }
 }

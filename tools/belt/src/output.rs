@@ -1,163 +1,320 @@
 //! What the tool writes: standard output, and files that are there whole or not at all.
 
 use crate::failure::{Failure, one_line};
-use std::ffi::OsStr;
+use signal_hook::consts::{SIGHUP, SIGINT, SIGTERM};
+use signal_hook::iterator::Signals;
+use std::collections::hash_map::RandomState;
+use std::ffi::OsString;
 use std::fs::{self, File, OpenOptions};
-use std::io::{self, Write};
+use std::hash::{BuildHasher, Hasher};
+use std::io::{self, BufWriter, ErrorKind, Seek, SeekFrom, Write};
+use std::os::unix::fs::MetadataExt;
 use std::path::{Path, PathBuf};
-use std::process;
+use std::sync::atomic::{AtomicBool, Ordering};
+use std::sync::{Mutex, MutexGuard, Once, PoisonError};
+use std::{env, thread};
 
 /// A path as a person reads it, in one line.
-pub fn shown(path: impl AsRef<OsStr>) -> String {
+pub fn shown(path: impl AsRef<Path>) -> String {
     match path.as_ref().to_string_lossy().as_ref() {
         "-" => "standard input".into(),
         text => one_line(text),
     }
 }
 
+/// Whether nobody reads standard output any more.
+static CLOSED: AtomicBool = AtomicBool::new(false);
+
+pub fn is_closed() -> bool {
+    CLOSED.load(Ordering::Relaxed)
+}
+
+/// Standard output. Once its reader has ended, what is written goes nowhere, and that is no failure.
+pub struct Out;
+
+impl Write for Out {
+    fn write(&mut self, bytes: &[u8]) -> io::Result<usize> {
+        match io::stdout().lock().write(bytes) {
+            Err(error) if error.kind() == ErrorKind::BrokenPipe => {
+                CLOSED.store(true, Ordering::Relaxed);
+                Ok(bytes.len())
+            }
+            written => written,
+        }
+    }
+
+    fn flush(&mut self) -> io::Result<()> {
+        match io::stdout().lock().flush() {
+            Err(error) if error.kind() == ErrorKind::BrokenPipe => {
+                CLOSED.store(true, Ordering::Relaxed);
+                Ok(())
+            }
+            flushed => flushed,
+        }
+    }
+}
+
+/// A failure of standard output.
+pub fn unwritten(error: impl ToString) -> Failure {
+    Failure::bad("standard output", error)
+}
+
 /// Writes a text to standard output, to its end.
 pub fn print(text: &str) -> Result<(), Failure> {
-    let mut out = io::stdout().lock();
-    let written = out.write_all(text.as_bytes()).and_then(|()| out.flush());
-    written.map_err(|error| Failure::bad("standard output", error))
+    if is_closed() {
+        return Ok(());
+    }
+    Out.write_all(text.as_bytes()).and_then(|()| Out.flush()).map_err(unwritten)
+}
+
+/// The files that wait for their names, to be removed if a signal ends the tool.
+static PARTS: Mutex<Vec<PathBuf>> = Mutex::new(Vec::new());
+
+fn parts() -> MutexGuard<'static, Vec<PathBuf>> {
+    PARTS.lock().unwrap_or_else(PoisonError::into_inner)
+}
+
+/// Removes them where the tool ends at once. Whoever holds them is about to name them all or remove them itself.
+pub fn remove_parts() {
+    if let Ok(parts) = PARTS.try_lock() {
+        parts.iter().for_each(|part| drop(fs::remove_file(part)));
+    }
+}
+
+/// From the first file on, a signal that ends the tool removes what waits.
+fn watch_signals() {
+    static ONCE: Once = Once::new();
+    ONCE.call_once(|| {
+        let Ok(mut signals) = Signals::new([SIGHUP, SIGINT, SIGTERM]) else { return };
+        thread::spawn(move || {
+            if let Some(signal) = signals.forever().next() {
+                // held to the end, so that no other file begins
+                let parts = parts();
+                parts.iter().for_each(|part| drop(fs::remove_file(part)));
+                let _ = signal_hook::low_level::emulate_default_handler(signal);
+            }
+        });
+    });
+}
+
+/// Which file a path names: one that is there, by the disk's number, or a new name in a folder.
+#[derive(PartialEq, Eq)]
+enum Identity {
+    There(u64, u64),
+    New(PathBuf, OsString),
+}
+
+impl Identity {
+    /// None for what can't be overwritten: devices, pipes, folders.
+    fn of(path: &Path) -> Option<Identity> {
+        match fs::metadata(path) {
+            Ok(data) => data.is_file().then(|| Identity::There(data.dev(), data.ino())),
+            Err(_) => Some(Identity::New(fs::canonicalize(folder(path)).ok()?, path.file_name()?.into())),
+        }
+    }
+}
+
+fn folder(path: &Path) -> &Path {
+    path.parent().filter(|folder| !folder.as_os_str().is_empty()).unwrap_or(Path::new("."))
 }
 
 /// Files that wait beside their places until all is well. Those that aren't kept are removed.
-#[derive(Default)]
 pub struct Files {
     waiting: Vec<Waiting>,
+    /// Whether one of them is standard output, so that words go to standard error.
+    prints: bool,
 }
 
 struct Waiting {
     name: String,
-    place: Place,
+    target: Target,
+    part: PathBuf,
+    file: BufWriter<File>,
 }
 
-enum Place {
-    /// A file, and the one that waits for its name.
-    File { target: PathBuf, part: PathBuf },
-    /// A device or a pipe, which can't wait: it is written at the end.
-    Device { target: PathBuf, bytes: Vec<u8> },
+enum Target {
+    File(PathBuf),
+    /// A device or a pipe.
+    Device(PathBuf),
+    Stdout,
 }
 
 impl Files {
-    /// Writes a file that waits for its name.
-    pub fn add(&mut self, path: &Path, bytes: Vec<u8>) -> Result<(), Failure> {
-        let name = shown(path);
-        let place = self.place(path, bytes).map_err(|error| Failure::bad(&name, error))?;
-        self.waiting.push(Waiting { name, place });
-        Ok(())
-    }
-
-    fn place(&self, path: &Path, bytes: Vec<u8>) -> io::Result<Place> {
-        // a link's own file is replaced, not the link
-        let target = match fs::canonicalize(path) {
-            Ok(target) => target,
-            Err(error) if error.kind() == io::ErrorKind::NotFound => path.to_path_buf(),
-            Err(error) => return Err(error),
-        };
-        match fs::metadata(&target) {
-            Ok(data) if data.is_dir() => return Err(io::Error::from(io::ErrorKind::IsADirectory)),
-            Ok(data) if !data.is_file() => return Ok(Place::Device { target, bytes }),
-            _ => {}
-        }
-        let twice = |waiting: &Waiting| matches!(&waiting.place, Place::File { target: other, .. } if *other == target);
-        if self.waiting.iter().any(twice) {
-            return Err(io::Error::other("two outputs have this name"));
-        }
-        let folder = target.parent().filter(|folder| !folder.as_os_str().is_empty()).unwrap_or(Path::new("."));
-        let part = folder.join(format!(".belt-{}-{}.part", process::id(), self.waiting.len()));
-        let written = File::create_new(&part).and_then(|mut file| {
-            file.write_all(&bytes)?;
-            file.sync_all()
-        });
-        match written {
-            Ok(()) => Ok(Place::File { target, part }),
-            Err(error) => {
-                // what can't be created can't be removed either
-                let _ = fs::remove_file(&part);
-                Err(error)
-            }
-        }
-    }
-
-    /// Gives each file its name.
-    pub fn keep(mut self) -> Result<(), Failure> {
-        while !self.waiting.is_empty() {
-            let waiting = &self.waiting[0];
-            let kept = match &waiting.place {
-                Place::File { target, part } => fs::rename(part, target),
-                Place::Device { target, bytes } => {
-                    OpenOptions::new().write(true).open(target).and_then(|mut device| device.write_all(bytes))
-                }
+    /// Judges all inputs and outputs of a run before anything is read: no output is an input, no two are one file, and
+    /// each can be written.
+    pub fn judge<'a>(
+        inputs: impl IntoIterator<Item = &'a Path>,
+        outputs: impl IntoIterator<Item = &'a Path>,
+    ) -> Result<Files, Failure> {
+        let dash = Path::new("-");
+        let place = |path: &Path, own: &str| Identity::of(if path == dash { Path::new(own) } else { path });
+        let read: Vec<Identity> = inputs.into_iter().filter_map(|path| place(path, "/dev/stdin")).collect();
+        let outputs: Vec<&Path> = outputs.into_iter().collect();
+        let dashes = outputs.iter().filter(|path| **path == dash).count();
+        let prints = dashes > 0;
+        let mut seen = Vec::new();
+        // words are an output too
+        for path in (!prints).then_some(dash).into_iter().chain(outputs) {
+            let own = place(path, "/dev/stdout");
+            let what = match &own {
+                Some(own) if read.contains(own) => "it is read too, and would be overwritten",
+                Some(own) if seen.contains(own) => "two outputs are this file",
+                _ if path == dash && dashes > 1 => "two outputs are this file",
+                _ => "",
             };
-            kept.map_err(|error| Failure::bad(&waiting.name, error))?;
-            self.waiting.remove(0);
+            if !what.is_empty() {
+                return Err(Failure::bad(shown_output(path), what));
+            }
+            // what can't be written is said before anything is read, too
+            target(path).map_err(|error| Failure::bad(shown_output(path), error))?;
+            seen.extend(own);
         }
+        Ok(Files { waiting: Vec::new(), prints })
+    }
+
+    /// Says something: on standard output, or on standard error where a file goes there.
+    pub fn say(&self, text: &str) -> Result<(), Failure> {
+        if !self.prints {
+            return print(text);
+        }
+        let _ = io::stderr().write_all(text.as_bytes());
         Ok(())
     }
+
+    /// Writes a file that waits for its name.
+    pub fn add(&mut self, path: &Path, bytes: &[u8]) -> Result<(), Failure> {
+        let file = self.create(path)?;
+        file.write_all(bytes).map_err(|error| Failure::bad(shown_output(path), error))
+    }
+
+    /// A file that waits for its name, to be written.
+    pub fn create(&mut self, path: &Path) -> Result<&mut impl Write, Failure> {
+        let name = shown_output(path);
+        let waiting = waiting(path, &name).map_err(|error| Failure::bad(&name, error))?;
+        self.waiting.push(waiting);
+        Ok(&mut self.waiting.last_mut().expect("it was pushed").file)
+    }
+
+    /// Gives each file its name: all of them or none.
+    pub fn keep(mut self) -> Result<(), Failure> {
+        for waiting in &mut self.waiting {
+            let name = waiting.name.clone();
+            waiting.finish().map_err(|error| Failure::bad(name, error))?;
+        }
+        let mut parts = parts();
+        let many = self.waiting.len() > 1;
+        let mut named: Vec<(&Path, Option<PathBuf>)> = Vec::new();
+        let mut failure = None;
+        for Waiting { name, target, part, .. } in &self.waiting {
+            let Target::File(target) = target else { continue };
+            // what was there waits beside it, until all have their names
+            let before = (many && target.exists()).then(|| part.with_extension("old"));
+            let before = before.filter(|before| fs::hard_link(target, before).is_ok());
+            match fs::rename(part, target) {
+                Ok(()) => named.push((target, before)),
+                Err(error) => {
+                    before.iter().for_each(|before| drop(fs::remove_file(before)));
+                    failure = Some(Failure::bad(name, error));
+                    break;
+                }
+            }
+        }
+        for (target, before) in named {
+            let _ = match (before, failure.is_some()) {
+                (Some(before), true) => fs::rename(before, target),
+                (Some(before), false) => fs::remove_file(before),
+                (None, true) => fs::remove_file(target),
+                (None, false) => Ok(()),
+            };
+        }
+        parts.retain(|part| part.exists());
+        drop(parts);
+        failure.map_or(Ok(()), Err)
+    }
 }
 
-impl Drop for Files {
-    fn drop(&mut self) {
-        for waiting in &self.waiting {
-            if let Place::File { part, .. } = &waiting.place {
-                let _ = fs::remove_file(part);
-            }
+fn shown_output(path: &Path) -> String {
+    if path == Path::new("-") { "standard output".into() } else { shown(path) }
+}
+
+/// The file that waits for a path.
+fn waiting(path: &Path, name: &str) -> io::Result<Waiting> {
+    let (target, mode) = target(path)?;
+    let beside = match &target {
+        Target::File(target) => folder(target).to_path_buf(),
+        _ => env::temp_dir(),
+    };
+    watch_signals();
+    let mut parts = parts();
+    let (part, file) = loop {
+        let number = RandomState::new().build_hasher().finish();
+        let part = beside.join(format!(".belt-{number:016x}.part"));
+        match OpenOptions::new().read(true).write(true).create_new(true).open(&part) {
+            Err(error) if error.kind() == ErrorKind::AlreadyExists => {}
+            opened => break (part, opened?),
+        }
+    };
+    parts.push(part.clone());
+    drop(parts);
+    let waiting = Waiting { name: name.into(), target, part, file: BufWriter::new(file) };
+    if let Some(mode) = mode {
+        waiting.file.get_ref().set_permissions(mode)?;
+    }
+    Ok(waiting)
+}
+
+/// What a path names, and the mode of a file that is there.
+fn target(path: &Path) -> io::Result<(Target, Option<fs::Permissions>)> {
+    if path == Path::new("-") {
+        return Ok((Target::Stdout, None));
+    }
+    // a link's own file is replaced, not the link
+    let target = match fs::canonicalize(path) {
+        Ok(target) => target,
+        Err(_) if fs::symlink_metadata(path).is_ok_and(|data| data.is_symlink()) => {
+            return Err(io::Error::other("a link to a file that isn't there"));
+        }
+        Err(error) if error.kind() == ErrorKind::NotFound => {
+            fs::metadata(folder(path))?;
+            return Ok((Target::File(path.into()), None));
+        }
+        Err(error) => return Err(error),
+    };
+    let data = fs::metadata(&target)?;
+    if data.is_dir() {
+        return Err(io::Error::from(ErrorKind::IsADirectory));
+    }
+    if !data.is_file() {
+        return Ok((Target::Device(target), None));
+    }
+    if data.permissions().readonly() {
+        return Err(io::Error::other("it is read-only"));
+    }
+    OpenOptions::new().append(true).open(&target)?;
+    Ok((Target::File(target), Some(data.permissions())))
+}
+
+impl Waiting {
+    /// Writes it to its end. What can't be renamed is copied.
+    fn finish(&mut self) -> io::Result<()> {
+        self.file.flush()?;
+        let file = self.file.get_mut();
+        file.seek(SeekFrom::Start(0))?;
+        match &self.target {
+            Target::File(_) => file.sync_all(),
+            Target::Device(device) => io::copy(file, &mut OpenOptions::new().write(true).open(device)?).map(drop),
+            Target::Stdout => io::copy(file, &mut Out).and_then(|_| Out.flush()),
         }
     }
 }
 
-#[cfg(test)]
-mod tests {
-    use super::*;
-    use std::env;
-
-    fn folder(name: &str) -> PathBuf {
-        let folder = env::temp_dir().join(format!("belt-output-{}-{name}", process::id()));
-        fs::create_dir_all(&folder).unwrap();
-        folder
-    }
-
-    fn count(folder: &Path) -> usize {
-        fs::read_dir(folder).unwrap().count()
-    }
-
-    #[test]
-    fn a_file_has_its_name_only_when_kept() {
-        let folder = folder("kept");
-        let (old, new) = (folder.join("old"), folder.join("new"));
-        fs::write(&old, "before").unwrap();
-        let mut files = Files::default();
-        files.add(&old, b"after".to_vec()).unwrap();
-        files.add(&new, b"new".to_vec()).unwrap();
-        assert_eq!((fs::read_to_string(&old).unwrap().as_str(), new.exists()), ("before", false));
-        files.keep().unwrap();
-        assert_eq!((fs::read(&old).unwrap(), fs::read(&new).unwrap()), (b"after".to_vec(), b"new".to_vec()));
-        assert_eq!(count(&folder), 2);
-        fs::remove_dir_all(folder).unwrap();
-    }
-
-    #[test]
-    fn what_is_not_kept_leaves_nothing() {
-        let folder = folder("left");
-        let mut files = Files::default();
-        files.add(&folder.join("one"), b"1".to_vec()).unwrap();
-        assert!(files.add(&folder.join("no such folder/two"), b"2".to_vec()).is_err());
-        assert!(files.add(&folder, b"3".to_vec()).is_err());
-        let said = files.add(&folder.join("one"), b"4".to_vec()).unwrap_err().to_string();
-        assert!(said.ends_with("one: two outputs have this name"), "{said}");
-        drop(files);
-        assert_eq!(count(&folder), 0);
-        fs::remove_dir_all(folder).unwrap();
-    }
-
-    #[test]
-    fn a_device_is_written_and_not_replaced() {
-        let mut files = Files::default();
-        files.add(Path::new("/dev/full"), b"x".to_vec()).unwrap();
-        let said = files.keep().unwrap_err().to_string();
-        assert!(said.starts_with("/dev/full: No space left on device"), "{said}");
-        assert!(!fs::metadata("/dev/full").unwrap().is_file());
+impl Drop for Waiting {
+    fn drop(&mut self) {
+        let mut parts = parts();
+        // it is one's own until it is named or removed
+        if let Some(at) = parts.iter().position(|part| *part == self.part) {
+            let _ = fs::remove_file(&self.part);
+            parts.remove(at);
+        }
     }
 }

@@ -30,14 +30,14 @@ fn bad_picture(folder: &Folder, name: &str, line: &str) {
 fn pictures() {
     let folder = tool::pictures("bad-pictures");
     let files: [(&str, &[u8], &str); 14] = [
-        ("empty", b"", "it is empty; it must be a binary PGM (P5) or a Y4M file"),
-        ("text", b"hello", "it begins with 68 65 6C 6C; it must be a binary PGM (P5) or a Y4M file"),
+        ("empty", b"", "it is empty; it must be PNG, PGM (P5), PPM (P6) or Y4M"),
+        ("text", b"hello", "it begins with 68 65 6C 6C; it must be PNG, PGM (P5), PPM (P6) or Y4M"),
+        ("colour", b"P6 160 128 255\n......", "cut short: 160×128 pels take 61440 bytes, and 6 are there"),
         (
-            "colour",
-            b"P6 2 2 255\n............",
-            "this is a PPM picture in colour; it must be a binary PGM (P5) or a Y4M file",
+            "jpeg",
+            b"\xFF\xD8\xFF\xE0",
+            "this is a JPEG picture; it must be PNG, PGM (P5), PPM (P6) or Y4M: ffmpeg -i jpeg -pix_fmt gray picture.png",
         ),
-        ("png", b"\x89PNG\r\n\x1A\n", "this is a PNG picture; it must be a binary PGM (P5) or a Y4M file"),
         ("head", b"P5 160", "cut short: it ends inside its head"),
         ("comment", b"P5 # for ever", "cut short: it ends inside its head"),
         ("short", b"P5 160 128 255\nabc", "cut short: 160×128 pels take 20480 bytes, and 3 are there"),
@@ -57,8 +57,12 @@ fn pictures() {
         folder.write(name, bytes);
         bad_picture(&folder, name, &format!("{name}: {what}"));
     }
+    folder.write("png", b"\x89PNG\r\n\x1A\n");
+    let said = folder.belt(&["measure", "png", "still.pgm", "--blocks", "o"]);
+    assert_eq!((said.status, said.out.as_str(), said.error.lines().count()), (2, "", 1));
+    assert!(said.error.starts_with("belt: png: cut short or damaged: "), "{said:?}");
     bad_picture(&folder, "no such file", "no such file: No such file or directory (os error 2)");
-    bad_picture(&folder, "still.pgm#1", "still.pgm#1: a PGM file is one picture: only frames of Y4M have numbers");
+    bad_picture(&folder, "still.pgm#1", "still.pgm#1: this file is one picture: only frames of Y4M have numbers");
     bad_picture(&folder, "clip.y4m#3", "clip.y4m#3: it has 3 frames, so there is no frame 3 (the first is 0)");
     bad(
         &folder,
@@ -99,26 +103,45 @@ fn two_pictures_that_do_not_go_together() {
         &["measure", "still.pgm"],
         "measure: it takes two pictures or more, not 1; of a Y4M file, clip.y4m#0 and clip.y4m#1",
     );
-    bad(&folder, &["measure", "-", "-"], "standard input: it can be read for one picture alone");
+    bad(&folder, &["measure", "-", "-"], "standard input: it can be read once alone");
     std::fs::create_dir(folder.path("nothing")).unwrap();
-    bad(&folder, &["measure", "nothing", "--type", "affine"], "nothing: a folder without a .pgm file");
+    bad(&folder, &["measure", "nothing", "--type", "affine"], "nothing: a folder without a picture (.png, .pgm, .ppm)");
 }
 
 #[test]
 fn words_that_are_not_known() {
     let folder = tool::pictures("bad-words");
     let measure = |words: &[&'static str]| [&["measure", "still.pgm", "pan.pgm", "--type", "affine"], words].concat();
-    bad(&folder, &[], "no command: 'belt --help' lists them");
-    bad(&folder, &["weigh"], "weigh: no such command; 'belt --help' lists them");
-    bad(&folder, &["measure", "--colour"], "--colour: no such option; 'belt measure --help' lists them");
-    bad(&folder, &measure(&["--crop", "1,2,3"]), "--crop: '1,2,3' isn't X,Y,W,H, four numbers of pels");
-    bad(&folder, &measure(&["--crop", "-1,2,3,4"]), "--crop: '-1,2,3,4' isn't X,Y,W,H, four numbers of pels");
-    bad(&folder, &measure(&["--frame", "65536"]), "--frame: '65536' isn't a frame's number, 1 to 65535");
-    bad(&folder, &measure(&["--within", "nan"]), "--within: 'NaN' isn't a number of pels");
-    bad(&folder, &measure(&["--precision", "full"]), "--precision: 'full' isn't high or low");
+    let commands = [
+        vec![],
+        vec!["weigh"],
+        vec!["measure", "--colour"],
+        vec!["measure"],
+        vec!["list"],
+        vec!["convert", "a", "b", "--to", "3"],
+        vec!["price", "--slot", "1"],
+        vec!["price", "three", "--type", "affine"],
+        measure(&["--crop", "1,2,3"]),
+        measure(&["--crop", "-1,2,3,4"]),
+        measure(&["--frame", "65536"]),
+        measure(&["--within", "nan"]),
+        measure(&["--within", "-1"]),
+        measure(&["--precision", "full"]),
+        measure(&["--json=1"]),
+        measure(&["--json", "--json"]),
+        measure(&["--halve", "7"]),
+        measure(&["--type", "shear"]),
+    ];
+    let before = folder.names();
+    for words in commands {
+        let said = folder.belt(&words);
+        assert_eq!((said.status, said.out.as_str(), said.error.lines().count()), (2, "", 1), "{words:?}: {said:?}");
+        assert!(said.error.starts_with("belt: the command line: "), "{words:?}: {said:?}");
+    }
+    assert_eq!(folder.names(), before);
     bad(&folder, &measure(&["--picture", "x.jpg"]), "x.jpg: a picture's name ends in .svg or .png");
     bad(&folder, &measure(&["--prior", "no"]), "no: No such file or directory (os error 2)");
-    bad(&folder, &measure(&["--prior", "still.pgm"]), "still.pgm: it is no text");
+    bad(&folder, &measure(&["--prior", "turn.pgm"]), "turn.pgm: it is no text");
     folder.write("three", "0 1 2");
     bad(
         &folder,
@@ -127,13 +150,8 @@ fn words_that_are_not_known() {
     );
     folder.write("glass", "metal\nglass");
     bad(&folder, &measure(&["--classes", "glass"]), "glass: line 2: 'glass' is no class");
-    let shear = ["measure", "still.pgm", "pan.pgm", "--type", "shear"];
-    bad(&folder, &shear, "--type: 'shear' isn't translation, rotzoom or affine");
-    bad(&folder, &["list"], "list: it takes 1 file, not 0: belt list FILE [OPTIONS]");
-    bad(&folder, &["convert", "a", "b", "--to", "3"], "--to: '3' isn't a form, 1 or 2");
     bad(&folder, &["read-header", "three", "--hex"], "three: it has 3 hexadecimal digits; a byte has two");
     bad(&folder, &["practice", "a", "b", "--size", "0x9"], "--size: a picture without pels can't be measured");
-    bad(&folder, &["price", "--slot", "1"], "price: it takes a file of models, or --type and --slot");
 }
 
 /// What the library refuses: status 1, its number and its text.

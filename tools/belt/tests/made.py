@@ -43,16 +43,18 @@ def compare(belt, name, first, second, made, kinds=("elected", "rotzoom", "affin
     for kind in kinds:
         found = measured(belt, first, second, *([] if kind == "elected" else ["--type", kind]))
         numbers = {
-            "right": found["shift_pels"]["right"],
-            "down": found["shift_pels"]["down"],
-            "zoom": found["zoom"],
-            "degrees": found["angle_degrees"],
+            "right": found["measured"]["right_pels"],
+            "down": found["measured"]["down_pels"],
+            "zoom": found["measured"]["zoom"],
+            "degrees": found["measured"]["angle_degrees"],
         }
+        if found["status"] != "measured":
+            sys.exit(f"made.py: {name}, {kind}: {found['status']}")
         for key, allowed in ALLOWED.items():
             if abs(numbers[key] - getattr(made, key)) > allowed:
                 sys.exit(f"made.py: {name}, {kind}: {key} is {numbers[key]}, made was {getattr(made, key)}")
-        if found["blocks_that_agree"] < 0.9 * found["blocks"] or found["warnings"]:
-            sys.exit(f"made.py: {name}, {kind}: {found['blocks_that_agree']} of {found['blocks']} blocks agree")
+        if found["agree"] < 0.9 * found["usable"] or found["warnings"]:
+            sys.exit(f"made.py: {name}, {kind}: {found['agree']} of {found['usable']} blocks agree")
     print(f"{name}: as made")
 
 
@@ -143,7 +145,7 @@ def png_sides(data):
         body = data[at + 8 : at + 8 + length]
         (check,) = struct.unpack(">I", data[at + 8 + length : at + 12 + length])
         assert check == zlib.crc32(name + body), f"the check of {name}"
-        parts[name] = body
+        parts[name] = parts.get(name, b"") + body
         at += 12 + length
     width, height, depth, kind = struct.unpack(">IIBB", parts[b"IHDR"][:10])
     row = 1 + width * (3 if kind == 2 else 1)
@@ -162,7 +164,7 @@ def pictures(belt, folder, first, second):
     assert png_sides(base64.b64decode(image.split(",")[1])) == PART, "the picture in the SVG"
     texts = [text.text for text in root.iter(f"{space}text")]
     keys = [int(text.split(": ")[1].split()[0].replace(",", "")) for text in texts if text.endswith(("block", "blocks"))]
-    assert keys[0] == found["blocks_that_agree"] and sum(keys) == found["blocks"], f"the legend: {texts}"
+    assert keys[0] == found["agree"] and sum(keys) == found["blocks"], f"the legend: {texts}"
     # each block has one dot, a line without length, under its halo and as itself
     dots = sum(path.get("d").count("M") for path in root.iter(f"{space}path") if lengthless(path.get("d")))
     assert dots == 2 * found["blocks"], f"{dots} dots"

@@ -3,8 +3,9 @@
 mod tool;
 
 use belt::{IDENTITIES, StoredModel};
+use serde_json::Value;
 use std::fs;
-use tool::{Folder, field, kept, number, pictures};
+use tool::{Folder, json, kept, noise, number, pictures, warnings};
 
 /// The motions of the kept pictures from still.pgm on (tests/draw.py): right, down, zoom, degrees.
 const DRAWN: [(&str, [f64; 4]); 4] = [
@@ -19,77 +20,87 @@ fn near(found: f64, made: f64, by: f64, what: &str) {
 }
 
 /// The JSON of still.pgm to another.
-fn measured(folder: &Folder, name: &str, words: &[&str]) -> String {
+fn measured(folder: &Folder, name: &str, words: &[&str]) -> Value {
     let said = folder.belt(&[&["measure", "still.pgm", &format!("{name}.pgm"), "--json"], words].concat());
     assert_eq!((said.status, said.error.as_str()), (0, ""), "{said:?}");
-    said.out
+    json(&said.out)
 }
 
 #[test]
 fn what_was_drawn_is_found() {
     let folder = pictures("drawn");
     for (name, [right, down, zoom, degrees]) in DRAWN {
-        for gm_type in ["rotzoom", "affine"] {
-            let json = measured(&folder, name, &["--type", gm_type]);
-            near(number(&json, "right"), right, 0.05, name);
-            near(number(&json, "down"), down, 0.05, name);
+        for gm_type in ["elected", "rotzoom", "affine"] {
+            let words = ["--type", gm_type];
+            let json = measured(&folder, name, if gm_type == "elected" { &[] } else { &words });
+            near(number(&json, "right_pels"), right, 0.05, name);
+            near(number(&json, "down_pels"), down, 0.05, name);
             near(number(&json, "zoom"), zoom, 0.001, name);
             near(number(&json, "angle_degrees"), degrees, 0.05, name);
-            assert!(number(&json, "blocks_that_agree") >= 75.0, "of 80 blocks nearly all: {json}");
-            assert!(json.contains("\"warnings\":[]"), "{json}");
+            assert!(json["agree"].as_u64() >= Some(75), "of 80 blocks nearly all: {json}");
+            assert_eq!(warnings(&json), [""; 0], "{json}");
+            assert_eq!(json["status"], if name == "still" { "still" } else { "measured" });
         }
     }
     for (name, gm_type) in [("still", "identity"), ("pan", "translation"), ("zoom", "rotzoom"), ("turn", "rotzoom")] {
         let json = measured(&folder, name, &[]);
-        assert_eq!((field(&json, "type"), field(&json, "fit")), (gm_type, "elected"), "{name}");
-        assert!(json.contains("\"warnings\":[]"), "{json}");
+        assert_eq!(json["stored"]["type"], gm_type, "{name}");
         // an election trims, and says so or not
         assert_eq!(measured(&folder, name, &["--trim"]), json);
         if gm_type != "identity" {
             let trimmed = measured(&folder, name, &["--type", gm_type, "--trim"]);
-            assert_eq!(trimmed.replace("\"fit\":\"trimmed\"", "\"fit\":\"elected\""), json);
+            assert_eq!((&json["how"], &trimmed["how"]), (&Value::from("elected"), &Value::from("trimmed")));
+            assert_eq!((&trimmed["stored"], &trimmed["header"]), (&json["stored"], &json["header"]));
         }
     }
-    let json = measured(&folder, "pan", &["--type", "translation"]);
-    assert_eq!((number(&json, "right"), number(&json, "down"), number(&json, "score_square_pels")), (6.0, -3.0, 0.0));
+}
+
+/// What is measured is the fit ahead of the grid; what is stored is on it.
+#[test]
+fn measured_and_stored_stand_apart() {
+    let folder = pictures("apart");
+    let found = measured(&folder, "turn", &[]);
+    let stored = |name: &str| found["stored"][name].as_f64().unwrap();
+    assert!(number(&found, "angle_degrees") != stored("angle_degrees"), "{found}");
+    near(number(&found, "angle_degrees"), stored("angle_degrees"), 0.05, "the angle");
+    let numbers = found["stored"]["numbers"].as_array().unwrap();
+    assert!(numbers[2..].iter().all(|number| number.as_i64().unwrap() % 2 == 0), "on the grid: {found}");
+    let text = folder.belt(&["measure", "still.pgm", "turn.pgm"]).out;
+    assert!(text.contains("\n  measured   a rotation-zoom, elected\n"), "{text}");
+    assert!(text.contains("\n  stored     a rotation-zoom: moved "), "{text}");
 }
 
 #[test]
-fn a_model_that_does_not_fit_is_warned_of() {
+fn a_model_that_does_not_fit_is_no_answer() {
     let folder = pictures("misfit");
-    let json = measured(&folder, "turn", &["--type", "translation"]);
-    assert!(json.contains("\"name\":\"few-agree\""), "{json}");
+    let found = measured(&folder, "turn", &["--type", "translation"]);
+    assert_eq!((&found["status"], warnings(&found)), (&Value::from("unexplained"), vec!["few-agree"]));
+    for name in ["type", "right_pels", "down_pels", "first_pel_right", "first_pel_down", "zoom", "angle_degrees"] {
+        assert!(found["measured"][name].is_null(), "{name} in {found}");
+    }
     let words = folder.belt(&["measure", "still.pgm", "turn.pgm", "--type", "translation"]);
-    assert!(words.out.contains("\nwarning: only 0 % of the blocks agree: it moved further than 27.875 pels"));
-    let json = measured(&folder, "turn", &["--type", "translation", "--within", "9"]);
-    assert_eq!(number(&json, "blocks_that_agree"), 80.0);
-}
-
-/// A picture of noise that shows a patch of it from one place on, and the rest from another.
-fn patched(patch: [usize; 2], rest: [usize; 2]) -> Vec<u8> {
-    let pel = |i: usize| {
-        let (x, y) = (i % 160, i / 160);
-        let inside = (48..96).contains(&x) && (32..80).contains(&y);
-        let [right, down] = if inside { patch } else { rest };
-        let (x, y) = ((x + right) as u64, (y + down) as u64);
-        let h = x.wrapping_mul(0x9E37_79B9_7F4A_7C15) ^ y.wrapping_mul(0xC2B2_AE3D_27D4_EB4F);
-        ((h ^ h >> 29).wrapping_mul(0xBF58_476D_1CE4_E5B9) >> 40) as u8
-    };
-    [b"P5 160 128 255\n".to_vec(), (0..160 * 128).map(pel).collect()].concat()
+    assert!(words.out.contains("\nIt isn't known how it moved: no motion explains the blocks.\n"), "{words:?}");
+    assert!(words.out.contains("\n  measured   nothing\n") && words.out.contains("\nwarning: few-agree: only "));
+    let found = measured(&folder, "turn", &["--type", "translation", "--within", "9"]);
+    assert_eq!((&found["agree"], &found["status"]), (&Value::from(80), &Value::from("measured")));
 }
 
 #[test]
 fn a_trimmed_fit_leaves_out_what_moves_on_its_own() {
     let folder = Folder::new("trimmed");
+    let patched = |patch: [usize; 2], rest: [usize; 2]| {
+        noise(move |x, y| if (48..96).contains(&x) && (32..80).contains(&y) { patch } else { rest })
+    };
     folder.write("still.pgm", patched([10, 10], [14, 12]));
     folder.write("rolled.pgm", patched([16, 10], [10, 10]));
     for gm_type in ["translation", "rotzoom", "affine"] {
         let plain = measured(&folder, "rolled", &["--type", gm_type]);
         let trimmed = measured(&folder, "rolled", &["--type", gm_type, "--trim"]);
-        assert!((number(&plain, "right") - 4.0).abs() > 0.2, "{plain}");
-        assert_eq!((number(&trimmed, "right"), number(&trimmed, "down")), (4.0, 2.0), "{trimmed}");
-        assert_eq!((number(&trimmed, "zoom"), number(&trimmed, "angle_degrees")), (1.0, 0.0));
-        assert_eq!((field(&plain, "fit"), field(&trimmed, "fit")), ("plain", "trimmed"));
+        assert!((plain["stored"]["right_pels"].as_f64().unwrap() - 4.0).abs() > 0.2, "{plain}");
+        near(number(&trimmed, "right_pels"), 4.0, 1e-9, gm_type);
+        near(number(&trimmed, "down_pels"), 2.0, 1e-9, gm_type);
+        assert_eq!(trimmed["stored"]["right_pels"], 4.0, "{trimmed}");
+        assert_eq!((&plain["how"], &trimmed["how"]), (&Value::from("plain"), &Value::from("trimmed")));
     }
 }
 
@@ -141,18 +152,16 @@ fn what_is_stored_reads_back_as_the_report() {
 
             let header = fs::read(folder.path("header")).unwrap();
             let read = belt::read_global_motion_params(&header, start, flag, &[prior; 7]).unwrap();
-            assert_eq!(number(&json, "header_bits"), read.bits as f64);
+            assert_eq!(json["header"]["bits"], read.bits);
             assert_eq!(header.len(), (start + read.bits).div_ceil(8));
             let hexadecimal: String = header.iter().map(|byte| format!("{byte:02X}")).collect();
-            assert_eq!(field(&json, "header_bytes"), hexadecimal);
+            assert_eq!(json["header"]["bytes"], hexadecimal);
             let mut types = [0; 7];
             types[reference - 1] = code;
             assert_eq!(read.types, types);
-            let stored = |model: StoredModel| format!("\"stored\":{:?}", model.0).replace(' ', "");
-            let models: Vec<String> = read.models.map(stored).to_vec();
-            let reported: Vec<&str> = json.match_indices("\"stored\":").map(|(at, _)| &json[at..]).collect();
-            assert_eq!(reported.len(), 7);
-            assert!(models.iter().zip(reported).all(|(model, text)| text.starts_with(model)), "{json}");
+            let reported: Vec<&Value> =
+                json["models"].as_array().unwrap().iter().map(|model| &model["numbers"]).collect();
+            assert!(read.models.iter().map(|model| Value::from(model.0.to_vec())).eq(reported.into_iter().cloned()));
 
             let blocks = fs::read(folder.path("blocks")).unwrap();
             let (mut words, mut kinds) = ([0; 80], [9; 80]);
@@ -160,8 +169,8 @@ fn what_is_stored_reads_back_as_the_report() {
             assert_eq!((frame.number, frame.samples, blocks.len()), (4660, 80, 512));
             assert_eq!(kinds[..], classes);
             let model = read.models[reference - 1].x_first(code);
-            assert_eq!(number(&json, "score_square_pels"), belt::mean_sq_residual(&model, &words).unwrap());
-            assert_eq!(number(&json, "blocks_that_agree"), model.agreeing(&words, 0.25) as f64);
+            let score = belt::mean_sq_residual(&model, &words).unwrap();
+            assert_eq!(json["stored"]["score_square_pels"], score);
             if fit.contains(&"--trim") {
                 assert_eq!(Ok(model), belt::quantize_trimmed(code, flag, &words).map(|trimmed| trimmed.model));
             }
@@ -170,7 +179,9 @@ fn what_is_stored_reads_back_as_the_report() {
                 assert_eq!((elected.gm_type, elected.model), (code, read.models[reference - 1]));
             }
             let middle = model.motion_at(79.5, 63.5);
-            assert_eq!((number(&json, "right"), number(&json, "down")), (middle.u, middle.v));
+            let stored = |name: &str| json["stored"][name].as_f64().unwrap();
+            near(stored("right_pels"), middle.u, 1e-9, "stored");
+            near(stored("down_pels"), middle.v, 1e-9, "stored");
 
             // the models' file is a prior and has a price
             let price =
@@ -210,7 +221,7 @@ fn many_pictures_are_one_line_each_and_their_blocks_stand_in_one_file() {
     assert_eq!(lines.len(), 3, "{said:?}");
     assert!(lines[0].starts_with("still.pgm to pan.pgm: It moved 6 pels right and 3 pels up; 100 % agree"));
     assert!(lines[1].starts_with("pan.pgm to still.pgm: It moved 6 pels left and 3 pels down; 100 % agree"));
-    assert_eq!(lines[2], "2 pairs, 0 with a warning");
+    assert_eq!(lines[2], "2 pairs, 0 with a warning or without an answer");
     let listed = folder.belt(&["list", "all"]);
     let heads: Vec<&str> = listed.out.lines().filter(|line| line.starts_with("frame")).collect();
     assert_eq!(heads, ["frame 1 block 0 count 80", "frame 2 block 0 count 80"]);
@@ -239,7 +250,7 @@ fn a_part_is_measured_where_the_whole_is_too_large() {
     folder.write("b.pgm", plane(0));
     let said = folder.belt(&["measure", "a.pgm", "b.pgm", "--type", "translation", "--blocks", "blocks"]);
     let text = "belt: a.pgm: refused, 1: side over 1,024, or over 4,096 samples; 1100×40 pels are too many: --crop X,Y,W,H \
-                measures a part\n";
+                measures a part, --halve all\n";
     assert_eq!((said.status, said.out.as_str(), said.error.as_str()), (1, "", text));
     let said = folder.belt(&["measure", "a.pgm", "b.pgm", "--type", "translation", "--crop", "60,2,1025,32"]);
     assert!(said.status == 1 && said.error.contains("refused, 1: side over 1,024"), "{said:?}");

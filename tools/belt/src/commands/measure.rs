@@ -1,87 +1,92 @@
 //! belt measure: pictures in, motion out.
 
-use super::{flag, prior};
-use crate::args::Given;
+use super::flag_and_prior;
+use crate::cli::Measure;
 use crate::failure::Failure;
-use crate::frames::{self, Frame, Opened, Window};
+use crate::frames::{self, Frame, Opened, Part};
 use crate::lists;
 use crate::measure::{Job, Measured, judge_sides, measure};
-use crate::model::Model;
-use crate::output::{Files, print};
+use crate::model::Asked;
+use crate::output::{self, Files, shown};
 use crate::picture;
 use crate::report::{json, words};
-use std::ffi::OsString;
-use std::path::Path;
+use std::path::{Path, PathBuf};
 
-/// A block agrees with the model within a quarter of a pel.
-const WITHIN: f64 = 0.25;
-
-pub fn run(given: &Given) -> Result<(), Failure> {
-    let mut job = job(given)?;
-    let window = window(given)?;
-    let pictures = pictures(given)?;
-    let places = places(given)?;
+pub fn run(words: &Measure) -> Result<(), Failure> {
+    let places = places(words)?;
     let series = places.len() > 2;
-    single(given, series)?;
+    single(words, series)?;
+    let kinds = words.picture.iter().map(|path| picture::Kind::of(path)).collect::<Result<Vec<_>, _>>()?;
+    let mut files = judge(words, &places)?;
+    let part = Part { window: words.crop, halvings: words.halve.unwrap_or(0) };
+    let mut job = job(words)?;
 
-    let mut files = Files::default();
-    let mut stored = Vec::new();
     let mut input: Option<Frame> = None;
     let (mut pairs, mut warned) = (0, 0);
+    let mut blocks = Vec::new();
     for pair in places.windows(2) {
-        let (before, reference) = frames(&pair[0], input.take(), &pair[1], window)?;
+        let (before, reference) = frames(&pair[0], input.take(), &pair[1], part)?;
+        if job.mask.is_none() {
+            job.mask = words.mask.as_ref().map(|path| mask(path, &before, part)).transpose()?;
+        }
         let measured = measure(&job, &before, &reference)?;
         pairs += 1;
-        warned += usize::from(!measured.warnings.is_empty());
-        stored.extend(&measured.stored);
-        if !series {
-            store(given, &pictures, &measured, &before, &mut files)?;
+        warned += usize::from(!measured.warnings.is_empty() || !measured.answer.status.has_motion());
+        if words.blocks.is_some() {
+            blocks.extend(&measured.sample_blocks);
         }
-        print(&text(given, series, &measured))?;
+        if !series {
+            store(words, &kinds, &measured, &before, &mut files)?;
+        }
+        files.say(&text(words.json, series, &measured))?;
+        if output::is_closed() && words.blocks.is_none() && series {
+            return Ok(());
+        }
         if pairs + 1 < places.len() {
             job.frame = next(job.frame)?;
         }
         input = Some(reference);
     }
-    if series && !given.has("--json") {
-        print(&format!("{}, {} with a warning\n", words::many(pairs, "pair"), words::count(warned)))?;
+    if series && !words.json {
+        let with = words::count(warned);
+        files.say(&format!("{}, {with} with a warning or without an answer\n", words::many(pairs, "pair")))?;
     }
-    if let Some(path) = given.value("--blocks") {
-        files.add(Path::new(path), stored)?;
+    if let Some(path) = &words.blocks {
+        files.add(path, &blocks)?;
     }
     files.keep()
 }
 
-fn job(given: &Given) -> Result<Job, Failure> {
-    let within = given.number("--within", WITHIN, "a number of pels")?;
-    if !(within >= 0.0 && within.is_finite()) {
-        return Err(Failure::bad("--within", format!("'{within}' isn't a number of pels")));
+/// Inputs and outputs, before anything is read.
+fn judge(words: &Measure, places: &[PathBuf]) -> Result<Files, Failure> {
+    let pictures = places.iter().map(|place| frames::named(place).0);
+    let lists = [&words.header.prior, &words.classes, &words.mask].into_iter().flatten().map(PathBuf::as_path);
+    let stores = [&words.blocks, &words.header_file, &words.models].into_iter().flatten();
+    let inputs: Vec<&Path> = pictures.chain(lists).collect();
+    if inputs.iter().filter(|path| **path == Path::new("-")).count() > 1 {
+        return Err(Failure::bad("standard input", "it can be read once alone"));
     }
+    Files::judge(inputs, words.picture.iter().chain(stores).map(PathBuf::as_path))
+}
+
+fn job(words: &Measure) -> Result<Job, Failure> {
+    let (flag, prior) = flag_and_prior(&words.header)?;
     Ok(Job {
-        model: Model::chosen(given.text("--type")?, given.has("--trim"))?,
-        frame: given.number("--frame", 1, "a frame's number, 1 to 65535")?,
-        reference: given.number("--reference", 1, "a reference, 1 to 7")?,
-        flag: flag(given)?,
-        start: given.number("--start", 0, "a bit, 0 to 7")?,
-        prior: prior(given)?,
-        classes: given.value("--classes").map(lists::classes).transpose()?,
-        within,
+        asked: Asked::of(words.gm_type, words.trim),
+        frame: words.frame,
+        reference: words.reference,
+        flag,
+        start: words.start,
+        prior,
+        classes: words.classes.as_deref().map(lists::classes).transpose()?,
+        mask: None,
+        within: words.within,
     })
 }
 
-fn window(given: &Given) -> Result<Option<Window>, Failure> {
-    let numbers = given.numbers("--crop", ',', "X,Y,W,H, four numbers of pels")?;
-    Ok(numbers.map(|[x, y, width, height]| Window { x, y, width, height }))
-}
-
-/// The pictures to draw; a name that says no kind is bad before anything is measured.
-fn pictures(given: &Given) -> Result<Vec<(&Path, picture::Kind)>, Failure> {
-    given.values("--picture").map(|path| Ok((Path::new(path), picture::Kind::of(Path::new(path))?))).collect()
-}
-
-fn places(given: &Given) -> Result<Vec<OsString>, Failure> {
+fn places(words: &Measure) -> Result<Vec<PathBuf>, Failure> {
     let mut places = Vec::new();
-    for place in &given.places {
+    for place in &words.places {
         places.extend(frames::places(place)?);
     }
     if places.len() < 2 {
@@ -89,16 +94,18 @@ fn places(given: &Given) -> Result<Vec<OsString>, Failure> {
             format!("it takes two pictures or more, not {}; of a Y4M file, clip.y4m#0 and clip.y4m#1", places.len());
         return Err(Failure::bad("measure", what));
     }
-    if places.iter().filter(|place| *place == "-").count() > 1 {
-        return Err(Failure::bad("standard input", "it can be read for one picture alone"));
-    }
     Ok(places)
 }
 
 /// Of more than one pair only the blocks are stored: they carry their frame's number.
-fn single(given: &Given, series: bool) -> Result<(), Failure> {
-    match ["--picture", "--header", "--models"].into_iter().find(|name| series && given.has(name)) {
-        Some(name) => Err(Failure::bad(name, "for two pictures alone, not for more")),
+fn single(words: &Measure, series: bool) -> Result<(), Failure> {
+    let given = [
+        ("--picture", !words.picture.is_empty()),
+        ("--header", words.header_file.is_some()),
+        ("--models", words.models.is_some()),
+    ];
+    match given.into_iter().find(|(_, given)| series && *given) {
+        Some((name, _)) => Err(Failure::bad(name, "for two pictures alone, not for more")),
         None => Ok(()),
     }
 }
@@ -108,12 +115,7 @@ fn next(frame: u16) -> Result<u16, Failure> {
 }
 
 /// The two pictures of a pair. The first may have been read for the pair before. Sides are judged before pels are read.
-fn frames(
-    place: &OsString,
-    before: Option<Frame>,
-    next: &OsString,
-    window: Option<Window>,
-) -> Result<(Frame, Frame), Failure> {
+fn frames(place: &Path, before: Option<Frame>, next: &Path, part: Part) -> Result<(Frame, Frame), Failure> {
     let input = match before {
         Some(frame) => Ok(frame),
         None => Err(frames::open(place)?),
@@ -126,60 +128,65 @@ fn frames(
         }
         Err(opened) => {
             alike(&opened.name, opened.sides(), opened.most(), &reference)?;
-            let (width, height) = window.map_or(opened.sides(), |window| (window.width, window.height));
+            let (width, height) = part.sides(opened.sides());
             judge_sides(width, height).map_err(|refusal| {
-                let advice = format!("{width}×{height} pels are too many: --crop X,Y,W,H measures a part");
+                let advice = format!("{width}×{height} pels are too many: --crop X,Y,W,H measures a part, --halve all");
                 Failure::refused(&opened.name, refusal).with_advice(advice)
             })?;
-            opened.read(window)?
+            opened.read(part)?
         }
     };
-    Ok((input, reference.read(window)?))
+    Ok((input, reference.read(part)?))
 }
 
 /// Two pictures must have the same sides and the same scale of brightness.
 fn alike(name: &str, (width, height): (usize, usize), most: u16, other: &Opened) -> Result<(), Failure> {
     let (other_width, other_height) = other.sides();
-    if (width, height) != (other_width, other_height) {
-        let what =
-            format!("it has {other_width}×{other_height} pels, and {name} {width}×{height}; both must have the same");
-        return Err(Failure::bad(&other.name, what));
-    }
-    if most != other.most() {
-        let what =
-            format!("its pels go up to {}, and those of {name} to {most}; both must have the same", other.most());
-        return Err(Failure::bad(&other.name, what));
-    }
-    Ok(())
+    let what = if (width, height) != (other_width, other_height) {
+        format!("it has {other_width}×{other_height} pels, and {name} {width}×{height}; both must have the same")
+    } else if most != other.most() {
+        format!("its pels go up to {}, and those of {name} to {most}; both must have the same", other.most())
+    } else {
+        return Ok(());
+    };
+    Err(Failure::bad(&other.name, what))
 }
 
-fn text(given: &Given, series: bool, measured: &Measured) -> String {
-    if given.has("--json") {
-        json::pair(measured)
-    } else if series {
-        words::line(measured)
-    } else {
-        words::pair(measured)
+/// The mask of a picture.
+fn mask(path: &Path, input: &Frame, part: Part) -> Result<Frame, Failure> {
+    let opened = frames::open(path)?;
+    let ((width, height), (own_width, own_height)) = (input.whole, opened.sides());
+    if (own_width, own_height) != (width, height) {
+        let what = format!("the mask has {own_width}×{own_height} pels, and {} {width}×{height}", input.name);
+        return Err(Failure::bad(shown(path), what));
+    }
+    opened.read(part)
+}
+
+fn text(json: bool, series: bool, measured: &Measured) -> String {
+    match (json, series) {
+        (true, _) => json::pair(measured),
+        (false, true) => words::line(measured),
+        (false, false) => words::pair(measured),
     }
 }
 
 /// Everything that is stored of one pair but its blocks.
 fn store(
-    given: &Given,
-    pictures: &[(&Path, picture::Kind)],
+    words: &Measure,
+    kinds: &[picture::Kind],
     measured: &Measured,
     input: &Frame,
     files: &mut Files,
 ) -> Result<(), Failure> {
-    for (path, kind) in pictures {
-        files.add(path, picture::draw(kind, measured, input))?;
+    for (path, kind) in words.picture.iter().zip(kinds) {
+        files.add(path, &picture::draw(kind, measured, input))?;
     }
-    if let Some(path) = given.value("--header") {
-        files.add(Path::new(path), measured.header.clone())?;
+    if let Some(path) = &words.header_file {
+        files.add(path, &measured.header)?;
     }
-    if let Some(path) = given.value("--models") {
-        let text = lists::models_text(&measured.report.types, &measured.report.models);
-        files.add(Path::new(path), text.into_bytes())?;
+    if let Some(path) = &words.models {
+        files.add(path, lists::models_text(&measured.report.types, &measured.report.models).as_bytes())?;
     }
     Ok(())
 }

@@ -1,88 +1,71 @@
 //! belt price: how many bits a header takes, without writing it.
 
-use super::{flag, gm_type, kind, prior};
-use crate::args::Given;
+use super::flag_and_prior;
+use crate::cli::{Header, Type};
 use crate::failure::Failure;
 use crate::lists;
 use crate::output::{print, shown};
-use crate::report::json::Json;
+use crate::report::json;
 use crate::report::words::count;
-use belt::PriceList;
-use std::ffi::OsStr;
+use belt::{Kind, PriceList};
+use serde::Serialize;
 use std::fmt::Write;
-
-pub fn run(given: &Given) -> Result<(), Failure> {
-    match given.places.as_slice() {
-        [place] => frame(given, place),
-        [] => slot(given),
-        places => Err(Failure::bad("price", format!("it takes one file of models or none, not {}", places.len()))),
-    }
-}
+use std::path::Path;
 
 /// The bits of a frame's header.
-fn frame(given: &Given, place: &OsStr) -> Result<(), Failure> {
-    if let Some(name) = ["--type", "--slot"].into_iter().find(|name| given.has(name)) {
-        return Err(Failure::bad(name, "for prices without a file"));
+pub fn frame(place: &Path, header: &Header, kind: Kind, json: bool) -> Result<(), Failure> {
+    #[derive(Serialize)]
+    struct Price {
+        bits: usize,
     }
     let list = lists::models(place)?;
-    let types =
-        list.types.ok_or_else(|| Failure::bad(shown(place), "it names no types; begin each model with its own"))?;
-    let price = belt::frame_price(kind(given), &types, &list.models, flag(given)?, &prior(given)?);
+    let untyped = || Failure::bad(shown(place), "it names no types; begin each model with its own");
+    let types = list.types.ok_or_else(untyped)?;
+    let (flag, prior) = flag_and_prior(header)?;
+    let price = belt::frame_price(kind, &types, &list.models, flag, &prior);
     let bits = price.map_err(|refusal| Failure::refused(shown(place), refusal))?;
-    print(&match given.has("--json") {
-        true => Json::object([("bits", Json::count(bits))]).line(),
+    print(&match json {
+        true => json::line(&Price { bits }),
         false => format!("{}: {} bits, {} bytes from bit 0 on\n", shown(place), count(bits), count(bits.div_ceil(8))),
     })
 }
 
 /// What the numbers of a slot cost.
-fn slot(given: &Given) -> Result<(), Failure> {
-    if let Some(name) = ["--prior", "--key"].into_iter().find(|name| given.has(name)) {
-        return Err(Failure::bad(
-            name,
-            "for the price of a file of models; a slot's prices are the same about every prior",
-        ));
-    }
-    let Some(gm_type) = gm_type(given)? else {
-        return Err(Failure::bad("price", "it takes a file of models, or --type and --slot"));
-    };
-    let slot = given.number("--slot", 0, "a slot, 0 to 5")?;
+pub fn slot(gm_type: Option<Type>, slot: u8, header: &Header, json: bool) -> Result<(), Failure> {
+    let gm_type = gm_type.ok_or_else(|| Failure::bad("price", "it takes a file of models, or --type and --slot"))?;
     // about whatever prior, the counts are the same; this one lies in the range of every slot
     let prior = if slot == 2 || slot == 5 { 65536 } else { 0 };
-    let prices = belt::coefficient_prices(gm_type, flag(given)?, slot, prior);
+    let prices = belt::coefficient_prices(gm_type as u8, header.precision as u8, slot, prior);
     let prices = prices.map_err(|refusal| Failure::refused(format!("slot {slot}"), refusal))?;
-    print(&if given.has("--json") { for_programs(&prices) } else { in_words(&prices) })
+    print(&if json { for_programs(&prices) } else { in_words(&prices) })
 }
 
-/// The lengths that codes have, and how many have them.
-fn lengths(prices: &PriceList) -> impl Iterator<Item = (usize, usize)> {
+/// A length that codes have, and how many have it.
+#[derive(Serialize)]
+struct Length {
+    bits: usize,
+    numbers: usize,
+}
+
+fn lengths(prices: &PriceList) -> Vec<Length> {
     let own = (PriceList::SHORTEST..).zip(prices.ordinals()).filter(|(_, ordinals)| **ordinals > 0);
-    own.map(|(bits, &ordinals)| (bits, ordinals as usize))
+    own.map(|(bits, &ordinals)| Length { bits, numbers: ordinals as usize }).collect()
 }
 
 fn in_words(prices: &PriceList) -> String {
     let mut out = "bits  numbers\n".to_string();
-    for (bits, ordinals) in lengths(prices) {
-        let _ = writeln!(out, "{bits:>4}  {:>7}", count(ordinals));
+    for Length { bits, numbers } in lengths(prices) {
+        let _ = writeln!(out, "{bits:>4}  {:>7}", count(numbers));
     }
-    let all = lengths(prices).map(|(_, ordinals)| ordinals).sum();
+    let all = lengths(prices).iter().map(|length| length.numbers).sum();
     let _ = writeln!(out, " all  {:>7}", count(all));
     out
 }
 
 fn for_programs(prices: &PriceList) -> String {
-    let row = |(bits, ordinals)| Json::object([("bits", Json::count(bits)), ("numbers", Json::count(ordinals))]);
-    Json::object([("prices", Json::list(lengths(prices).map(row)))]).line()
-}
-
-#[cfg(test)]
-mod tests {
-    use super::*;
-
-    #[test]
-    fn prices_are_told_with_their_sum() {
-        let text = in_words(&belt::coefficient_prices(1, 1, 0, 0).unwrap());
-        assert!(text.starts_with("bits  numbers\n   4        8\n   5        8\n   7       16\n"), "{text}");
-        assert!(text.ends_with("  17        2\n all    1,025\n"), "{text}");
+    #[derive(Serialize)]
+    struct Prices {
+        prices: Vec<Length>,
     }
+    json::line(&Prices { prices: lengths(prices) })
 }

@@ -1,31 +1,30 @@
 //! belt read-header: the seven models that a header carries.
 
-use super::{flag, kind, prior};
-use crate::args::Given;
+use super::flag_and_prior;
+use crate::cli::Header;
 use crate::failure::Failure;
-use crate::help::Command;
 use crate::lists;
-use crate::model::TYPES;
+use crate::model::{Map, TYPES};
 use crate::output::{print, shown};
-use crate::report::json::{self, Json};
+use crate::report::json;
 use crate::report::words;
-use belt::Models;
+use belt::{Kind, Models};
+use serde::Serialize;
 use std::fmt::Write;
+use std::path::Path;
 
 /// A file with a header in it is no longer than this.
 const LONGEST: u64 = 1 << 24;
 
-pub fn run(given: &Given, command: &Command) -> Result<(), Failure> {
-    let [place] = given.exactly(command)?;
-    let at = given.number("--at", 0, "a bit, counted from 0")?;
-    let (flag, prior) = (flag(given)?, prior(given)?);
+pub fn run(place: &Path, at: usize, hex: bool, header: &Header, kind: Kind, json: bool) -> Result<(), Failure> {
+    let (flag, prior) = flag_and_prior(header)?;
     let mut bytes = lists::bytes(place, LONGEST)?;
-    if given.has("--hex") {
+    if hex {
         bytes = digits(&bytes).map_err(|what| Failure::bad(shown(place), what))?;
     }
-    let read = belt::read_global_motion(kind(given), &bytes, at, flag, &prior)
+    let read = belt::read_global_motion(kind, &bytes, at, flag, &prior)
         .map_err(|refusal| Failure::refused(format!("{}, bit {at}", shown(place)), refusal))?;
-    print(&if given.has("--json") { for_programs(&read, at) } else { in_words(&read, at) })
+    print(&if json { for_programs(&read, at) } else { in_words(&read, at) })
 }
 
 /// Bytes from hexadecimal digits, with spaces or without.
@@ -45,9 +44,9 @@ fn digits(text: &[u8]) -> Result<Vec<u8>, String> {
 fn in_words(read: &Models, at: usize) -> String {
     let mut out = String::new();
     for (i, (&gm_type, stored)) in read.types.iter().zip(read.models).enumerate() {
-        let model = stored.x_first(gm_type);
+        let map = Map::of_grid(stored.x_first(gm_type));
         let numbers = stored.0.map(|number| number.to_string()).join(" ");
-        let moved = words::moved(gm_type, model, model.shift());
+        let moved = words::moved(gm_type, map, map.motion_at(0.0, 0.0));
         let _ = writeln!(out, "reference {}: {}, {moved} ({numbers})", i + 1, TYPES[usize::from(gm_type)]);
     }
     let _ = writeln!(out, "{} bits, from bit {at} to bit {}", read.bits, at.saturating_add(read.bits));
@@ -55,9 +54,14 @@ fn in_words(read: &Models, at: usize) -> String {
 }
 
 fn for_programs(read: &Models, at: usize) -> String {
-    let models = read.types.iter().zip(read.models).map(|(&gm_type, stored)| json::model(gm_type, stored));
-    let fields = [("at", Json::count(at)), ("bits", Json::count(read.bits)), ("models", Json::list(models))];
-    Json::object(fields).line()
+    #[derive(Serialize)]
+    struct Read {
+        at: usize,
+        bits: usize,
+        models: Vec<json::Model>,
+    }
+    let models = read.types.iter().zip(&read.models).map(json::model).collect();
+    json::line(&Read { at, bits: read.bits, models })
 }
 
 #[cfg(test)]

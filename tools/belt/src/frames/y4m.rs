@@ -1,6 +1,6 @@
 //! The head of a Y4M file and of a frame in it: the brightness of each frame comes first, its colours behind.
 
-use super::{Bytes, Head, LONGEST_HEAD, side, skip};
+use super::{Head, LONGEST_HEAD, Layout, Plain, Source, side, skip};
 use std::io::{BufRead, Read};
 
 pub const MAGIC: &[u8] = b"YUV4MPEG2";
@@ -39,8 +39,8 @@ fn colours(space: &str, width: u64, height: u64) -> Option<(u32, u64)> {
 }
 
 /// Reads the file's head and passes over frames up to the one asked for, counted from 0; its pels come next.
-pub fn head(source: &mut impl BufRead, number: u64) -> Result<Head, String> {
-    let text = line(source)?;
+pub fn head(mut source: Source, number: u64) -> Result<Head, String> {
+    let text = line(&mut source)?;
     let field = |letter: char| text.split(' ').skip(1).find_map(|word| word.strip_prefix(letter));
     let width = side(field('W').ok_or("its head has no width (W)")?, "width")?;
     let height = side(field('H').ok_or("its head has no height (H)")?, "height")?;
@@ -50,45 +50,43 @@ pub fn head(source: &mut impl BufRead, number: u64) -> Result<Head, String> {
     let space = field('C').unwrap_or("420");
     let known = colours(space, width as u64, height as u64);
     let (depth, values) = known.ok_or(format!("its colour space C{space} isn't known"))?;
-    let bytes = if depth > 8 { Bytes::LowFirst } else { Bytes::One };
-    let behind = values * bytes.count();
-    let size = width as u64 * height as u64 * bytes.count() + behind;
+    let layout = Layout { bytes: if depth > 8 { 2 } else { 1 }, low_first: true, values: 1 };
+    let behind = values * layout.bytes as u64;
+    let size = (width * height * layout.bytes) as u64 + behind;
     for frame in 0..=number {
         let ended = source.fill_buf().map_err(|error| error.to_string())?.is_empty();
         if ended {
             return Err(format!("it has {frame} frames, so there is no frame {number} (the first is 0)"));
         }
-        let begins = line(source)?;
+        let begins = line(&mut source)?;
         if begins != "FRAME" && !begins.starts_with("FRAME ") {
             return Err(format!("frame {frame} doesn't begin with 'FRAME'"));
         }
         if frame < number {
-            let there = skip(source, size).map_err(|error| error.to_string())?;
+            let there = skip(&mut source, size).map_err(|error| error.to_string())?;
             if there < size {
                 return Err(format!("cut short: frame {frame} takes {size} bytes, and {there} are there"));
             }
         }
     }
-    Ok(Head { width, height, most: (u32::MAX >> (32 - depth)) as u16, bytes, behind })
+    Ok(Plain::head(source, width, height, (u32::MAX >> (32 - depth)) as u16, layout, behind))
 }
 
 #[cfg(test)]
 mod tests {
-    use super::*;
-
-    fn of(mut bytes: &[u8], number: u64) -> Result<(Head, Vec<u8>), String> {
-        let head = head(&mut bytes, number)?;
-        Ok((head, bytes.to_vec()))
-    }
+    use super::super::tests::opened;
 
     #[test]
     fn frames_are_counted_from_0() {
         let clip = b"YUV4MPEG2 W2 H2 F25:1 Ip A1:1 Cmono\nFRAME\nabcdFRAME Ip\nefgh";
-        assert_eq!(of(clip, 0).unwrap().1, b"abcdFRAME Ip\nefgh");
-        let (head, rest) = of(clip, 1).unwrap();
-        assert_eq!(head, Head { width: 2, height: 2, most: 255, bytes: Bytes::One, behind: 0 });
-        assert_eq!(rest, b"efgh");
-        assert_eq!(of(clip, 2).unwrap_err(), "it has 2 frames, so there is no frame 2 (the first is 0)");
+        for (number, first) in [(0, b'a'), (1, b'e')] {
+            let mut head = opened(clip, number).unwrap();
+            let mut row = Vec::new();
+            head.rows.row(&mut row).unwrap();
+            assert_eq!((head.width, head.height, head.most, row[0]), (2, 2, 255, u16::from(first)));
+        }
+        let said = opened(clip, 2).map(|_| ()).unwrap_err();
+        assert_eq!(said, "it has 2 frames, so there is no frame 2 (the first is 0)");
     }
 
     #[test]
@@ -96,7 +94,6 @@ mod tests {
         let spaces = [
             ("", 255, 12),
             (" C420jpeg", 255, 12),
-            (" C420paldv", 255, 12),
             (" C422", 255, 18),
             (" C411", 255, 12),
             (" C444", 255, 30),
@@ -107,16 +104,19 @@ mod tests {
             (" Cmono12", 4095, 0),
         ];
         for (space, most, behind) in spaces {
-            let clip = format!("YUV4MPEG2 W5 H3{space}\nFRAME\n");
-            let head = of(clip.as_bytes(), 0).unwrap().0;
-            assert_eq!((head.most, head.behind), (most, behind), "{space}");
-            assert_eq!(head.bytes == Bytes::LowFirst, most > 255);
+            let pels = 15 * if most > 255 { 2 } else { 1 };
+            for (bytes, whole) in [(pels + behind, true), (pels + behind - 1, false)] {
+                let clip = [format!("YUV4MPEG2 W5 H3{space}\nFRAME\n").into_bytes(), vec![0; bytes]].concat();
+                let head = opened(&clip, 0).unwrap();
+                assert_eq!(head.most, most, "{space}");
+                assert_eq!(super::super::read(head, Default::default()).is_ok(), whole, "{space}");
+            }
         }
     }
 
     #[test]
     fn bad_heads_are_said() {
-        let said = |text: &str, number: u64| of(text.as_bytes(), number).unwrap_err();
+        let said = |text: &str, number: u64| opened(text.as_bytes(), number).map(|_| ()).unwrap_err();
         assert_eq!(said("YUV4MPEG2 W2 H2", 0), "cut short: it ends inside a head");
         assert_eq!(said("YUV4MPEG2 H2\n", 0), "its head has no width (W)");
         assert_eq!(said("YUV4MPEG2 W2\n", 0), "its head has no height (H)");

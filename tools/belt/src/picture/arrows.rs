@@ -11,7 +11,7 @@ pub const NEAR: f64 = 1.0;
 
 /// The longest that a usual arrow gets, in pels of the picture, and how many times a motion may be drawn.
 const REACH: f64 = 15.0;
-const TIMES: [f64; 7] = [20.0, 10.0, 5.0, 2.0, 1.0, 0.5, 0.25];
+const TIMES: [f64; 6] = [8.0, 5.0, 2.0, 1.0, 0.5, 0.25];
 /// The longest that any arrow gets: one that would be longer is drawn so long, with two heads.
 const LONGEST: f64 = 30.0;
 
@@ -69,7 +69,7 @@ pub fn strokes(measured: &Measured, times: f64, scale: f64) -> Vec<Strokes> {
     let radius = (0.5 + 0.35 * scale).min(2.2);
     let mut strokes = Vec::new();
     for (number, colour) in COLOURS.into_iter().enumerate() {
-        let own = measured.blocks.iter().filter(|block| rank(block, measured.within) == number);
+        let own = measured.used().filter(|block| rank(block, measured.within) == number);
         let (mut dots, mut arrows) = (Vec::new(), Vec::new());
         for block in own {
             let from = [block.x, block.y].map(|pel| (pel + 0.5) * scale);
@@ -108,7 +108,7 @@ mod tests {
     use belt::Motion;
 
     fn block(u: f64, v: f64) -> Block {
-        Block { x: 23.5, y: 7.5, motion: Motion { u, v }, off: 0.0 }
+        Block { x: 23.5, y: 7.5, motion: Motion { u, v }, off: 0.0, masked: false }
     }
 
     #[test]
@@ -120,7 +120,7 @@ mod tests {
     #[test]
     fn arrows_are_drawn_as_long_as_they_fit() {
         let with = |u: f64| times(&[block(u, 0.0)]);
-        assert_eq!([0.0, 0.5, 3.0, 7.0, 15.0, 27.875].map(with), [1.0, 20.0, 5.0, 2.0, 1.0, 0.5]);
+        assert_eq!([0.0, 0.5, 3.0, 7.0, 15.0, 27.875].map(with), [1.0, 8.0, 5.0, 2.0, 1.0, 0.5]);
     }
 
     #[test]

@@ -1,6 +1,5 @@
 //! The scene as pixels.
 
-use super::png::{Colours, png};
 use super::{ADVANCE, Colour, HALO, HALO_SHARE, HALO_WIDTH, INK, PAPER, Point, Scene, Strokes, Text, font};
 use std::ops::Range;
 
@@ -21,7 +20,7 @@ pub fn draw(scene: &Scene) -> Vec<u8> {
     for text in &scene.texts {
         canvas.text(text, scene.dot);
     }
-    png(width, height, Colours::RedGreenBlue, canvas.pixels.as_flattened())
+    super::png([width, height], ::png::ColorType::Rgb, canvas.pixels.as_flattened())
 }
 
 impl Canvas {

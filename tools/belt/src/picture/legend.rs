@@ -52,11 +52,10 @@ fn names(measured: &Measured, letters: usize) -> String {
 
 fn lines(measured: &Measured, letters: usize) -> Vec<String> {
     let said = format!(
-        "{} of {} agree with {}; score {:.4} square pels; header {} bits",
+        "{} of {} agree with {}; header {} bits",
         words::per_cent(measured.share()),
-        words::many(measured.blocks.len(), "block"),
-        model::words(measured.gm_type),
-        measured.report.score,
+        words::many(measured.used().count(), "block"),
+        model::words(measured.answer.gm_type),
         measured.report.bits
     );
     let mut lines = vec![names(measured, letters)];
@@ -103,15 +102,17 @@ pub fn add(scene: &mut Scene, measured: &Measured, times: f64) {
     ];
     let usual = 18.0 * dot as f64;
     for (number, meaning) in meanings.into_iter().enumerate() {
-        let count = measured.blocks.iter().filter(|block| rank(block, within) == number).count();
+        let count = measured.used().filter(|block| rank(block, within) == number).count();
         key(scene, COLOURS[number], usual, 1, format!("{meaning}: {}", words::many(count, "block")));
     }
     let pixels_per_pel = times * scene.scale as f64;
     let length = key_length(pixels_per_pel, KEY * dot as f64);
     let drawn = if times == 1.0 { String::new() } else { format!(", drawn {times} times as long") };
-    key(scene, ANY, length * pixels_per_pel, 1, format!("{} of motion{drawn}", words::pels(length)));
-    if measured.blocks.iter().any(|block| is_shortened(block, times)) {
-        let text = format!("more than {} of motion, drawn shorter", words::pels(longest(times)));
+    // the picture's pels, of which one that is drawn may be more
+    let own = |pels: f64| words::pels(pels * measured.times as f64);
+    key(scene, ANY, length * pixels_per_pel, 1, format!("{} of motion{drawn}", own(length)));
+    if measured.used().any(|block| is_shortened(block, times)) {
+        let text = format!("more than {} of motion, drawn shorter", own(longest(times)));
         key(scene, ANY, usual, 2, text);
     }
     scene.height += MARGIN / 2;

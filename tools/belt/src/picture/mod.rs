@@ -3,10 +3,8 @@
 
 mod arrows;
 mod canvas;
-mod deflate;
 mod font;
 mod legend;
-mod png;
 mod svg;
 
 use crate::failure::Failure;
@@ -75,6 +73,7 @@ impl Kind {
         match path.extension().and_then(|end| end.to_str()).map(str::to_ascii_lowercase).as_deref() {
             Some("svg") => Ok(Kind::Svg),
             Some("png") => Ok(Kind::Png),
+            None if path == Path::new("-") => Ok(Kind::Png),
             _ => Err(Failure::bad(shown(path), "a picture's name ends in .svg or .png")),
         }
     }
@@ -87,6 +86,18 @@ pub fn draw(kind: &Kind, measured: &Measured, input: &Frame) -> Vec<u8> {
         Kind::Svg => svg::draw(&scene).into_bytes(),
         Kind::Png => canvas::draw(&scene),
     }
+}
+
+/// A PNG file of 8 bits a value.
+fn png(sides: [usize; 2], colours: ::png::ColorType, values: &[u8]) -> Vec<u8> {
+    let mut file = Vec::new();
+    let [width, height] = sides.map(|side| side as u32);
+    let mut encoder = ::png::Encoder::new(&mut file, width, height);
+    encoder.set_color(colours);
+    encoder.set_adaptive_filter(::png::AdaptiveFilterType::Adaptive);
+    let written = encoder.write_header().and_then(|mut writer| writer.write_image_data(values));
+    written.expect("the values are as many as the sides say, and memory can be written");
+    file
 }
 
 /// The pels in shades of grey, from the darkest hundredth to the brightest, dimmed so that arrows stand out.
@@ -172,8 +183,10 @@ mod tests {
         let (measured, input) = example();
         let scene = scene(&measured, &input);
         let file = draw(&Kind::Png, &measured, &input);
-        let (width, height, colours, values) = png::tests::read(&file);
-        assert_eq!((width, height, colours), (scene.width, scene.height, png::Colours::RedGreenBlue));
+        let mut reader = ::png::Decoder::new(&file[..]).read_info().unwrap();
+        let mut values = vec![0; reader.output_buffer_size()];
+        let info = reader.next_frame(&mut values).unwrap();
+        assert_eq!((info.width as usize, info.height as usize), (scene.width, scene.height));
         let blue = values.chunks(3).filter(|pixel| *pixel == arrows::COLOURS[0]).count();
         assert!(blue > 500, "{blue} pixels of arrows");
         let text = String::from_utf8(draw(&Kind::Svg, &measured, &input)).unwrap();

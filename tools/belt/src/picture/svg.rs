@@ -1,7 +1,6 @@
 //! The scene as SVG, with the input as a PNG inside.
 
-use super::png::{Colours, png};
-use super::{ADVANCE, Colour, HALO, HALO_SHARE, HALO_WIDTH, INK, PAPER, Point, Scene, font};
+use super::{ADVANCE, Colour, HALO, HALO_SHARE, HALO_WIDTH, INK, PAPER, Point, Scene, font, png};
 use std::fmt::Write;
 
 fn colour([red, green, blue]: Colour) -> String {
@@ -9,7 +8,8 @@ fn colour([red, green, blue]: Colour) -> String {
 }
 
 fn escaped(text: &str) -> String {
-    let plain = |c: char| if c.is_control() { '?' } else { c };
+    // what XML can't hold at all
+    let plain = |c: char| if c.is_control() || matches!(c, '\u{FFFE}' | '\u{FFFF}') { '?' } else { c };
     text.chars().map(plain).collect::<String>().replace('&', "&amp;").replace('<', "&lt;").replace('>', "&gt;")
 }
 
@@ -18,19 +18,6 @@ fn path(lines: &[Vec<Point>]) -> String {
     for line in lines {
         for (i, [x, y]) in line.iter().enumerate() {
             let _ = write!(text, "{}{x:.1} {y:.1}", if i == 0 { 'M' } else { 'L' });
-        }
-    }
-    text
-}
-
-fn base64(bytes: &[u8]) -> String {
-    const DIGITS: &[u8; 64] = b"ABCDEFGHIJKLMNOPQRSTUVWXYZabcdefghijklmnopqrstuvwxyz0123456789+/";
-    let mut text = String::new();
-    for three in bytes.chunks(3) {
-        let number = (0..3).fold(0, |sum, i| sum << 8 | u32::from(three.get(i).copied().unwrap_or(0)));
-        for i in 0..4 {
-            let digit = DIGITS[(number >> (18 - 6 * i) & 63) as usize];
-            text.push(if i > three.len() { '=' } else { char::from(digit) });
         }
     }
     text
@@ -45,7 +32,7 @@ pub fn draw(scene: &Scene) -> String {
         escaped(&scene.title),
         colour(PAPER)
     );
-    let input = base64(&png(sides[0], sides[1], Colours::Grey, &scene.grey));
+    let input = base64::encode(png(*sides, ::png::ColorType::Grayscale, &scene.grey));
     let _ = writeln!(
         text,
         "<image x=\"{}\" y=\"{}\" width=\"{across}\" height=\"{down}\" preserveAspectRatio=\"none\" \
@@ -83,15 +70,7 @@ mod tests {
     use super::*;
 
     #[test]
-    fn base64_is_that_of_the_standard() {
-        let pairs = [("", ""), ("f", "Zg=="), ("fo", "Zm8="), ("foo", "Zm9v"), ("foob", "Zm9vYg==")];
-        for (plain, coded) in pairs {
-            assert_eq!(base64(plain.as_bytes()), coded);
-        }
-    }
-
-    #[test]
     fn names_are_escaped() {
-        assert_eq!(escaped("a&b<c>\n"), "a&amp;b&lt;c&gt;?");
+        assert_eq!(escaped("a&b<c>\n\u{FFFF}é"), "a&amp;b&lt;c&gt;??é");
     }
 }

@@ -1,8 +1,9 @@
 //! Motion in words and numbers with units.
 
-use crate::measure::{END_OF_RANGE, LEAST_TO_ELECT, Measured, RANGE, Warning};
-use crate::model::{self, IDENTITY, Model as Asked};
-use belt::{Model, Motion};
+use crate::measure::{Commonest, END_OF_RANGE, LEAST_TO_ELECT, Measured, RANGE, Warning};
+use crate::model::{self, Asked, Map};
+use crate::way::Status;
+use belt::Motion;
 
 /// Motions below this many pels are none.
 const STILL: f64 = 0.0005;
@@ -66,13 +67,13 @@ fn turn(degrees: f64) -> String {
 }
 
 /// What a model does to a picture, in one sentence's words.
-pub fn moved(gm_type: u8, model: Model, middle: Motion) -> String {
+pub fn moved(gm_type: u8, map: Map, middle: Motion) -> String {
     let mut parts = Vec::new();
     if middle.u.hypot(middle.v) >= STILL {
         parts.push(format!("moved {}", motion(middle)));
     }
     if gm_type > 1 {
-        let (size, angle) = (zoom(model.zoom()), turn(model.degrees()));
+        let (size, angle) = (zoom(map.zoom()), turn(map.degrees()));
         if size != "the same size" {
             parts.push(format!("became {size}"));
         }
@@ -87,18 +88,22 @@ pub fn moved(gm_type: u8, model: Model, middle: Motion) -> String {
     }
 }
 
-/// What was measured, in a sentence without its end; where nothing could be, that.
+/// What was measured, in a sentence without its end; where nothing could be, why.
 pub fn sentence(measured: &Measured) -> String {
-    if measured.warnings.iter().any(|warning| matches!(warning, Warning::NoBlocks | Warning::Flat)) {
-        return "Nothing was measured".into();
+    match measured.answer.status {
+        Status::NoBlocks if measured.blocks.is_empty() => {
+            "Nothing was measured: no whole 16×16 block lies in the picture, and a motion needs one".into()
+        }
+        Status::NoBlocks => "Nothing was measured: the mask leaves no block".into(),
+        Status::Flat => "Nothing was measured: a picture is flat, every pel is the same".into(),
+        Status::Unexplained => "It isn't known how it moved: no motion explains the blocks".into(),
+        Status::Still if measured.warnings.contains(&Warning::PartMoves) => {
+            let still = per_cent(measured.still() / measured.used().count() as f64);
+            format!("{still} stood still, and a part moved on its own")
+        }
+        Status::Still => "It stood still".into(),
+        Status::Measured => format!("It {}", moved(measured.answer.gm_type, measured.map(), measured.middle())),
     }
-    if measured.is_unexplained() {
-        return "It moved, and no model explains how".into();
-    }
-    if measured.is_still() && measured.error() >= STILL {
-        return "It stood still, to within half a pel".into();
-    }
-    format!("It {}", moved(measured.gm_type, measured.model, measured.middle()))
 }
 
 /// Bytes as hexadecimal digits.
@@ -106,96 +111,127 @@ pub fn hexadecimal(bytes: &[u8]) -> String {
     bytes.iter().map(|byte| format!("{byte:02X}")).collect::<Vec<_>>().join(" ")
 }
 
-/// A warning in words.
+/// The commonest motion of blocks, with its share.
+fn common(found: Option<Commonest>) -> String {
+    let told = |Commonest { motion: own, share }| format!("{}, of {} of the blocks", motion(own), per_cent(share));
+    found.map(told).unwrap_or_default()
+}
+
+/// A warning in words, and what to do.
 pub fn warning(warning: Warning, measured: &Measured) -> String {
+    let used = measured.used().count();
     match warning {
-        Warning::NoBlocks => "no whole 16×16 block lies in the picture, and a motion needs one".into(),
-        Warning::Flat => "a picture is flat: every pel is the same, so nothing can be found in it".into(),
-        Warning::NoModel if measured.blocks.len() < LEAST_TO_ELECT => format!(
-            "a type is elected from {LEAST_TO_ELECT} blocks on, and there are {}; --type fits one to fewer",
-            measured.blocks.len()
-        ),
-        Warning::NoModel => format!(
-            "no type explains three quarters of the motion: it moved further than {RANGE} pels, or not as one piece; \
-             --type fits one all the same"
-        ),
-        Warning::FewAgree if measured.is_still() => format!(
-            "only {} of the blocks agree: it moved by less than half a pel, too little to elect a type; --type fits one",
-            per_cent(measured.share())
-        ),
+        Warning::FewBlocks => {
+            format!("a type is elected from {LEAST_TO_ELECT} blocks on, and there are {used}; --type fits one to fewer")
+        }
         Warning::FewAgree => format!(
-            "only {} of the blocks agree: it moved further than {RANGE} pels, or not as one piece, or another type fits",
-            per_cent(measured.share())
+            "only {} of the blocks agree with {}: it moved further than {RANGE} pels, or not as one piece, or there is too \
+             little to see; the commonest motion is {}; --crop or --mask leave out what moves otherwise",
+            per_cent(measured.share()),
+            model::words(measured.answer.gm_type),
+            common(measured.commonest())
         ),
         Warning::EndOfRange => format!(
             "{} of {} blocks lie at the end of the range ({END_OF_RANGE} pels or more of {RANGE}): it may have moved \
-             further than the search looks",
+             further than the search looks; --halve doubles the range",
             count(measured.at_end()),
-            count(measured.blocks.len())
+            count(used)
         ),
-        Warning::WarpNotKept => "a decoder won't keep this warp: its shear is too strong".into(),
+        Warning::PartMoves => format!(
+            "a part moved on its own; the commonest motion of the rest is {}; --crop measures it alone",
+            common(measured.commonest_moving())
+        ),
+        Warning::PartStill => format!(
+            "a part stands still, {} of the blocks; cut it off with --crop, or leave it out with --mask",
+            per_cent(measured.still() / used as f64)
+        ),
+        Warning::WarpNotKept => "a decoder won't keep the stored warp: its shear is too strong".into(),
     }
 }
 
-/// The type, and how it was fitted.
+/// How the model was found.
 fn kind(measured: &Measured) -> String {
-    let name = model::words(measured.gm_type);
-    match measured.asked {
-        Asked::Elected if measured.gm_type == IDENTITY => "none was elected: the header says standing still".into(),
-        Asked::Elected => format!("{name}, elected"),
-        Asked::Trimmed(_) => format!("{name}, fitted without the blocks that lie far off"),
-        Asked::Plain(_) => name.into(),
+    let name = model::words(measured.answer.gm_type);
+    match measured.answer.how {
+        "elected" => format!("{name}, elected"),
+        "trimmed" => format!("{name}, fitted without the blocks that lie far off"),
+        _ => name.into(),
     }
+}
+
+/// The rows of what was measured.
+fn measured_rows(measured: &Measured, row: &mut impl FnMut(&str, String)) {
+    if !measured.answer.status.has_motion() {
+        return row("measured", "nothing".into());
+    }
+    let map = measured.map();
+    row("measured", kind(measured));
+    if measured.answer.gm_type > 1 {
+        row("  shift", format!("{}, in the middle of the picture", motion(measured.middle())));
+        row("", format!("{}, at its first pel", motion(map.motion_at(0.0, 0.0))));
+        row("  zoom", format!("{:.5} ({})", map.zoom(), zoom(map.zoom())));
+        row("  angle", turn(map.degrees()));
+    } else {
+        row("  shift", motion(measured.middle()));
+    }
+    let (agree, used, share) = (count(measured.agreeing()), measured.used().count(), per_cent(measured.share()));
+    let masked = match measured.blocks.len() - used {
+        0 => String::new(),
+        masked => format!("; {} under the mask", many(masked, "block")),
+    };
+    row("agreement", format!("{agree} of {} ({share}) within {} pel{masked}", many(used, "block"), measured.within));
+}
+
+/// The rows of what is stored.
+fn stored_rows(measured: &Measured, row: &mut impl FnMut(&str, String)) {
+    let (map, settings) = (measured.stored_map(), &measured.settings);
+    let halved = if measured.times > 1 { ", in pels of the halved picture" } else { "" };
+    let stored = moved(measured.stored_type, map, measured.middle_of(map, 1));
+    row(
+        "stored",
+        match measured.asked {
+            Asked::Elected if measured.is_stored_still() => {
+                "no type was elected: the header says standing still".into()
+            }
+            _ => format!("{}: {stored}{halved}", model::words(measured.stored_type)),
+        },
+    );
+    row("  score", format!("{:.4} square pels over all blocks", measured.report.score));
+    let header = hexadecimal(&measured.header);
+    let (bits, start, reference) = (measured.report.bits, settings.start, settings.reference);
+    row("  header", format!("{bits} bits from bit {start}, reference {reference}: {header}"));
+    let numbers = measured.stored.row_first(measured.stored_type).0;
+    row("  model", numbers.map(|number| number.to_string()).join(" "));
 }
 
 /// The whole report of a pair.
 pub fn pair(measured: &Measured) -> String {
-    let Measured { input, reference, width, height, settings, gm_type, model, report, .. } = measured;
-    let middle = measured.middle();
-    let blocks = measured.blocks.len();
+    let Measured { input, reference, width, height, times, .. } = measured;
+    let halved = if *times > 1 { format!(" (1/{times} of the picture's)") } else { String::new() };
+    let blocks = many(measured.blocks.len(), "block");
     let mut lines = vec![
-        format!("{input} to {reference}: {width}×{height} pels, {} of 16×16", many(blocks, "block")),
+        format!("{input} to {reference}: {width}×{height} pels{halved}, {blocks} of 16×16"),
         format!("{}.", sentence(measured)),
         String::new(),
     ];
     let mut row = |name: &str, text: String| lines.push(format!("  {name:<10} {text}"));
-    row("type", kind(measured));
-    if *gm_type > 1 {
-        row("shift", format!("{}, in the middle of the picture", motion(middle)));
-        row("", format!("{}, at its first pel", motion(model.shift())));
-        row("zoom", format!("{:.5} ({})", model.zoom(), zoom(model.zoom())));
-        row("angle", turn(model.degrees()));
-    } else if !measured.is_unexplained() {
-        row("shift", motion(middle));
-    }
-    let share = per_cent(measured.share());
-    let within = measured.within;
-    row(
-        "agreement",
-        format!("{} of {} ({share}) within {within} pel", count(measured.agreeing()), many(blocks, "block")),
-    );
-    let square = if *gm_type == IDENTITY { "square pels, the mean square of the motion" } else { "square pels" };
-    row("score", format!("{:.4} {square}, of which the root is {:.2} pels", report.score, measured.error()));
-    let header = hexadecimal(&measured.header);
-    row(
-        "header",
-        format!("{} bits from bit {}, reference {}: {header}", report.bits, settings.start, settings.reference),
-    );
-    row("model", model.row_first(*gm_type).0.map(|number| number.to_string()).join(" "));
+    measured_rows(measured, &mut row);
+    stored_rows(measured, &mut row);
     for found in &measured.warnings {
-        lines.push(format!("\nwarning: {}", warning(*found, measured)));
+        lines.push(format!("\nwarning: {}: {}", found.name(), warning(*found, measured)));
     }
     lines.join("\n") + "\n"
 }
 
 /// One line of a pair among many.
 pub fn line(measured: &Measured) -> String {
-    let moved = sentence(measured);
-    let (share, error) = (per_cent(measured.share()), measured.error());
     let (input, reference) = (&measured.input, &measured.reference);
-    let mut line = format!("{input} to {reference}: {moved}; {share} agree, root of the score {error:.2} pels");
+    let mut line = format!("{input} to {reference}: {}", sentence(measured));
+    if measured.answer.status.has_motion() {
+        line += &format!("; {} agree", per_cent(measured.share()));
+    }
     if let Some(first) = measured.warnings.first() {
-        line += &format!("; warning: {}", warning(*first, measured));
+        line += &format!("; warning: {}: {}", first.name(), warning(*first, measured));
     }
     line + "\n"
 }
@@ -203,7 +239,6 @@ pub fn line(measured: &Measured) -> String {
 #[cfg(test)]
 mod tests {
     use super::*;
-    use crate::frames::Frame;
     use crate::measure::tests::{frame, job};
     use crate::measure::{Job, measure};
 
@@ -225,53 +260,13 @@ mod tests {
     #[test]
     fn a_model_is_a_sentence() {
         let still = Motion { u: 0.0, v: 0.0 };
-        assert_eq!(moved(1, Model::IDENTITY, still), "didn't move");
-        let zoomed = Model([0, 0, 66191, 0, 0, 66191]);
-        assert_eq!(moved(2, zoomed, still), "became 1.00 % larger");
-        let turned = Model([0, 0, 65526, -1144, 1144, 65526]);
-        let said = moved(2, turned, Motion { u: 1.0, v: 0.0 });
+        let grid = |numbers| Map::of_grid(belt::Model(numbers));
+        assert_eq!(moved(1, Map::IDENTITY, still), "didn't move");
+        assert_eq!(moved(2, grid([0, 0, 66191, 0, 0, 66191]), still), "became 1.00 % larger");
+        let said = moved(2, grid([0, 0, 65526, -1144, 1144, 65526]), Motion { u: 1.0, v: 0.0 });
         assert_eq!(said, "moved 1 pel right and turned 1.000° clockwise");
-        let both = Model([0, 0, 64881, 1144, -1144, 64881]);
-        let said = moved(2, both, Motion { u: 0.0, v: 2.0 });
+        let said = moved(2, grid([0, 0, 64881, 1144, -1144, 64881]), Motion { u: 0.0, v: 2.0 });
         assert_eq!(said, "moved 2 pels down, became 0.98 % smaller and turned 1.010° anticlockwise");
-    }
-
-    #[test]
-    fn what_cannot_be_measured_is_not_told_as_still() {
-        let small = frame("a", 15, 40, 0, 0);
-        let text = pair(&measure(&job(1), &small, &small).unwrap());
-        assert!(text.contains("\nNothing was measured.\n") && !text.contains("didn't move"), "{text}");
-    }
-
-    #[test]
-    fn an_election_is_told_with_its_reason() {
-        let electing = |a: Frame, b: Frame| pair(&measure(&job(IDENTITY), &a, &b).unwrap());
-        let still = || frame("b", 64, 64, 0, 0);
-        let text = electing(frame("a", 64, 64, 2, 4), still());
-        assert!(
-            text.contains("\nIt moved 4 pels right and 2 pels down.\n") && text.contains("a translation, elected\n")
-        );
-        let text = electing(still(), still());
-        assert!(text.contains("\nIt didn't move.\n") && text.contains("  type       none was elected"), "{text}");
-        assert!(text.contains(" 0.0000 square pels, the mean square of the motion, of which the root is 0.00 pels\n"));
-        let few = |dx| frame("a", 48, 16, 0, dx);
-        let text = electing(few(6), few(0));
-        assert!(text.contains("\nIt moved, and no model explains how.\n") && !text.contains("  shift"), "{text}");
-        assert!(text.contains("warning: a type is elected from 4 blocks on, and there are 3"), "{text}");
-    }
-
-    #[test]
-    fn what_moves_by_less_than_half_a_pel_is_told() {
-        let mut found = measure(&job(IDENTITY), &frame("a", 64, 64, 0, 0), &frame("b", 64, 64, 0, 0)).unwrap();
-        found.report.score = 0.140625;
-        assert_eq!(sentence(&found), "It stood still, to within half a pel");
-        let text = warning(Warning::FewAgree, &found);
-        assert!(
-            text.ends_with("it moved by less than half a pel, too little to elect a type; --type fits one"),
-            "{text}"
-        );
-        found.report.score = 0.25;
-        assert_eq!(sentence(&found), "It moved, and no model explains how");
     }
 
     #[test]
@@ -281,12 +276,12 @@ mod tests {
         let text = pair(&found);
         let wanted = [
             "a to b: 64×64 pels, 16 blocks of 16×16\nIt moved 4 pels right and 2 pels down.\n",
-            "  type       a translation\n",
-            "  shift      4 pels right and 2 pels down\n",
+            "  measured   a translation\n    shift    4 pels right and 2 pels down\n",
             " within 0.25 pel\n",
-            " square pels, of which the root is ",
+            "  stored     a translation: moved 4 pels right and 2 pels down\n",
+            " square pels over all blocks\n",
             " bits from bit 3, reference 7: ",
-            "  model      131072 262144 65536 0 0 65536\n",
+            "    model    131072 262144 65536 0 0 65536\n",
         ];
         for part in wanted {
             assert!(text.contains(part), "{part:?} in {text}");

@@ -1,6 +1,7 @@
 //! The tool as a program, and folders to try it in.
 #![allow(dead_code)] // each test file uses a part
 
+use serde_json::Value;
 use std::fs;
 use std::io::Write;
 use std::path::{Path, PathBuf};
@@ -96,16 +97,40 @@ pub fn pictures(name: &str) -> Folder {
     folder
 }
 
-/// The text of a field of JSON that is a number or a text.
-pub fn field<'a>(json: &'a str, name: &str) -> &'a str {
-    let mark = format!("\"{name}\":");
-    let rest = &json[json.find(&mark).unwrap_or_else(|| panic!("no {name} in {json}")) + mark.len()..];
-    match rest.strip_prefix('"') {
-        Some(text) => &text[..text.find('"').unwrap()],
-        None => &rest[..rest.find([',', '}']).unwrap()],
-    }
+/// A line of JSON.
+pub fn json(text: &str) -> Value {
+    serde_json::from_str(text).unwrap_or_else(|error| panic!("{error} in {text}"))
 }
 
-pub fn number(json: &str, name: &str) -> f64 {
-    field(json, name).parse().unwrap_or_else(|_| panic!("{name} in {json}"))
+/// A number of what was measured.
+pub fn number(json: &Value, name: &str) -> f64 {
+    json["measured"][name].as_f64().unwrap_or_else(|| panic!("{name} in {json}"))
+}
+
+/// The names of the warnings.
+pub fn warnings(json: &Value) -> Vec<&str> {
+    json["warnings"].as_array().unwrap().iter().map(|warning| warning["name"].as_str().unwrap()).collect()
+}
+
+/// A picture of noise, 160×128, that shows in each place the noise from another place on.
+pub fn noise(from: impl Fn(usize, usize) -> [usize; 2]) -> Vec<u8> {
+    let pel = |i: usize| {
+        let (x, y) = (i % 160, i / 160);
+        let [right, down] = from(x, y);
+        let (x, y) = ((x + right) as u64, (y + down) as u64);
+        let h = x.wrapping_mul(0x9E37_79B9_7F4A_7C15) ^ y.wrapping_mul(0xC2B2_AE3D_27D4_EB4F);
+        ((h ^ h >> 29).wrapping_mul(0xBF58_476D_1CE4_E5B9) >> 40) as u8
+    };
+    [b"P5 160 128 255\n".to_vec(), (0..160 * 128).map(pel).collect()].concat()
+}
+
+/// A smooth picture, 160×128, moved by parts of a pel.
+pub fn smooth(right: f64, down: f64) -> Vec<u8> {
+    let pel = |i: usize| {
+        let (x, y) = ((i % 160) as f64 - right, (i / 160) as f64 - down);
+        let waves = [(0.31, 0.17, 1.0), (-0.23, 0.37, 2.0), (0.53, -0.11, 3.0), (0.13, 0.61, 0.5), (0.7, 0.45, 1.3)];
+        let sum: f64 = waves.iter().map(|(a, b, c)| (a * x + b * y + c).sin()).sum();
+        (127.5 + 22.0 * sum).round() as u8
+    };
+    [b"P5 160 128 255\n".to_vec(), (0..160 * 128).map(pel).collect()].concat()
 }
