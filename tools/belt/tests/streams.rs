@@ -86,8 +86,8 @@ fn memory_that_runs_out_is_a_message() {
         shell.args(["-c", &line, env!("CARGO_BIN_EXE_belt")]).current_dir(&folder.0);
         let output = shell.output().unwrap();
         let error = String::from_utf8_lossy(&output.stderr);
-        // too little to begin with is the loader's or the language's own to say
-        if error.contains("belt: out of memory") {
+        // too little for the program or a thread to begin with is the loader's or the language's own to say
+        if error.contains("belt: out of memory") && !error.contains("alternative stack") {
             assert_eq!((output.status.code(), &*error), (Some(2), "belt: out of memory\n"), "{limit}");
             ended += 1;
         }
