@@ -8,10 +8,11 @@
    else that is passed. A count that names more than there is can't be seen here, and is the caller's to get right.
 
    The library allocates nothing, keeps nothing between calls and has no state of its own: any number of threads
-   may call it at once, each with its own buffers. A call that trims or elects takes about 52 kB of the thread's stack
-   over words and 168 kB over samples, for what it keeps of them and for residuals; a job about 5 kB, 53 kB if it trims
-   or elects. The library expects the floating-point environment that a process begins with: rounding to nearest, traps
-   off, subnormal numbers kept. It needs memcpy, memset and no other function.
+   may call it at once, each with its own buffers. A call that trims or elects takes about 53 kB of the thread's stack
+   over words, 69 kB by a set of classes and 168 kB over samples, for what it keeps of them and for residuals; another
+   call by a set takes 18 kB, a job about 21 kB, 70 kB if it trims or elects. The library expects the floating-point
+   environment that a process begins with: rounding to nearest, traps off, subnormal numbers kept. It needs memcpy,
+   memset and no other function.
 
    A result's first field is the refusal: BELT_ACCEPTED, or the number of the row that refuses ('When a call
    says no'), and then all fields after it are 0. A refused call leaves its lent buffers as they were; belt_job
