@@ -5,7 +5,7 @@ use crate::frames::Frame;
 use crate::model::{Asked, IDENTITY, Map};
 use crate::report::words;
 use crate::way::{Answer, Question, Warning};
-use belt::{Buffers, IDENTITIES, Motion, Refusal, Report, Sample, Settings, StoredModel, Task};
+use belt::{Buffers, ClassSet, IDENTITIES, Motion, Refusal, Report, Sample, Settings, StoredModel, Task};
 use track::{Common, Refused, Status};
 
 /// The share of blocks that stand still, or don't, from which on they are a part of the picture.
@@ -27,6 +27,8 @@ pub struct Job {
     pub prior: [StoredModel; 7],
     /// A class for each block; unsorted where none are given.
     pub classes: Option<Vec<u8>>,
+    /// The classes whose blocks are measured, fitted and scored.
+    pub set: ClassSet,
     /// What isn't black in it is left out of what is measured.
     pub mask: Option<Frame>,
     /// A block agrees with a named type within so many pels.
@@ -43,6 +45,7 @@ pub struct Block {
     pub motion: Motion,
     /// The distance between its motion and the model's, in pels.
     pub off: f64,
+    /// Under the mask, or of a class that isn't named.
     pub masked: bool,
 }
 
@@ -81,7 +84,7 @@ pub fn judge_sides(width: usize, height: usize) -> Result<(), Refusal> {
 /// Runs the job on two pictures of the same sides.
 pub fn measure(job: &Job, input: &Frame, reference: &Frame) -> Result<Measured, Failure> {
     let (width, height) = (input.width, input.height);
-    let settings = job.asked.settings(job.frame, job.reference, job.flag, job.start);
+    let settings = Settings { set: job.set, ..job.asked.settings(job.frame, job.reference, job.flag, job.start) };
     let unsorted = vec![belt::UNSORTED; belt::sample_count(width, height)];
     let mut buffers = Buffers::new(width, height);
     let task = Task {
@@ -101,8 +104,10 @@ pub fn measure(job: &Job, input: &Frame, reference: &Frame) -> Result<Measured, 
     let stored_type = report.types[place];
     buffers.header.truncate((settings.start + report.bits).div_ceil(8));
     let stored = &buffers.words[..report.samples];
-    let mask: Option<Vec<bool>> =
-        job.mask.as_ref().map(|mask| stored.iter().map(|&word| is_masked(mask, word)).collect());
+    let masked = |word: u32| job.mask.as_ref().is_some_and(|mask| is_masked(mask, word));
+    let left_out = |(&word, &class): (&u32, &u8)| !job.set.names(class) || masked(word);
+    let some = job.mask.is_some() || job.set != ClassSet::ALL;
+    let mask: Option<Vec<bool>> = some.then(|| stored.iter().zip(task.classes).map(left_out).collect());
     let question = Question { asked: job.asked, fast: job.fast, within: job.within, mask: mask.as_deref(), stored };
     let answer = question.answer(input, reference).map_err(|refused| match refused {
         Refused::Library(refusal) => Failure::refused(&pair, refusal),
@@ -187,7 +192,7 @@ fn moves(motion: Motion) -> bool {
 }
 
 impl Measured {
-    /// The blocks that aren't masked.
+    /// The blocks that aren't left out.
     pub fn used(&self) -> impl Iterator<Item = &Block> {
         self.blocks.iter().filter(|block| !block.masked)
     }
@@ -272,8 +277,8 @@ pub mod tests {
     /// A job that fits a type, or elects one for the identity.
     pub fn job(kind: u8) -> Job {
         let asked = if kind == IDENTITY { Asked::Elected } else { Asked::Plain(kind) };
-        let (prior, classes, mask) = (IDENTITIES, None, None);
-        Job { asked, frame: 1, reference: 1, flag: 1, start: 0, prior, classes, mask, within: 0.25, fast: false }
+        let (prior, classes, set, mask) = (IDENTITIES, None, ClassSet::ALL, None);
+        Job { asked, frame: 1, reference: 1, flag: 1, start: 0, prior, classes, set, mask, within: 0.25, fast: false }
     }
 
     fn names(found: &Measured) -> Vec<&str> {

@@ -97,7 +97,7 @@ pub fn sentence(measured: &Measured) -> String {
         Status::NoBlocks if measured.blocks.is_empty() => {
             "Nothing was measured: no whole 16×16 block lies in the picture, and a motion needs one".into()
         }
-        Status::NoBlocks => "Nothing was measured: the mask leaves no block".into(),
+        Status::NoBlocks => "Nothing was measured: no block is left to measure".into(),
         Status::Flat => "Nothing was measured: a picture is flat, every pel is the same".into(),
         Status::Unexplained => "It isn't known how it moved: no motion explains the blocks".into(),
         Status::Still if measured.warnings.iter().any(|warning| warning.name == "part-moves") => {
@@ -153,7 +153,7 @@ fn agreement(measured: &Measured) -> String {
     let halved = if measured.times > 1 { " of the halved picture" } else { "" };
     let masked = match measured.blocks.len() - measured.used().count() {
         0 => String::new(),
-        masked => format!("; {} under the mask", many(masked, "block")),
+        masked => format!("; {} left out", many(masked, "block")),
     };
     format!("{agree} of {usable}{which} ({share}) within {}{halved}{masked}", pels(answer.within))
 }
