@@ -8,7 +8,9 @@ use oracle::Samples;
 
 use crate::frames;
 use crate::header::{Distance, Header};
-use crate::inputs::{self, AFFINE, FRAME, HIGH_PRECISION, IDENTITY, PARAMS, ROTZOOM, Scene, TRANSLATION, carried};
+use crate::inputs::{
+    self, AFFINE, FRAME, HIGH_PRECISION, IDENTITY, PARAMS, ROTZOOM, Scene, TRANSLATION, WITHOUT_FILM, carried,
+};
 use crate::job::Job;
 use crate::placing::{Field, Way, place};
 
@@ -42,6 +44,10 @@ pub enum Case {
     QuantizeTrimmedSamples(u8, usize),
     Elect(usize),
     ElectSamples(usize),
+    /// Without the film, which is a fifth of so many words.
+    FitByClass(u8, usize),
+    QuantizeTrimmedByClass(u8, usize),
+    ElectByClass(usize),
     WriteFrame(usize),
     ReadFrame(u8, usize),
     WriteHeader(u8, Distance),
@@ -51,6 +57,8 @@ pub enum Case {
     PlaceHeader(u8, Distance),
     WholeJob(u8, usize, usize),
     ElectingJob(usize, usize),
+    JobByClass(u8, usize, usize),
+    ElectingJobByClass(usize, usize),
 }
 
 use Case::*;
@@ -82,6 +90,9 @@ pub fn all() -> Vec<Case> {
     cases.extend(kinds.iter().flat_map(|&kind| counts.map(|n| QuantizeTrimmedSamples(kind, n))));
     cases.extend([16, 4096].map(Elect));
     cases.push(ElectSamples(4096));
+    cases.extend(kinds.iter().flat_map(|&kind| [16, 4096].map(|n| FitByClass(kind, n))));
+    cases.extend(kinds.iter().flat_map(|&kind| [16, 4096].map(|n| QuantizeTrimmedByClass(kind, n))));
+    cases.extend([16, 4096].map(ElectByClass));
     cases.extend(counts.map(WriteFrame));
     cases.extend([2, 1].iter().flat_map(|&form| counts.map(|n| ReadFrame(form, n))));
     cases.extend(header_kinds.iter().flat_map(|&kind| Distance::ALL.map(|prior| WriteHeader(kind, prior))));
@@ -90,7 +101,14 @@ pub fn all() -> Vec<Case> {
     cases.extend(header_kinds.iter().flat_map(|&kind| Distance::ALL.map(|prior| PlaceHeader(kind, prior))));
     cases.extend(kinds.iter().flat_map(|&kind| job_sides.map(|(width, height)| WholeJob(kind, width, height))));
     cases.push(ElectingJob(640, 480));
+    cases.push(JobByClass(ROTZOOM, 640, 480));
+    cases.push(ElectingJobByClass(640, 480));
     cases
+}
+
+/// How many of so many words aren't film.
+fn not_film(n: usize) -> usize {
+    inputs::classes(n).iter().filter(|&&class| WITHOUT_FILM.names(class)).count()
 }
 
 fn type_name(kind: u8) -> &'static str {
@@ -110,6 +128,11 @@ impl fmt::Display for Case {
             QuantizeTrimmedSamples(kind, n) => write!(f, "quantize_trimmed | {}, {n} samples", type_name(kind)),
             Elect(n) => write!(f, "elect | {n} words"),
             ElectSamples(n) => write!(f, "elect | {n} samples"),
+            FitByClass(kind, n) => write!(f, "fit_by_class | {}, {} of {n} words", type_name(kind), not_film(n)),
+            QuantizeTrimmedByClass(kind, n) => {
+                write!(f, "quantize_trimmed_by_class | {}, {} of {n} words", type_name(kind), not_film(n))
+            }
+            ElectByClass(n) => write!(f, "elect_by_class | {} of {n} words", not_film(n)),
             WriteFrame(n) => write!(f, "write_frame | form 2, {n} samples"),
             ReadFrame(form, n) => write!(f, "read_both | form {form}, {n} samples"),
             WriteHeader(kind, prior) => write!(f, "header write | seven {}, prior {}", type_name(kind), prior.name()),
@@ -120,6 +143,10 @@ impl fmt::Display for Case {
             }
             WholeJob(kind, width, height) => write!(f, "job | {}, textured {width}×{height}", type_name(kind)),
             ElectingJob(width, height) => write!(f, "job | electing, textured {width}×{height}"),
+            JobByClass(kind, width, height) => {
+                write!(f, "job | {}, without film, textured {width}×{height}", type_name(kind))
+            }
+            ElectingJobByClass(width, height) => write!(f, "job | electing, without film, textured {width}×{height}"),
         }
     }
 }
@@ -134,7 +161,7 @@ impl Case {
                 Scene::Static => STATIC,
             }),
             Search(..) => Some(SMALL_SEARCH),
-            WholeJob(..) | ElectingJob(..) => Some(JOB),
+            WholeJob(..) | ElectingJob(..) | JobByClass(..) | ElectingJobByClass(..) => Some(JOB),
             Fit(_, 16) => Some(SMALL_FITS),
             Fit(_, 4096) => Some(WHOLE_SUMS),
             FitSamples(_, 4096) | Score(4096) | ScoreSamples(4096) => Some(SUMS),
@@ -151,7 +178,7 @@ impl Case {
     }
 
     pub fn is_a_job(&self) -> bool {
-        matches!(self, WholeJob(..) | ElectingJob(..))
+        matches!(self, WholeJob(..) | ElectingJob(..) | JobByClass(..) | ElectingJobByClass(..))
     }
 
     /// Both sides, after their answers were compared.
@@ -167,6 +194,9 @@ impl Case {
             QuantizeTrimmedSamples(kind, n) => quantize_trimmed_samples(kind, n),
             Elect(n) => elect(n),
             ElectSamples(n) => elect_samples(n),
+            FitByClass(kind, n) => fit_by_class(kind, n),
+            QuantizeTrimmedByClass(kind, n) => quantize_trimmed_by_class(kind, n),
+            ElectByClass(n) => elect_by_class(n),
             WriteFrame(n) => write_frame(n),
             ReadFrame(form, n) => read_frame(form, n),
             WriteHeader(kind, prior) => write_header(kind, prior),
@@ -175,6 +205,8 @@ impl Case {
             PlaceHeader(kind, prior) => place_fields(Header::new(kind, prior).fields()),
             WholeJob(kind, width, height) => whole_job(Job::new(kind, width, height), width, height),
             ElectingJob(width, height) => whole_job(Job::electing(width, height), width, height),
+            JobByClass(kind, width, height) => whole_job(Job::new(kind, width, height).without_film(), width, height),
+            ElectingJobByClass(width, height) => whole_job(Job::electing(width, height).without_film(), width, height),
         }
     }
 }
@@ -433,6 +465,75 @@ fn elect_samples(n: usize) -> Sides {
         &words,
         |samples| {
             black_box(belt::elect_samples(HIGH_PRECISION, samples).ok());
+        },
+        |samples| {
+            black_box(samples.estimate(true));
+        },
+    )
+}
+
+/// The sides of a call by class: ours has the words and their classes, and the Rust makes its samples of the words that
+/// aren't film.
+fn on_classed(words: Vec<u32>, ours: impl Fn(&[u32], &[u8]) + 'static, rust: impl Fn(&Samples) + 'static) -> Sides {
+    let classes = inputs::classes(words.len());
+    let (rust_words, rust_classes) = (words.clone(), classes.clone());
+    Sides {
+        ours: Box::new(move || ours(black_box(&words), black_box(&classes))),
+        rust: Box::new(move || rust(&without_film(black_box(&rust_words), black_box(&rust_classes)))),
+        ready: None,
+    }
+}
+
+fn without_film(words: &[u32], classes: &[u8]) -> Samples {
+    Samples::named(WITHOUT_FILM.bits(), words, classes)
+}
+
+fn fit_by_class(kind: u8, n: usize) -> Sides {
+    let words = oracle::blocks::words(n as u32, n);
+    let classes = inputs::classes(n);
+    let ours = belt::fit_by_class(WITHOUT_FILM, kind, &words, &classes).expect("this elimination doesn't refuse");
+    let rust = without_film(&words, &classes).fit(kind).expect("this elimination doesn't refuse");
+    assert!((0..carried(kind)).all(|i| same(ours.numbers[i], rust[i])), "{ours:?} {rust:?}");
+    on_classed(
+        words,
+        move |words, classes| {
+            black_box(belt::fit_by_class(WITHOUT_FILM, kind, words, classes).ok());
+        },
+        move |samples| {
+            black_box(samples.fit(kind));
+        },
+    )
+}
+
+fn quantize_trimmed_by_class(kind: u8, n: usize) -> Sides {
+    let words = loose_words(n);
+    let classes = inputs::classes(n);
+    let ours = belt::quantize_trimmed_by_class(WITHOUT_FILM, kind, HIGH_PRECISION, &words, &classes);
+    let ours = ours.expect("neither fit is refused");
+    let rust = without_film(&words, &classes).trimmed(kind, true).expect("neither fit is refused");
+    assert_eq!((ours.model, ours.used), (Model(rust.params), rust.used));
+    on_classed(
+        words,
+        move |words, classes| {
+            black_box(belt::quantize_trimmed_by_class(WITHOUT_FILM, kind, HIGH_PRECISION, words, classes).ok());
+        },
+        move |samples| {
+            black_box(samples.trimmed(kind, true));
+        },
+    )
+}
+
+fn elect_by_class(n: usize) -> Sides {
+    let words = turning_words(n);
+    let classes = inputs::classes(n);
+    let ours = belt::elect_by_class(WITHOUT_FILM, HIGH_PRECISION, &words, &classes).expect("it isn't refused");
+    let rust = without_film(&words, &classes).elect(true);
+    assert_eq!((ours.gm_type, ours.model), (rust.kind, StoredModel(rust.params)));
+    assert!(ours.gm_type != IDENTITY && same(ours.score, rust.score), "{ours:?}");
+    on_classed(
+        words,
+        |words, classes| {
+            black_box(belt::elect_by_class(WITHOUT_FILM, HIGH_PRECISION, words, classes).ok());
         },
         |samples| {
             black_box(samples.estimate(true));

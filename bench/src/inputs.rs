@@ -1,5 +1,6 @@
 //! What is measured on: pairs of planes and models, from fixed seeds.
 
+use belt::{ClassSet, FIBRE, METAL, RIGID_PLASTIC, UNSORTED};
 use oracle::list::Lcg;
 
 /// Pels of ten bits.
@@ -79,6 +80,9 @@ pub const AFFINE: u8 = 3;
 
 pub const HIGH_PRECISION: u8 = 1;
 pub const FRAME: u16 = 5;
+
+/// The set of the rows by class.
+pub const WITHOUT_FILM: ClassSet = ClassSet::of(&[UNSORTED, FIBRE, RIGID_PLASTIC, METAL]);
 
 /// Each class in its turn.
 pub fn classes(samples: usize) -> Vec<u8> {

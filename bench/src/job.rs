@@ -1,11 +1,11 @@
 //! A whole job: by the proved library, and composed of the Rust's parts with the blocks of `frames`.
 
-use belt::{Buffers, Model, Refusal, Report, Settings, StoredModel, Task};
+use belt::{Buffers, ClassSet, Model, Refusal, Report, Settings, StoredModel, Task};
 use oracle::Samples;
 
 use crate::frames;
 use crate::header::{Distance, Header};
-use crate::inputs::{self, AFFINE, FRAME, HIGH_PRECISION, IDENTITY, Scene};
+use crate::inputs::{self, AFFINE, FRAME, HIGH_PRECISION, IDENTITY, Scene, WITHOUT_FILM};
 
 /// The reference that the fitted model is for: the first of seven.
 const REFERENCE: u8 = 1;
@@ -36,9 +36,7 @@ impl Job {
                 gm_type: kind,
                 reference: REFERENCE,
                 flag: HIGH_PRECISION,
-                trim: 0,
-                elect: 0,
-                start: 0,
+                ..Settings::default()
             },
             header: Header::new(AFFINE, Distance::Near),
         }
@@ -49,6 +47,12 @@ impl Job {
         let mut job = Self::new(IDENTITY, width, height);
         job.settings.elect = 1;
         job
+    }
+
+    /// The same job without the film.
+    pub fn without_film(mut self) -> Self {
+        self.settings.set = WITHOUT_FILM;
+        self
     }
 
     pub fn run(&self, lent: &mut Buffers) -> Result<Report, Refusal> {
@@ -68,12 +72,18 @@ impl Job {
 
     /// Words, blocks and header go to the buffers.
     pub fn rust_run(&self, left: &mut Buffers) -> Option<Report> {
-        let Settings { frame, gm_type, elect, .. } = self.settings;
+        let Settings { frame, gm_type, elect, set, .. } = self.settings;
         let found = oracle::search(&self.input, &self.reference, self.width, self.height);
         for (word, sample) in left.words.iter_mut().zip(&found) {
             *word = oracle::word_of(sample);
         }
-        let samples = Samples::new(&found);
+        let samples = match set {
+            ClassSet::ALL => Samples::new(&found),
+            _ => {
+                let named = found.iter().zip(&self.classes).filter(|&(_, &class)| set.names(class));
+                Samples::new(&named.map(|(&sample, _)| sample).collect::<Vec<_>>())
+            }
+        };
         let mut header = self.header;
         let score;
         if elect == 1 {

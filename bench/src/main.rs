@@ -123,6 +123,8 @@ fn head() -> String {
          A row of samples has the list ready made on both sides: ours walks it, and makes none. \
          A trimmed fit goes through the model on the grid, against those lines of `candidate_for`; one word in sixteen is loose. \
          An election is measured against `estimate_global_motion`, which gives no score, on a field that turns, one word in sixteen by two pels beside it. \
+         A call by class names every class but film, which is one word in five: ours takes the words and their classes, \
+         and the Rust makes its samples of the words that aren't film. \
          Blocks are measured against a plain Rust writing of docs/RULES.md over lent buffers (`bench/src/frames.rs`).\n\n\
          A header has seven models of one type at high precision. A near prior is up to three steps of the grid from the models and gives short codes, \
          a far one is at the other end of the range and gives long codes; seven identities have no codes, and ours only judges their prior. \

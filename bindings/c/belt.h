@@ -8,10 +8,11 @@
    else that is passed. A count that names more than there is can't be seen here, and is the caller's to get right.
 
    The library allocates nothing, keeps nothing between calls and has no state of its own: any number of threads
-   may call it at once, each with its own buffers. A call that trims or elects takes about 52 kB of the thread's stack
-   over words and 168 kB over samples, for what it keeps of them and for residuals; a job about 5 kB, 53 kB if it trims
-   or elects. The library expects the floating-point environment that a process begins with: rounding to nearest, traps
-   off, subnormal numbers kept. It needs memcpy, memset and no other function.
+   may call it at once, each with its own buffers. A call that trims or elects takes about 53 kB of the thread's stack
+   over words, 69 kB by a set of classes and 168 kB over samples, for what it keeps of them and for residuals; another
+   call by a set takes 18 kB, a job about 21 kB, 70 kB if it trims or elects. The library expects the floating-point
+   environment that a process begins with: rounding to nearest, traps off, subnormal numbers kept. It needs memcpy,
+   memset and no other function.
 
    A result's first field is the refusal: BELT_ACCEPTED, or the number of the row that refuses ('When a call
    says no'), and then all fields after it are 0. A refused call leaves its lent buffers as they were; belt_job
@@ -53,6 +54,9 @@ extern "C" {
 
 enum belt_type { BELT_IDENTITY = 0, BELT_TRANSLATION = 1, BELT_ROTZOOM = 2, BELT_AFFINE = 3 };
 enum belt_class { BELT_UNSORTED = 0, BELT_FIBRE = 1, BELT_RIGID_PLASTIC = 2, BELT_METAL = 3, BELT_FILM = 4 };
+/* A set of classes is a byte of bits: class c is bit c, so that 1 << BELT_FIBRE | 1 << BELT_METAL names two and
+   BELT_ALL_CLASSES & ~(1 << BELT_FILM) all but film. */
+#define BELT_ALL_CLASSES 31
 enum belt_form { BELT_FORM_1 = 1, BELT_FORM_2 = 2 };
 enum belt_flag { BELT_LOW_PRECISION = 0, BELT_HIGH_PRECISION = 1 };
 enum belt_trim { BELT_ALL_SAMPLES = 0, BELT_TRIM = 1 };
@@ -65,6 +69,7 @@ enum belt_refusal {
     BELT_TOO_FAR = 18,
     BELT_WRONG_LENGTH = 2,
     BELT_NO_SUCH_CODE = 4,
+    BELT_NO_CLASS = 19,
     BELT_NO_SUCH_SLOT = 5,
     BELT_START_OVER = 14,
     BELT_OFF_GRID = 7,
@@ -88,7 +93,9 @@ static inline const char *belt_refusal_text(uint32_t refusal) {
     case BELT_TOO_LARGE: return "side over 1,024, or over 4,096 samples";
     case BELT_TOO_FAR: return "motion of a practice belt beyond 24 pels";
     case BELT_WRONG_LENGTH: return "plane, class, type, model or prior list of wrong length";
-    case BELT_NO_SUCH_CODE: return "type, class, flag, trim or elect code out of range; type 0 for a fit";
+    case BELT_NO_SUCH_CODE:
+        return "type, class, flag, trim or elect code out of range; set that names a class over 4; type 0 for a fit";
+    case BELT_NO_CLASS: return "empty set of classes";
     case BELT_NO_SUCH_SLOT: return "slot over 5, or to price one that the type doesn't carry; reference outside 1 to 7";
     case BELT_START_OVER: return "start of a header to write over 7";
     case BELT_OFF_GRID: return "model off the grid, uncarried slot or pair wrong";
@@ -96,7 +103,7 @@ static inline const char *belt_refusal_text(uint32_t refusal) {
     case BELT_NOT_RISING: return "words to store out of range or not rising";
     case BELT_NOT_HELD: return "class 4 to be stored in form 1";
     case BELT_TOO_SHORT: return "output or working buffer too short";
-    case BELT_TOO_FEW: return "fewer samples than a trimmed fit needs";
+    case BELT_TOO_FEW: return "fewer samples, or fewer of the classes named, than a trimmed fit needs";
     case BELT_SHUTTER_CLOSED: return "frame number 0: the shutter was closed";
     case BELT_SINGULAR: return "elimination refuses";
     case BELT_NOT_FINITE: return "residual of a trimmed fit not finite";
@@ -188,10 +195,12 @@ struct belt_written { uint32_t refusal; size_t bits; };
 /* Seven types and models in rising order of reference, and the bits consumed. */
 struct belt_models { uint32_t refusal; uint8_t types[7]; struct belt_stored_model models[7]; size_t bits; };
 /* The frame number of the blocks, the type to fit (1 to 3), the reference of the model (1 to 7), the flag, whether the
-   job trims (BELT_TRIM), whether it elects (BELT_ELECT; type and trim code then aren't looked at), and the bit of the
-   header's first byte at which writing begins (0 to 7). */
+   job trims (BELT_TRIM), whether it elects (BELT_ELECT; type and trim code then aren't looked at), the set of classes
+   whose samples it fits and scores (BELT_ALL_CLASSES for every sample; 0, as where it is left out, is refused), and the
+   bit of the header's first byte at which writing begins (0 to 7). */
 struct belt_settings {
-    uint16_t frame; uint8_t type; uint8_t reference; uint8_t flag; uint8_t trim; uint8_t elect; size_t start;
+    uint16_t frame; uint8_t type; uint8_t reference; uint8_t flag; uint8_t trim; uint8_t elect; uint8_t set;
+    size_t start;
 };
 /* Seven types and models in rising order of reference, the job's own of the type asked for or elected; the score of its
    own in square pels; the header's bits; how many samples there are. */
@@ -288,6 +297,31 @@ struct belt_trimmed_model belt_quantize_trimmed_samples(
 /* The election over samples instead of words ('Election').
    Refuses: 1, 4, 16 where a type's trimmed fit has it. */
 struct belt_elected belt_elect_samples(const struct belt_motion_sample *samples, size_t sample_count, uint8_t flag);
+
+/* The calls above by a set of classes ('Sets of classes'): each takes the words whose class the set names, in their
+   order, and answers what the call without a set answers for those. A class is looked up in the list, not in the word's
+   class bits.
+   In: the set, and a class for each word, beside what the call without a set takes; the fit takes its type, 1 to 3.
+   Naming BELT_ALL_CLASSES gives the answers without a set. Where no word has a class that is named, a translation is
+   not-a-number twice, its model the identity and a score 0.0; the other two types are refused with 6, a trimmed fit with
+   15; IDENTITY is elected.
+   Refuse: 1, 2, 4, 19, and then as without a set: the fit also 6; the trimmed fits 15 (by the words that are named), 6,
+   16, and 6 of the second fit; the election 16. Rows 1, 2 and 4 judge the whole list. */
+struct belt_fit_answer belt_fit_by_class(
+    uint8_t set, uint8_t type, const uint32_t *words, size_t word_count, const uint8_t *classes, size_t class_count);
+struct belt_quantized_model belt_quantize_by_class(
+    uint8_t set, uint8_t type, const double numbers[6], uint8_t flag,
+    const uint32_t *words, size_t word_count, const uint8_t *classes, size_t class_count);
+struct belt_score belt_score_by_class(
+    uint8_t set, const struct belt_model *model,
+    const uint32_t *words, size_t word_count, const uint8_t *classes, size_t class_count);
+struct belt_trimmed belt_fit_trimmed_by_class(
+    uint8_t set, uint8_t type, const uint32_t *words, size_t word_count, const uint8_t *classes, size_t class_count);
+struct belt_trimmed_model belt_quantize_trimmed_by_class(
+    uint8_t set, uint8_t type, uint8_t flag,
+    const uint32_t *words, size_t word_count, const uint8_t *classes, size_t class_count);
+struct belt_elected belt_elect_by_class(
+    uint8_t set, uint8_t flag, const uint32_t *words, size_t word_count, const uint8_t *classes, size_t class_count);
 
 /* One number on the grid ('Grid').
    In: type 0 to 3, flag, slot 0 to 5 and any number. Out: the codable number nearest to it.
@@ -396,10 +430,12 @@ struct belt_price belt_frame_price(
    from the settings' start on. The header buffer needs BELT_HEADER_BYTES, whatever the start, the blocks'
    belt_block_bytes of the samples in BELT_FORM_2. A header read from there is the report's models, and by
    belt_read_both the blocks read as the words and the classes.
-   A job that trims fits as belt_quantize_trimmed does; its score takes all samples. Its type's least number of
-   samples, 4, 6 or 8, is judged by the sides (15). A job that elects has type, model and score of belt_elect; the type
-   stands among the report's, and settings.type isn't looked at. It isn't refused with 15 or 6.
-   Refuses: 1, 2, 4, 5, 14, 7, 8, 3, 15, 17, 6, 16, and 6 of a second fit. After 6 and 16 the half planes and the words
+   Fit, score and election go by settings.set, as the calls by class do; blocks hold every sample, named or not.
+   A job that trims fits as belt_quantize_trimmed_by_class does; its score takes all samples that are named. Its type's
+   least number of them, 4, 6 or 8, is judged by the classes before the search (15). A job that elects has type, model and
+   score of belt_elect_by_class; the type stands among the report's, and settings.type isn't looked at. It isn't refused
+   with 15 or 6.
+   Refuses: 1, 2, 4, 19, 5, 14, 7, 8, 3, 15, 17, 6, 16, and 6 of a second fit. After 6 and 16 the half planes and the words
    are in their buffers, and blocks and header are as they were. */
 struct belt_report belt_job(
     const uint16_t *input, size_t input_pels,

@@ -1,8 +1,8 @@
 /* Jobs of the three types on frames that this program computes: it prints each report and the header in
    hexadecimal, reads header and blocks back and compares, does the same work by the single calls, says what the
-   motion is in pels, and prints the text of a block. Then it trims loose film away, has types elected, shows a pan beyond
-   the search's range, and tries a refusal of each call. Ends with 1 where a call refuses or something differs. It is C99,
-   and C++11. */
+   motion is in pels, and prints the text of a block. Then it trims loose film away, has types elected, fits the belt
+   without the film, shows a pan beyond the search's range, and tries a refusal of each call. Ends with 1 where a call
+   refuses or something differs. It is C99, and C++11. */
 #include <stdio.h>
 #include <stdlib.h>
 #include <string.h>
@@ -279,6 +279,85 @@ static void electing(struct belt_settings settings) {
     }
 }
 
+/* Film over the last column of blocks flutters on its own. A job that names every class but film has the belt's motion
+   and the score of the rest, and still stores every sample; the calls by class have the same model and score. */
+static void without_film(struct belt_settings settings) {
+    draw(4, -2);
+    for (size_t y = 0; y < HEIGHT; y++)
+        for (size_t x = WIDTH - BELT_BLOCK_SIDE; x < WIDTH; x++)
+            input[y * WIDTH + x] = reference[held(y, -8, HEIGHT) * WIDTH + held(x, -6, WIDTH)];
+    struct belt_report all = run(settings, PELS);
+    refused("belt_job", all.refusal);
+    print_motion(own_model(&all, settings), all.samples);
+    settings.set = BELT_ALL_CLASSES & ~(1 << BELT_FILM);
+    struct belt_report report = run(settings, PELS);
+    refused("belt_job", report.refusal);
+    const struct belt_model own = own_model(&report, settings);
+    print_motion(own, report.samples);
+    printf("scores with and without film: %.6f, %.6f\n", all.score, report.score);
+    read_back(&report, settings);
+
+    const uint8_t set = settings.set, type = settings.type, flag = settings.flag;
+    struct belt_fit_answer fitted = belt_fit_by_class(set, type, words, SAMPLES, classes, SAMPLES);
+    refused("belt_fit_by_class", fitted.refusal);
+    struct belt_quantized_model model =
+        belt_quantize_by_class(set, type, fitted.numbers, flag, words, SAMPLES, classes, SAMPLES);
+    refused("belt_quantize_by_class", model.refusal);
+    struct belt_score score = belt_score_by_class(set, &own, words, SAMPLES, classes, SAMPLES);
+    refused("belt_score_by_class", score.refusal);
+    same(memcmp(&model.model, &own, sizeof own) == 0 && memcmp(&score.score, &report.score, sizeof score.score) == 0,
+         "model and score by class");
+    struct belt_trimmed trimmed = belt_fit_trimmed_by_class(set, type, words, SAMPLES, classes, SAMPLES);
+    refused("belt_fit_trimmed_by_class", trimmed.refusal);
+    struct belt_trimmed_model trimmed_model =
+        belt_quantize_trimmed_by_class(set, type, flag, words, SAMPLES, classes, SAMPLES);
+    refused("belt_quantize_trimmed_by_class", trimmed_model.refusal);
+    struct belt_elected elected = belt_elect_by_class(set, flag, words, SAMPLES, classes, SAMPLES);
+    refused("belt_elect_by_class", elected.refusal);
+    const struct belt_model winner = belt_x_first(elected.type, elected.model);
+    same(trimmed.used == 16 && memcmp(trimmed.numbers, fitted.numbers, sizeof fitted.numbers) == 0 &&
+             trimmed_model.used == 16 && memcmp(&trimmed_model.model, &own, sizeof own) == 0 && elected.type == type &&
+             memcmp(&winner, &own, sizeof own) == 0,
+         "trimmed fit, its model and the election by class");
+}
+
+/* Four blocks of fibre that move by 10 pels to the right and four of film that move by 5 up, by each set ('Sets of
+   classes'). The words' class bits play no part. */
+static void sets(void) {
+    static const uint8_t named[] = {1 << BELT_FIBRE, 1 << BELT_FILM, 1 << BELT_FIBRE | 1 << BELT_FILM, BELT_ALL_CLASSES};
+    static const double wanted[4][2] = {{10.0, 0.0}, {0.0, -5.0}, {5.0, -2.5}, {5.0, -2.5}};
+    static const double energies[4] = {100.0, 25.0, 62.5, 62.5};
+    static const int32_t elections[4][2] = {{0, 655360}, {-327680, 0}, {0, 0}, {0, 0}};
+    const struct belt_model still = {BELT_IDENTITY_PARAMS};
+    uint32_t eight[8];
+    uint8_t lying[8];
+    int right = 1;
+    for (uint32_t i = 0; i < 8; i++) {
+        const uint32_t v = i < 4 ? 0 : 40, u = i < 4 ? 80 : 0;
+        eight[i] = i / 4 << 26 | i % 4 << 20 | (223 - v) << 11 | (223 + u) << 2 | 3;
+        lying[i] = i < 4 ? BELT_FIBRE : BELT_FILM;
+    }
+    for (int i = 0; i < 4; i++) {
+        struct belt_fit_answer fitted = belt_fit_by_class(named[i], BELT_TRANSLATION, eight, 8, lying, 8);
+        struct belt_score energy = belt_score_by_class(named[i], &still, eight, 8, lying, 8);
+        struct belt_elected elected = belt_elect_by_class(named[i], 1, eight, 8, lying, 8);
+        right = right && fitted.refusal == BELT_ACCEPTED && memcmp(fitted.numbers, wanted[i], sizeof wanted[i]) == 0 &&
+                energy.refusal == BELT_ACCEPTED && memcmp(&energy.score, &energies[i], sizeof energies[i]) == 0 &&
+                elected.refusal == BELT_ACCEPTED && memcmp(elected.model.params, elections[i], sizeof elections[i]) == 0;
+    }
+    same(right, "fits, energies and elections by class");
+    struct belt_fit_answer none = belt_fit_by_class(1 << BELT_METAL, BELT_TRANSLATION, eight, 8, lying, 8);
+    same(none.refusal == BELT_ACCEPTED && isnan(none.numbers[0]) && isnan(none.numbers[1]), "a fit of no metal");
+    wants("a set that is left 0", belt_fit_by_class(0, BELT_TRANSLATION, eight, 8, lying, 8).refusal, BELT_NO_CLASS);
+    wants("a set that names class 5", belt_score_by_class(1 << 5, &still, eight, 8, lying, 8).refusal, BELT_NO_SUCH_CODE);
+    wants("an empty set and type 0", belt_fit_by_class(0, 0, eight, 8, lying, 8).refusal, BELT_NO_SUCH_CODE);
+    wants("an empty set and 7 classes", belt_elect_by_class(0, 1, eight, 8, lying, 7).refusal, BELT_WRONG_LENGTH);
+    wants("a rotation-zoom of four of fibre after trimming",
+          belt_fit_trimmed_by_class(1 << BELT_FIBRE, BELT_ROTZOOM, eight, 8, lying, 8).refusal, BELT_TOO_FEW);
+    wants("a rotation-zoom of no metal", belt_fit_by_class(1 << BELT_METAL, BELT_ROTZOOM, eight, 8, lying, 8).refusal,
+          BELT_SINGULAR);
+}
+
 /* A pan by 40 columns is beyond the range: no row refuses it, but few samples agree. */
 static void too_far(struct belt_settings settings) {
     draw(0, 40);
@@ -308,6 +387,11 @@ static void refusals(struct belt_settings settings) {
     wants("an electing job with trim code 2 on frame 0", run(settings, PELS).refusal, BELT_SHUTTER_CLOSED);
     settings.elect = 2;
     wants("a job with elect code 2", run(settings, PELS).refusal, BELT_NO_SUCH_CODE);
+    settings.elect = BELT_ELECT;
+    settings.set = 0;
+    wants("a job whose set is left 0", run(settings, PELS).refusal, BELT_NO_CLASS);
+    settings.set = BELT_ALL_CLASSES + 1;
+    wants("a job whose set names class 5", run(settings, PELS).refusal, BELT_NO_SUCH_CODE);
     wants("an affine model of 7 words after trimming", belt_fit_trimmed(BELT_AFFINE, words, 7).refusal, BELT_TOO_FEW);
     wants("a search of a plane 1,025 wide",
           belt_collect_motion_samples(input, PELS, reference, PELS, 1025, HEIGHT, classes, SAMPLES, input_half, HALF,
@@ -396,7 +480,7 @@ int main(void) {
     draw(4, -2);
     for (uint8_t type = BELT_TRANSLATION; type <= BELT_AFFINE; type++) {
         const struct belt_settings settings = {
-            5, type, 2, BELT_HIGH_PRECISION, BELT_ALL_SAMPLES, BELT_ASKED_TYPE, (size_t)(2 * type)};
+            5, type, 2, BELT_HIGH_PRECISION, BELT_ALL_SAMPLES, BELT_ASKED_TYPE, BELT_ALL_CLASSES, (size_t)(2 * type)};
         struct belt_report report = run(settings, PELS);
         refused("belt_job", report.refusal);
         print_report(&report, settings);
@@ -409,9 +493,11 @@ int main(void) {
         printf("class %d: %s\n", class_code, belt_class_text(class_code));
     conversions();
     const struct belt_settings settings = {
-        5, BELT_TRANSLATION, 2, BELT_HIGH_PRECISION, BELT_ALL_SAMPLES, BELT_ASKED_TYPE, 0};
+        5, BELT_TRANSLATION, 2, BELT_HIGH_PRECISION, BELT_ALL_SAMPLES, BELT_ASKED_TYPE, BELT_ALL_CLASSES, 0};
     trimming(settings);
     electing(settings);
+    without_film(settings);
+    sets();
     too_far(settings);
     refusals(settings);
     roots();

@@ -37,7 +37,7 @@ static uint32_t refusal;
 static void nothing(void) { refusal = BELT_ACCEPTED; }
 
 static void job(uint8_t trim, uint8_t elect) {
-    struct belt_settings settings = {1, BELT_AFFINE, 1, BELT_HIGH_PRECISION, trim, elect, 0};
+    struct belt_settings settings = {1, BELT_AFFINE, 1, BELT_HIGH_PRECISION, trim, elect, BELT_ALL_CLASSES, 0};
     refusal = belt_job(input, PELS, reference, PELS, WIDTH, HEIGHT, settings, classes, SAMPLES, other_types,
                        BELT_OTHER_TYPES, prior, BELT_OTHER_NUMBERS, prior, BELT_NUMBERS, input_half, HALF, ref_half,
                        HALF, words, SAMPLES, blocks, BLOCKS, header, BELT_HEADER_BYTES)
@@ -52,6 +52,15 @@ static void quantize_trimmed(void) {
     refusal = belt_quantize_trimmed(BELT_AFFINE, BELT_HIGH_PRECISION, words, SAMPLES).refusal;
 }
 static void elect(void) { refusal = belt_elect(BELT_HIGH_PRECISION, words, SAMPLES).refusal; }
+static void fit_by_class(void) {
+    refusal = belt_fit_by_class(BELT_ALL_CLASSES, BELT_AFFINE, words, SAMPLES, classes, SAMPLES).refusal;
+}
+static void fit_trimmed_by_class(void) {
+    refusal = belt_fit_trimmed_by_class(BELT_ALL_CLASSES, BELT_AFFINE, words, SAMPLES, classes, SAMPLES).refusal;
+}
+static void elect_by_class(void) {
+    refusal = belt_elect_by_class(BELT_ALL_CLASSES, BELT_HIGH_PRECISION, words, SAMPLES, classes, SAMPLES).refusal;
+}
 static void fit_trimmed_samples(void) {
     refusal = belt_fit_trimmed_samples(samples, SAMPLES, BELT_AFFINE).refusal;
 }
@@ -68,6 +77,9 @@ static const struct {
     {"belt_fit_trimmed", fit_trimmed, 60},
     {"belt_quantize_trimmed", quantize_trimmed, 60},
     {"belt_elect", elect, 60},
+    {"belt_fit_by_class", fit_by_class, 20},
+    {"belt_fit_trimmed_by_class", fit_trimmed_by_class, 70},
+    {"belt_elect_by_class", elect_by_class, 70},
     {"belt_fit_trimmed_samples", fit_trimmed_samples, 170},
     {"belt_elect_samples", elect_samples, 170},
 };

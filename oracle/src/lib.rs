@@ -108,6 +108,12 @@ impl Samples {
         Self(global_motion::samples(words.iter().map(|&word| sample_of(word))))
     }
 
+    /// Those of the words whose class is a bit of the set; classes are 0 to 4.
+    pub fn named(set: u8, words: &[u32], classes: &[u8]) -> Self {
+        let named = words.iter().zip(classes).filter(|&(_, &class)| set >> class & 1 == 1);
+        Self(global_motion::samples(named.map(|(&word, _)| sample_of(word))))
+    }
+
     pub fn fit(&self, kind: u8) -> Option<[f64; 6]> {
         assert_ne!(kind, 0, "IDENTITY has no fit");
         global_motion::fit(type_of(kind), &self.0).map(|m| m.map(canonical))

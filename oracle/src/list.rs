@@ -68,6 +68,15 @@ impl Lcg {
     }
 }
 
+/// A sum of pels that depends on their order.
+pub fn sum(pels: &[u16]) -> u32 {
+    pels.iter().fold(1, |sum: u32, &pel| {
+        let mut state = Lcg(sum.wrapping_add(u32::from(pel)));
+        state.step();
+        state.0
+    })
+}
+
 /// A list being made: big-endian 32-bit words.
 #[derive(Default)]
 pub struct List(Vec<u8>);

@@ -9,6 +9,8 @@ can't be lent.
     words                   32-bit unsigned ('I', uint32)
     classes, types, bytes   8-bit unsigned ('B', uint8)
 
+A set of classes is its classes, in anything that can be gone through, or its bits as a number: class c is bit c.
+
 A call that refuses raises Refusal, with the row's number and text; what was lent is then as it was (job has one
 exception). A model is a Model (x first) or a StoredModel (as headers, priors and reports have it): two types, since
 their numbers don't tell them apart. The library keeps nothing between calls and may be called from many threads;
@@ -17,9 +19,10 @@ ctypes lets go of Python's lock during a call.
 
 import ctypes
 import math
+import operator
 from array import array
 from ctypes import c_double, c_int32, c_uint8, c_uint16, c_uint32
-from typing import NamedTuple, Tuple
+from typing import Iterable, NamedTuple, Tuple, Union
 
 from . import _raw
 
@@ -39,6 +42,7 @@ TEXT_BYTES = 4096
 IDENTITY, TRANSLATION, ROTZOOM, AFFINE = range(4)
 UNSORTED, FIBRE, RIGID_PLASTIC, METAL, FILM = range(5)
 CLASSES = ("unsorted", "fibre", "rigid plastic", "metal", "film")
+ALL_CLASSES = 31
 
 _ONE = 65536
 
@@ -47,7 +51,8 @@ REFUSALS = {
     1: "side over 1,024, or over 4,096 samples",
     18: "motion of a practice belt beyond 24 pels",
     2: "plane, class, type, model or prior list of wrong length",
-    4: "type, class, flag, trim or elect code out of range; type 0 for a fit",
+    4: "type, class, flag, trim or elect code out of range; set that names a class over 4; type 0 for a fit",
+    19: "empty set of classes",
     5: "slot over 5, or to price one that the type doesn't carry; reference outside 1 to 7",
     14: "start of a header to write over 7",
     7: "model off the grid, uncarried slot or pair wrong",
@@ -55,7 +60,7 @@ REFUSALS = {
     12: "words to store out of range or not rising",
     13: "class 4 to be stored in form 1",
     3: "output or working buffer too short",
-    15: "fewer samples than a trimmed fit needs",
+    15: "fewer samples, or fewer of the classes named, than a trimmed fit needs",
     17: "frame number 0: the shutter was closed",
     6: "elimination refuses",
     16: "residual of a trimmed fit not finite",
@@ -205,7 +210,8 @@ class TrimmedModel(NamedTuple):
 
 
 class Elected(NamedTuple):
-    """The elected type, 0 to 3, its StoredModel and the model's score over all samples ('Election')."""
+    """The elected type, 0 to 3, its StoredModel and the model's score over all samples, or all that a set names
+    ('Election')."""
 
     gm_type: int
     model: StoredModel
@@ -243,8 +249,8 @@ class Models(NamedTuple):
 
 class Settings(NamedTuple):
     """The frame's number, the type to fit (1 to 3), the reference of the model (1 to 7), the flag, the bit of the header's
-    first byte at which writing begins (0 to 7), 1 for a fit after trimming, and 1 for a job that elects its type: type and
-    trim code then aren't looked at."""
+    first byte at which writing begins (0 to 7), 1 for a fit after trimming, 1 for a job that elects its type: type and
+    trim code then aren't looked at; and the set of classes whose samples are fitted and scored, all five unless said."""
 
     frame: int
     gm_type: int
@@ -253,11 +259,12 @@ class Settings(NamedTuple):
     start: int = 0
     trim: int = 0
     elect: int = 0
+    set: Union[int, Iterable[int]] = ALL_CLASSES
 
 
 class Report(NamedTuple):
-    """Seven types, the job's own as asked for or elected, and models, the score in square pels, the header's bits, how many
-    samples there are."""
+    """Seven types, the job's own as asked for or elected, and models, the score in square pels, over the samples that the
+    job's set names, the header's bits, how many samples there are."""
 
     types: Tuple[int, ...]
     models: Tuple[StoredModel, ...]
@@ -334,6 +341,20 @@ def _code(value, name, most=255):
     if not 0 <= value <= most:
         raise ValueError(f"{name}: {value} isn't from 0 to {most}")
     return value
+
+
+def set_of(classes):
+    """The bits of a set: a number as it is, or class c as bit c. A class over 7 counts as 7, so that it is refused as every
+    one over 4 is."""
+    try:
+        return _code(operator.index(classes), "the set")
+    except TypeError:
+        bits = 0
+        for number in classes:
+            if number < 0:
+                raise ValueError(f"the set: {number} is no class") from None
+            bits |= 1 << min(number, 7)
+        return bits
 
 
 def _numbers(models, name):
@@ -439,6 +460,58 @@ def mean_sq_residual(model, words):
         raise TypeError(f"model: Model is wanted, not {type(model).__name__}")
     params = (c_int32 * 6)(*map(_signed, model))
     return _call("belt_mean_sq_residual", params, _list(words, c_uint32, "words")).score
+
+
+def _classed(words, classes):
+    """Words and a class for each."""
+    return _list(words, c_uint32, "words") + _list(classes, c_uint8, "classes")
+
+
+def fit_by_class(classes_named, gm_type, words, classes):
+    """The fit of a type, 1 to 3, by a set of classes ('Sets of classes'): of the words whose class is named, in their order.
+    Their class bits play no part. Refuses 1, 2, 4, 19, 6; 1, 2 and 4 judge the whole list."""
+    codes = set_of(classes_named), _code(gm_type, "gm_type")
+    answer = _call("belt_fit_by_class", *codes, _classed(words, classes))
+    return Fitted(gm_type, tuple(answer.numbers))
+
+
+def quantize_by_class(classes_named, fitted, flag, words, classes):
+    """As quantize_model, by a set of classes: the translation is fitted again to the words named. Refuses 1, 2, 4, 19."""
+    codes = set_of(classes_named), _code(fitted.gm_type, "gm_type")
+    numbers = (c_double * 6)(*fitted.numbers)
+    return Model(
+        _call("belt_quantize_by_class", *codes, numbers, _code(flag, "flag"), _classed(words, classes)).params
+    )
+
+
+def score_by_class(classes_named, model, words, classes):
+    """As mean_sq_residual, by a set of classes: over the words named, 0.0 for none. Refuses 1, 2, 4, 19."""
+    if not isinstance(model, Model):
+        raise TypeError(f"model: Model is wanted, not {type(model).__name__}")
+    params = (c_int32 * 6)(*map(_signed, model))
+    return _call("belt_score_by_class", set_of(classes_named), params, _classed(words, classes)).score
+
+
+def fit_trimmed_by_class(classes_named, gm_type, words, classes):
+    """As fit_trimmed, by a set of classes: of the words named, and the least number is theirs. Refuses 1, 2, 4, 19, 15, 6,
+    16, and 6 of the second fit; never 16 with words."""
+    codes = set_of(classes_named), _code(gm_type, "gm_type")
+    answer = _call("belt_fit_trimmed_by_class", *codes, _classed(words, classes))
+    return Trimmed(Fitted(gm_type, tuple(answer.numbers)), answer.used)
+
+
+def quantize_trimmed_by_class(classes_named, gm_type, flag, words, classes):
+    """The same on the grid of a flag, its translation fitted again to the samples used: a TrimmedModel."""
+    codes = set_of(classes_named), _code(gm_type, "gm_type"), _code(flag, "flag")
+    answer = _call("belt_quantize_trimmed_by_class", *codes, _classed(words, classes))
+    return TrimmedModel(Model(answer.params), answer.used)
+
+
+def elect_by_class(classes_named, flag, words, classes):
+    """As elect, by a set of classes: among the words named, whose energy and score it takes; the identity for fewer than 4
+    of them. Refuses 1, 2, 4, 19, 16; never 16 with words."""
+    codes = set_of(classes_named), _code(flag, "flag")
+    return _elected(_call("belt_elect_by_class", *codes, _classed(words, classes)))
 
 
 def _samples(samples):
@@ -626,9 +699,11 @@ def job(input_y, reference, width, height, settings, classes, buffers, types=(0,
     """Runs a whole job ('Job'): search, fit, grid, score, blocks and header, into a Buffers or anything with its five
     fields; answers a Report. The six other references are identities unless types and StoredModels are given.
 
-    Refuses 1, 2, 4, 5, 14, 7, 8, 3, 15, 17, 6, 16, and 6 of a second fit. After 6 and 16 the half planes and the words are
-    in their buffers; blocks and header are as they were. A job that elects has type, model and score of elect over its
-    words, and isn't refused with 15 or 6.
+    Fit, score and election go by the set of the settings; blocks hold every sample.
+
+    Refuses 1, 2, 4, 19, 5, 14, 7, 8, 3, 15, 17, 6, 16, and 6 of a second fit. After 6 and 16 the half planes and the words
+    are in their buffers; blocks and header are as they were. A job that elects has type, model and score of elect_by_class
+    over its words, and isn't refused with 15 or 6.
     """
     frame = _code(settings.frame, "frame", 65535)
     codes = [_code(code, name) for code, name in zip(settings[1:4], ("gm_type", "reference", "flag"))]
@@ -640,7 +715,7 @@ def job(input_y, reference, width, height, settings, classes, buffers, types=(0,
         _list(reference, c_uint16, "reference"),
         width,
         height,
-        _raw.Settings(frame, *codes, trim, elected, start),
+        _raw.Settings(frame, *codes, trim, elected, set_of(settings.set), start),
         _list(classes, c_uint8, "classes"),
         _list(types, c_uint8, "types"),
         _numbers(IDENTITIES[:6] if models is None else models, "models"),

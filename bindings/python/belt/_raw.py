@@ -109,6 +109,7 @@ class Settings(ctypes.Structure):
         ("flag", c_uint8),
         ("trim", c_uint8),
         ("elect", c_uint8),
+        ("set", c_uint8),
         ("start", c_size_t),
     ]
 
@@ -146,6 +147,15 @@ CALLS = {
     "belt_elect": ([c_uint8] + _WORDS, Elected),
     "belt_quantize_model": ([c_uint8, POINTER(c_double * 6), c_uint8] + _WORDS, QuantizedModel),
     "belt_mean_sq_residual": ([POINTER(c_int32 * 6)] + _WORDS, Score),
+    "belt_fit_by_class": ([c_uint8, c_uint8] + _WORDS + _BYTES, FitAnswer),
+    "belt_quantize_by_class": (
+        [c_uint8, c_uint8, POINTER(c_double * 6), c_uint8] + _WORDS + _BYTES,
+        QuantizedModel,
+    ),
+    "belt_score_by_class": ([c_uint8, POINTER(c_int32 * 6)] + _WORDS + _BYTES, Score),
+    "belt_fit_trimmed_by_class": ([c_uint8, c_uint8] + _WORDS + _BYTES, Trimmed),
+    "belt_quantize_trimmed_by_class": ([c_uint8, c_uint8, c_uint8] + _WORDS + _BYTES, TrimmedModel),
+    "belt_elect_by_class": ([c_uint8, c_uint8] + _WORDS + _BYTES, Elected),
     "belt_fit_translation_samples": (_SAMPLES, FitAnswer),
     "belt_fit_rotzoom_samples": (_SAMPLES, FitAnswer),
     "belt_fit_affine_samples": (_SAMPLES, FitAnswer),

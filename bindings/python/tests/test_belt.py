@@ -272,6 +272,104 @@ class Elections(unittest.TestCase):
             self.assertEqual(report, ((0,) * 7, IDENTITIES, energy, 7, samples))
 
 
+class Sets(unittest.TestCase):
+    # four blocks of fibre that move by 10 pels to the right, and four of film that move by 5 up
+    WORDS = [column << 20 | 223 << 11 | 303 << 2 for column in range(4)]
+    WORDS += [1 << 26 | column << 20 | 183 << 11 | 223 << 2 for column in range(4)]
+    CLASSES = bytes([belt.FIBRE] * 4 + [belt.FILM] * 4)
+
+    def test_fibre_and_film(self):
+        for class_bits in (0, 3):
+            words, classes = [word | class_bits for word in self.WORDS], self.CLASSES
+            for named, motion, energy, stored, count in [
+                ([belt.FIBRE], (10.0, 0.0), 100.0, (0, 655360), 4),
+                ((belt.FILM,), (0.0, -5.0), 25.0, (-327680, 0), 4),
+                ({belt.FIBRE, belt.FILM}, (5.0, -2.5), 62.5, (0, 0), 8),
+                (belt.ALL_CLASSES, (5.0, -2.5), 62.5, (0, 0), 8),
+                (range(5), (5.0, -2.5), 62.5, (0, 0), 8),
+            ]:
+                with self.subTest(named=named, class_bits=class_bits):
+                    fitted = belt.fit_by_class(named, 1, words, classes)
+                    self.assertEqual(fitted, belt.Fitted(1, motion + (0.0,) * 4))
+                    model = belt.quantize_by_class(named, fitted, 1, words, classes)
+                    self.assertEqual(model.shift, motion)
+                    self.assertEqual(belt.score_by_class(named, Model(belt.STILL), words, classes), energy)
+                    self.assertEqual(belt.fit_trimmed_by_class(named, 1, words, classes), (fitted, count))
+                    self.assertEqual(belt.quantize_trimmed_by_class(named, 1, 1, words, classes), (model, count))
+                    elected = belt.elect_by_class(named, 1, words, classes)
+                    self.assertEqual((elected.gm_type, elected.model[:2]), (int(any(stored)), stored))
+                    self.assertEqual(elected.score, 0.0 if any(stored) else energy)
+
+    def test_a_class_without_samples(self):
+        named = [belt.METAL]
+        fitted = belt.fit_by_class(named, 1, self.WORDS, self.CLASSES)
+        self.assertTrue(all(number != number for number in fitted.numbers[:2]))
+        self.assertEqual(belt.quantize_by_class(named, fitted, 1, self.WORDS, self.CLASSES), Model(belt.STILL))
+        self.assertEqual(belt.score_by_class(named, Model(range(6)), self.WORDS, self.CLASSES), 0.0)
+        self.assertEqual(belt.elect_by_class(named, 1, self.WORDS, self.CLASSES), (0, StoredModel(belt.STILL), 0.0))
+
+    def test_bits(self):
+        self.assertEqual([belt.set_of(named) for named in ((), [4, 1, 4], b"\x00\x03", 255)], [0, 18, 9, 255])
+        self.assertEqual([belt.set_of([number]) for number in (5, 7, 8, 200, 10**9)], [32, 128, 128, 128, 128])
+        for named in (-1, 256, [-1]):
+            with self.assertRaises(ValueError):
+                belt.set_of(named)
+
+    def job(self, place, named, gm_type=0, trim=0, elect=1):
+        settings = Settings(5, gm_type, 7, 1, 5, trim, elect, named)
+        buffers = Guarded(64, 64)
+        buffers.header[:] = array("B", b"\xff" * belt.HEADER_BYTES)
+        guards = buffers.guards()
+        arguments = task(64, 64, input_y=bowl(place), reference=bowl(), settings=settings)
+        report = belt.job(buffers=buffers, **arguments)
+        self.assertEqual(buffers.guards(), guards)
+        words, classes = array("I", [0] * 16), bytearray(16)
+        self.assertEqual(belt.read_both(buffers.blocks, words, classes), (5, 16))
+        self.assertEqual((words.tolist(), classes), (buffers.words.tolist(), arguments["classes"]))
+        return report, buffers
+
+    def test_bowls(self):
+        three = (belt.UNSORTED, belt.FIBRE, belt.FILM)
+        for place, named, gm_type, model, score, bits in [
+            (
+                lambda r, c: (r + r // 16, c + c // 16),
+                three,
+                belt.ROTZOOM,
+                (-29696, -31744, 69644, -38, 38, 69644),
+                "0x1.46e6ce6666666p-10",
+                57,
+            ),
+            (
+                lambda r, c: (r, c + r // 8),
+                three,
+                belt.AFFINE,
+                (9216, -86016, 64810, 7296, 4182, 64256),
+                "0x1.4119e0d866666p+0",
+                109,
+            ),
+            (lambda r, c: (r + 2, c - 3), [belt.RIGID_PLASTIC], 0, belt.STILL, "0x1.9ad5555555555p+3", 7),
+        ]:
+            with self.subTest(elected=gm_type):
+                report, buffers = self.job(place, named)
+                self.assertEqual((report.types[6], report.models[6]), (gm_type, StoredModel(model)))
+                self.assertEqual((report.score, report.bits), (float.fromhex(score), bits))
+                classes = bytes(i % 5 for i in range(16))
+                elected = belt.elect_by_class(named, 1, buffers.words, classes)
+                self.assertEqual(elected, (gm_type, report.models[6], report.score))
+        self.assertEqual(bytes(buffers.header[:2]) + bytes(buffers.blocks[508:]), bytes.fromhex("F8005BAFD427"))
+
+    def test_all_five(self):
+        for gm_type, trim, elect in [(1, 0, 0), (2, 1, 0), (3, 0, 0), (0, 0, 1)]:
+            by_default = Settings(5, gm_type, 7, 1, 5, trim, elect)
+            reports = []
+            for settings in (by_default, by_default._replace(set=range(5)), by_default._replace(set=31)):
+                buffers = Guarded(64, 64)
+                place = lambda r, c: (r + r // 16, c + c // 16)  # noqa: E731
+                arguments = task(64, 64, input_y=bowl(place), reference=bowl(), settings=settings)
+                reports.append((belt.job(buffers=buffers, **arguments), buffers.state()))
+            self.assertEqual(reports[1:], reports[:1] * 2)
+
+
 class Refused(unittest.TestCase):
     def refused(self, number, call, *arguments, **named):
         with self.assertRaises(Refusal) as caught:
@@ -282,7 +380,7 @@ class Refused(unittest.TestCase):
 
 class Refusals(Refused):
     def test_the_table(self):
-        self.assertEqual(list(belt.REFUSALS), [1, 18, 2, 4, 5, 14, 7, 8, 12, 13, 3, 15, 17, 6, 16, 9, 10, 11])
+        self.assertEqual(list(belt.REFUSALS), [1, 18, 2, 4, 19, 5, 14, 7, 8, 12, 13, 3, 15, 17, 6, 16, 9, 10, 11])
         rules = (Path(__file__).resolve().parents[3] / "docs" / "RULES.md").read_text(encoding="utf-8")
         for number, text in belt.REFUSALS.items():
             self.assertIn(f"| {number} | {text} |", rules)
@@ -310,6 +408,11 @@ class Refusals(Refused):
             (4, dict(settings=Settings(1, 1, 1, 1, trim=2))),
             (4, dict(settings=Settings(1, 1, 1, 1, elect=2))),
             (4, dict(settings=Settings(1, 1, 1, 2, elect=1))),
+            (4, dict(settings=Settings(1, 1, 1, 1, set=[belt.FIBRE, 5]))),
+            (4, dict(settings=Settings(1, 1, 1, 1, set=[200]))),
+            (4, dict(settings=Settings(1, 1, 0, 1, set=32))),
+            (19, dict(settings=Settings(1, 1, 0, 1, set=0))),
+            (19, dict(settings=Settings(1, 1, 1, 1, 8, elect=1, set=()))),
             (4, dict(types=bytes([0, 0, 0, 0, 0, 4]))),
             (5, dict(settings=Settings(1, 1, 0, 1))),
             (5, dict(settings=Settings(1, 1, 8, 1))),
@@ -321,6 +424,7 @@ class Refusals(Refused):
             (8, dict(prior=IDENTITIES[:6] + (stored(1, -(2**31)),))),
             (15, dict(settings=Settings(1, 3, 1, 1, trim=1))),
             (15, dict(settings=Settings(0, 3, 1, 1, trim=1))),
+            (15, dict(settings=Settings(0, 1, 1, 1, trim=1, set=[belt.FILM]))),
             (17, dict(settings=Settings(0, 2, 1, 1, trim=1))),
             (17, dict(settings=Settings(0, 3, 1, 1, trim=1, elect=1))),
         ]
@@ -424,6 +528,47 @@ class Refusals(Refused):
         for far in (1e200, math.inf, math.nan):
             self.refused(16, belt.fit_trimmed_samples, 1, moving(far, 0, 0, 0))
             self.refused(16, belt.quantize_trimmed_samples, 1, 0, moving(far, 0, 0, 0))
+
+    def test_by_class(self):
+        def unmoved(gm_type):
+            return belt.Fitted(gm_type, (0.0, 0.0, 1.0, 0.0, 0.0, 1.0))
+
+        calls = {
+            "fit": lambda named, *lists: belt.fit_by_class(named, 1, *lists),
+            "quantize": lambda named, *lists: belt.quantize_by_class(named, unmoved(1), 1, *lists),
+            "score": lambda named, *lists: belt.score_by_class(named, Model(belt.STILL), *lists),
+            "fit_trimmed": lambda named, *lists: belt.fit_trimmed_by_class(named, 1, *lists),
+            "quantize_trimmed": lambda named, *lists: belt.quantize_trimmed_by_class(named, 1, 1, *lists),
+            "elect": lambda named, *lists: belt.elect_by_class(named, 1, *lists),
+        }
+        film = bytes([belt.FILM] * 9)
+        for name, call in calls.items():
+            with self.subTest(call=name):
+                self.refused(1, call, (), words(4097), film)
+                self.refused(2, call, (), words(9), film[1:])
+                self.refused(2, call, [9], words(8), film)
+                self.refused(4, call, (), words(9), film[1:] + b"\x05")
+                self.refused(4, call, [belt.FIBRE], words(9), film[1:] + b"\x05")
+                self.refused(4, call, [belt.FILM, 5], words(9), film)
+                self.refused(19, call, (), words(9), film)
+                self.refused(19, call, 0, [], b"")
+                call([belt.FILM], words(9), film)
+                call(belt.ALL_CLASSES, words(4096), bytes(4096))
+                if "trimmed" in name:
+                    self.refused(15, call, [belt.FIBRE], words(9), film)
+                else:
+                    call([belt.FIBRE], words(9), film)
+        for named in ((), belt.ALL_CLASSES):
+            self.refused(4, belt.fit_by_class, named, 0, words(9), film)
+            self.refused(4, belt.quantize_by_class, named, unmoved(3), 2, words(9), film)
+            self.refused(4, belt.fit_trimmed_by_class, named, 4, words(9), film)
+            self.refused(4, belt.quantize_trimmed_by_class, named, 3, 2, words(9), film)
+            self.refused(4, belt.elect_by_class, named, 2, words(9), film)
+        for gm_type in (2, 3):
+            self.refused(6, belt.fit_by_class, [belt.FIBRE], gm_type, words(9), film)
+        mixed = film[:4] + bytes([belt.FIBRE] * 5)
+        self.refused(15, belt.fit_trimmed_by_class, [belt.FILM], belt.ROTZOOM, words(9), mixed)
+        self.assertRaises(TypeError, belt.score_by_class, [belt.FILM], StoredModel(belt.STILL), words(9), film)
 
     def test_elections(self):
         def moving(*eighths):

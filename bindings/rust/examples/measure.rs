@@ -74,9 +74,8 @@ fn measure(input: &Picture, reference: &Picture, asked: u8) -> Result<(), Box<dy
             gm_type: asked,
             reference: REFERENCE,
             flag: 1,
-            trim: 0,
             elect: u8::from(asked == ELECT),
-            start: 0,
+            ..Settings::default()
         },
         classes: &vec![0; sample_count(width, height)],
         types: &[0; 6],

@@ -9,14 +9,15 @@
 //! A call that refuses answers with the table's row, a [`Refusal`], and leaves the lent slices as they were; the one
 //! exception is [`job`] with [`Refusal::Singular`] or [`Refusal::NotFinite`]. An accepted call writes only the part that
 //! it uses. The library keeps nothing between calls, so any number of threads may call it at once. A call that trims or
-//! elects takes about 52 kB of the thread's stack over words and 168 kB over samples; a job about 5 kB, 53 kB if it
-//! trims or elects. It expects the floating-point environment that a process begins with: rounding to nearest, traps off.
+//! elects takes about 53 kB of the thread's stack over words, 69 kB by a set of classes and 168 kB over samples; a job
+//! about 21 kB, 70 kB if it trims or elects. It expects the floating-point environment that a process begins with: rounding to nearest, traps off.
 //!
 //! Types are 0 identity, 1 translation, 2 rotation-zoom, 3 affine; classes are [`UNSORTED`], [`FIBRE`],
 //! [`RIGID_PLASTIC`], [`METAL`] and [`FILM`]; a flag is 1 for high precision, else 0. Codes are plain numbers, so that
 //! one that comes from outside is judged by the library. Classes stand beside the words, a byte each: the words of a
-//! search, a job and [`read_both`] have class bits zero. A model has one of two orders, each a type of its own: [`Model`], x first, is what fits,
-//! grid and score have; [`StoredModel`] is what headers, priors and reports have.
+//! search, a job and [`read_both`] have class bits zero. A [`ClassSet`] says which classes a fit takes. A model has one
+//! of two orders, each a type of its own: [`Model`], x first, is what fits, grid and score have; [`StoredModel`] is what
+//! headers, priors and reports have.
 //!
 //! A plane is at most 1,024 pels wide and high, and the search finds motion of at most 27.875 pels. What moved
 //! further isn't refused: [`Model::agreeing`] shows it.
@@ -34,7 +35,7 @@
 //!         reference: &reference,
 //!         width: 64,
 //!         height: 48,
-//!         settings: Settings { frame: 5, gm_type: 1, reference: 1, flag: 1, trim: 0, elect: 0, start: 0 },
+//!         settings: Settings { frame: 5, gm_type: 1, reference: 1, flag: 1, ..Settings::default() },
 //!         classes: &[0; 12],
 //!         types: &[0; 6],
 //!         models: &IDENTITIES[..6],
@@ -52,11 +53,13 @@
 #![deny(unsafe_code)]
 #![deny(missing_docs)]
 
+mod class_set;
 mod model;
 #[allow(unsafe_code)]
 mod raw;
 mod refusal;
 
+pub use class_set::ClassSet;
 pub use model::{IDENTITIES, Model, Motion, MotionSample, Sample, StoredModel};
 pub use raw::TEXT_BYTES;
 pub use refusal::{Length, Refusal};
@@ -150,7 +153,10 @@ pub struct Models {
 }
 
 /// What a job is told beside its planes and lists.
-#[derive(Clone, Copy, Debug, PartialEq, Eq)]
+///
+/// By default it fits and scores every class, neither trims nor elects, takes low precision and writes from bit 0 on.
+/// There is no default for frame number, type and reference: 0 stands there, which a job refuses.
+#[derive(Clone, Copy, Debug, Default, PartialEq, Eq)]
 pub struct Settings {
     /// The frame's number, which each block carries.
     pub frame: u16,
@@ -164,6 +170,8 @@ pub struct Settings {
     pub trim: u8,
     /// 1 for a job that elects its type, else 0. Type and trim code then aren't looked at.
     pub elect: u8,
+    /// The classes whose samples are fitted, scored or elected among. Blocks hold every sample.
+    pub set: ClassSet,
     /// The bit of the header's first byte at which writing begins, 0 to 7.
     pub start: usize,
 }
@@ -179,7 +187,7 @@ pub struct Task<'a> {
     pub width: usize,
     /// The sides of both, in pels, at most [`MOST_SIDE`].
     pub height: usize,
-    /// Frame number, type, reference, flag, trim code, elect code and start.
+    /// Frame number, type, reference, flag, trim code, elect code, set of classes and start.
     pub settings: Settings,
     /// A class for each whole 16×16 block: [`sample_count`] of them.
     pub classes: &'a [u8],
@@ -213,7 +221,7 @@ pub struct Report {
     pub types: [u8; 7],
     /// The models of references 1 to 7.
     pub models: [StoredModel; 7],
-    /// The mean squared residual of the job's own model, in square pels.
+    /// The mean squared residual of the job's own model over the samples of the classes that it names, in square pels.
     pub score: f64,
     /// The bits of the header.
     pub bits: usize,
@@ -511,6 +519,103 @@ pub fn quantize_model(fitted: &Fitted, flag: u8, words: &[u32]) -> Result<Model,
 pub fn mean_sq_residual(model: &Model, words: &[u32]) -> Result<f64, Refusal> {
     let answer = raw::mean_sq_residual(&model.0, words);
     judged(answer.refusal, answer.score)
+}
+
+/// An answer of a call by class, where row 2 says which list is wrong.
+fn of_classes<T>(answer: Result<T, Refusal>, words: &[u32], classes: &[u8]) -> Result<T, Refusal> {
+    answer.map_err(|row| match row {
+        Refusal::WrongLength(_) => Refusal::WrongLength(Length::of("classes", classes, words.len())),
+        row => row,
+    })
+}
+
+/// The fit of a type, 1 to 3, by a set of classes ('Sets of classes'): of the words whose class is named, in their order.
+/// `classes` has a class for each word; the words' own class bits play no part. Naming all five is the fit of every word.
+///
+/// # Errors
+///
+/// [`Refusal::TooLarge`], [`Refusal::WrongLength`], [`Refusal::NoSuchCode`], [`Refusal::NoClass`], [`Refusal::Singular`].
+/// The first three judge the whole list.
+///
+/// ```
+/// use belt::{ClassSet, FIBRE, FILM};
+///
+/// // four blocks of fibre that move by ten pels to the right, and four of film by five pels up
+/// let fibre = [0, 1, 2, 3].map(|column: u32| column << 20 | 223 << 11 | 303 << 2);
+/// let film = [0, 1, 2, 3].map(|column: u32| 1 << 26 | column << 20 | 183 << 11 | 223 << 2);
+/// let (words, classes) = ([fibre, film].concat(), [[FIBRE; 4], [FILM; 4]].concat());
+/// let fit = |set| belt::fit_by_class(set, 1, &words, &classes).map(|fitted| fitted.numbers[..2].to_vec());
+/// assert_eq!(fit(ClassSet::of(&[FIBRE])), Ok(vec![10.0, 0.0]));
+/// assert_eq!(fit(ClassSet::of(&[FILM])), Ok(vec![0.0, -5.0]));
+/// assert_eq!(fit(ClassSet::ALL), Ok(vec![5.0, -2.5]));
+/// assert_eq!(fit(ClassSet::of(&[])), Err(belt::Refusal::NoClass));
+/// assert_eq!(fit(ClassSet::of(&[FIBRE, 5])), Err(belt::Refusal::NoSuchCode));
+/// ```
+pub fn fit_by_class(set: ClassSet, gm_type: u8, words: &[u32], classes: &[u8]) -> Result<Fitted, Refusal> {
+    of_classes(fitted(gm_type, raw::fit_by_class(set.bits(), gm_type, words, classes)), words, classes)
+}
+
+/// As [`quantize_model`], by a set of classes ('Sets of classes'): the translation is fitted again to the words named.
+///
+/// # Errors
+///
+/// [`Refusal::TooLarge`], [`Refusal::WrongLength`], [`Refusal::NoSuchCode`], [`Refusal::NoClass`].
+pub fn quantize_by_class(
+    set: ClassSet,
+    fitted: &Fitted,
+    flag: u8,
+    words: &[u32],
+    classes: &[u8],
+) -> Result<Model, Refusal> {
+    let answer = raw::quantize_by_class(set.bits(), fitted.gm_type, &fitted.numbers, flag, words, classes);
+    of_classes(judged(answer.refusal, answer.params), words, classes)
+}
+
+/// As [`mean_sq_residual`], by a set of classes ('Sets of classes'): over the words named; 0.0 for none.
+///
+/// # Errors
+///
+/// [`Refusal::TooLarge`], [`Refusal::WrongLength`], [`Refusal::NoSuchCode`], [`Refusal::NoClass`].
+pub fn score_by_class(set: ClassSet, model: &Model, words: &[u32], classes: &[u8]) -> Result<f64, Refusal> {
+    let answer = raw::score_by_class(set.bits(), &model.0, words, classes);
+    of_classes(judged(answer.refusal, answer.score), words, classes)
+}
+
+/// As [`fit_trimmed`], by a set of classes ('Sets of classes'): of the words named, and the least number is theirs.
+///
+/// # Errors
+///
+/// [`Refusal::TooLarge`], [`Refusal::WrongLength`], [`Refusal::NoSuchCode`], [`Refusal::NoClass`], [`Refusal::TooFew`],
+/// [`Refusal::Singular`] of either fit, [`Refusal::NotFinite`], of which no case with words is known.
+pub fn fit_trimmed_by_class(set: ClassSet, gm_type: u8, words: &[u32], classes: &[u8]) -> Result<Trimmed, Refusal> {
+    of_classes(trimmed(gm_type, raw::fit_trimmed_by_class(set.bits(), gm_type, words, classes)), words, classes)
+}
+
+/// The same on the grid of a flag.
+///
+/// # Errors
+///
+/// As [`fit_trimmed_by_class`]; the flag is judged with the type.
+pub fn quantize_trimmed_by_class(
+    set: ClassSet,
+    gm_type: u8,
+    flag: u8,
+    words: &[u32],
+    classes: &[u8],
+) -> Result<TrimmedModel, Refusal> {
+    let answer = raw::quantize_trimmed_by_class(set.bits(), gm_type, flag, words, classes);
+    of_classes(trimmed_model(answer), words, classes)
+}
+
+/// As [`elect`], by a set of classes ('Sets of classes'): among the words named, whose energy and score it takes. The
+/// identity for fewer than 4 of them.
+///
+/// # Errors
+///
+/// [`Refusal::TooLarge`], [`Refusal::WrongLength`], [`Refusal::NoSuchCode`], [`Refusal::NoClass`], [`Refusal::NotFinite`],
+/// of which no case with words is known.
+pub fn elect_by_class(set: ClassSet, flag: u8, words: &[u32], classes: &[u8]) -> Result<Elected, Refusal> {
+    of_classes(elected(raw::elect_by_class(set.bits(), flag, words, classes)), words, classes)
 }
 
 /// As [`fit_translation`], over samples of any four numbers.
@@ -955,23 +1060,24 @@ pub fn frame_price(
 }
 
 /// Runs a whole job: search, fit, grid, score, blocks and header ('Job'). The crate's head has an example. A job that
-/// elects has type, model and score of [`elect`] over its words.
+/// elects has type, model and score of [`elect_by_class`] over its words. Fit, score and election go by the set of the
+/// settings; blocks hold every sample.
 ///
 /// # Errors
 ///
-/// [`Refusal::TooLarge`], [`Refusal::WrongLength`], [`Refusal::NoSuchCode`], [`Refusal::NoSuchSlot`],
+/// [`Refusal::TooLarge`], [`Refusal::WrongLength`], [`Refusal::NoSuchCode`], [`Refusal::NoClass`], [`Refusal::NoSuchSlot`],
 /// [`Refusal::StartOver`], [`Refusal::OffGrid`], [`Refusal::PriorOut`], [`Refusal::TooShort`], [`Refusal::TooFew`],
 /// [`Refusal::ShutterClosed`], [`Refusal::Singular`], [`Refusal::NotFinite`]. After the last two the half planes and the
 /// words are in their buffers; blocks and header are as they were. A job that elects isn't refused with
 /// [`Refusal::TooFew`] or [`Refusal::Singular`].
 pub fn job(task: &Task<'_>, lent: &mut Lent<'_>) -> Result<Report, Refusal> {
-    let Settings { frame, gm_type, reference, flag, trim, elect, start } = task.settings;
+    let Settings { frame, gm_type, reference, flag, trim, elect, set, start } = task.settings;
     let report = raw::job(
         task.input,
         task.reference,
         task.width,
         task.height,
-        raw::Settings { frame, gm_type, reference, flag, trim, elect, start },
+        raw::Settings { frame, gm_type, reference, flag, trim, elect, set: set.bits(), start },
         task.classes,
         task.types,
         raw::numbers(task.models),

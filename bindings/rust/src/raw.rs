@@ -158,6 +158,7 @@ pub struct Settings {
     pub flag: u8,
     pub trim: u8,
     pub elect: u8,
+    pub set: u8,
     pub start: usize,
 }
 
@@ -202,6 +203,57 @@ unsafe extern "C" {
         count: usize,
     ) -> QuantizedModel;
     fn belt_mean_sq_residual(params: *const [i32; 6], words: *const u32, count: usize) -> Score;
+    fn belt_fit_by_class(
+        set: u8,
+        gm_type: u8,
+        words: *const u32,
+        count: usize,
+        classes: *const u8,
+        class_count: usize,
+    ) -> FitAnswer;
+    fn belt_quantize_by_class(
+        set: u8,
+        gm_type: u8,
+        numbers: *const [f64; 6],
+        flag: u8,
+        words: *const u32,
+        count: usize,
+        classes: *const u8,
+        class_count: usize,
+    ) -> QuantizedModel;
+    fn belt_score_by_class(
+        set: u8,
+        params: *const [i32; 6],
+        words: *const u32,
+        count: usize,
+        classes: *const u8,
+        class_count: usize,
+    ) -> Score;
+    fn belt_fit_trimmed_by_class(
+        set: u8,
+        gm_type: u8,
+        words: *const u32,
+        count: usize,
+        classes: *const u8,
+        class_count: usize,
+    ) -> Trimmed;
+    fn belt_quantize_trimmed_by_class(
+        set: u8,
+        gm_type: u8,
+        flag: u8,
+        words: *const u32,
+        count: usize,
+        classes: *const u8,
+        class_count: usize,
+    ) -> TrimmedModel;
+    fn belt_elect_by_class(
+        set: u8,
+        flag: u8,
+        words: *const u32,
+        count: usize,
+        classes: *const u8,
+        class_count: usize,
+    ) -> Elected;
     fn belt_fit_translation_samples(samples: *const MotionSample, count: usize) -> FitAnswer;
     fn belt_fit_rotzoom_samples(samples: *const MotionSample, count: usize) -> FitAnswer;
     fn belt_fit_affine_samples(samples: *const MotionSample, count: usize) -> FitAnswer;
@@ -406,6 +458,45 @@ pub fn quantize_model(gm_type: u8, numbers: &[f64; 6], flag: u8, words: &[u32]) 
 pub fn mean_sq_residual(params: &[i32; 6], words: &[u32]) -> Score {
     // SAFETY: the six numbers and one slice are read; the array's type holds its length.
     unsafe { belt_mean_sq_residual(params, words.as_ptr(), words.len()) }
+}
+
+pub fn fit_by_class(set: u8, gm_type: u8, words: &[u32], classes: &[u8]) -> FitAnswer {
+    // SAFETY: two slices are read, and neither where their lengths differ.
+    unsafe { belt_fit_by_class(set, gm_type, words.as_ptr(), words.len(), classes.as_ptr(), classes.len()) }
+}
+
+pub fn quantize_by_class(
+    set: u8,
+    gm_type: u8,
+    numbers: &[f64; 6],
+    flag: u8,
+    words: &[u32],
+    classes: &[u8],
+) -> QuantizedModel {
+    let (count, class_count) = (words.len(), classes.len());
+    // SAFETY: the six numbers are read, and two slices as for `fit_by_class`; the array's type holds its length.
+    unsafe { belt_quantize_by_class(set, gm_type, numbers, flag, words.as_ptr(), count, classes.as_ptr(), class_count) }
+}
+
+pub fn score_by_class(set: u8, params: &[i32; 6], words: &[u32], classes: &[u8]) -> Score {
+    // SAFETY: the six numbers are read, and two slices as for `fit_by_class`; the array's type holds its length.
+    unsafe { belt_score_by_class(set, params, words.as_ptr(), words.len(), classes.as_ptr(), classes.len()) }
+}
+
+pub fn fit_trimmed_by_class(set: u8, gm_type: u8, words: &[u32], classes: &[u8]) -> Trimmed {
+    // SAFETY: two slices are read, as for `fit_by_class`.
+    unsafe { belt_fit_trimmed_by_class(set, gm_type, words.as_ptr(), words.len(), classes.as_ptr(), classes.len()) }
+}
+
+pub fn quantize_trimmed_by_class(set: u8, gm_type: u8, flag: u8, words: &[u32], classes: &[u8]) -> TrimmedModel {
+    let (count, class_count) = (words.len(), classes.len());
+    // SAFETY: two slices are read, as for `fit_by_class`.
+    unsafe { belt_quantize_trimmed_by_class(set, gm_type, flag, words.as_ptr(), count, classes.as_ptr(), class_count) }
+}
+
+pub fn elect_by_class(set: u8, flag: u8, words: &[u32], classes: &[u8]) -> Elected {
+    // SAFETY: two slices are read, as for `fit_by_class`.
+    unsafe { belt_elect_by_class(set, flag, words.as_ptr(), words.len(), classes.as_ptr(), classes.len()) }
 }
 
 pub fn fit_translation_samples(samples: &[MotionSample]) -> FitAnswer {

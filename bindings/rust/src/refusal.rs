@@ -13,8 +13,10 @@ pub enum Refusal {
     TooFar,
     /// 2: plane, class, type, model or prior list of wrong length.
     WrongLength(Length),
-    /// 4: type, class, flag, trim or elect code out of range; type 0 for a fit.
+    /// 4: type, class, flag, trim or elect code out of range; set that names a class over 4; type 0 for a fit.
     NoSuchCode,
+    /// 19: empty set of classes.
+    NoClass,
     /// 5: slot over 5, or to price one that the type doesn't carry; reference outside 1 to 7.
     NoSuchSlot,
     /// 14: start of a header to write over 7.
@@ -29,7 +31,7 @@ pub enum Refusal {
     NotHeld,
     /// 3: output or working buffer too short.
     TooShort(Length),
-    /// 15: fewer samples than a trimmed fit needs.
+    /// 15: fewer samples, or fewer of the classes named, than a trimmed fit needs.
     TooFew,
     /// 17: frame number 0: the shutter was closed.
     ShutterClosed,
@@ -67,11 +69,12 @@ impl Length {
 
 impl Refusal {
     /// Every row's number and condition, in the table's order.
-    pub const TABLE: [(u32, &str); 18] = [
+    pub const TABLE: [(u32, &str); 19] = [
         (1, "side over 1,024, or over 4,096 samples"),
         (18, "motion of a practice belt beyond 24 pels"),
         (2, "plane, class, type, model or prior list of wrong length"),
-        (4, "type, class, flag, trim or elect code out of range; type 0 for a fit"),
+        (4, "type, class, flag, trim or elect code out of range; set that names a class over 4; type 0 for a fit"),
+        (19, "empty set of classes"),
         (5, "slot over 5, or to price one that the type doesn't carry; reference outside 1 to 7"),
         (14, "start of a header to write over 7"),
         (7, "model off the grid, uncarried slot or pair wrong"),
@@ -79,7 +82,7 @@ impl Refusal {
         (12, "words to store out of range or not rising"),
         (13, "class 4 to be stored in form 1"),
         (3, "output or working buffer too short"),
-        (15, "fewer samples than a trimmed fit needs"),
+        (15, "fewer samples, or fewer of the classes named, than a trimmed fit needs"),
         (17, "frame number 0: the shutter was closed"),
         (6, "elimination refuses"),
         (16, "residual of a trimmed fit not finite"),
@@ -95,6 +98,7 @@ impl Refusal {
             Refusal::TooFar => 18,
             Refusal::WrongLength(_) => 2,
             Refusal::NoSuchCode => 4,
+            Refusal::NoClass => 19,
             Refusal::NoSuchSlot => 5,
             Refusal::StartOver => 14,
             Refusal::OffGrid => 7,
@@ -125,6 +129,7 @@ impl Refusal {
             18 => Refusal::TooFar,
             2 => Refusal::WrongLength(length),
             4 => Refusal::NoSuchCode,
+            19 => Refusal::NoClass,
             5 => Refusal::NoSuchSlot,
             14 => Refusal::StartOver,
             7 => Refusal::OffGrid,

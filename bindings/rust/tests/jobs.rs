@@ -3,8 +3,8 @@
 mod frames;
 
 use belt::{
-    BLOCK_BYTES, Buffers, Fitted, Form, Frame, Model, MotionSample, Refusal, Report, StoredModel, TEXT_BYTES,
-    sample_count,
+    BLOCK_BYTES, Buffers, ClassSet, FIBRE, FILM, Fitted, Form, Frame, METAL, Model, MotionSample, RIGID_PLASTIC,
+    Refusal, Report, StoredModel, TEXT_BYTES, UNSORTED, sample_count,
 };
 use frames::{Handed, guarded, moved, noisy_plane, smooth_plane};
 
@@ -245,6 +245,182 @@ fn bowls_are_elected() {
             let (mut back, mut classes) = (vec![0; 16], vec![0; 16]);
             assert_eq!(belt::read_both(&left.blocks, &mut back, &mut classes), Ok(Frame { number: 5, samples: 16 }));
             assert_eq!((back, classes), (left.words, handed.classes));
+        }
+    }
+}
+
+/// The words of the classes that a set names, in their order.
+fn named(set: ClassSet, words: &[u32], classes: &[u8]) -> Vec<u32> {
+    words.iter().zip(classes).filter(|&(_, &class)| set.names(class)).map(|(&word, _)| word).collect()
+}
+
+/// Four blocks of fibre that move by ten pels to the right, and four of film that move by five pels up, their words with
+/// these class bits.
+fn fibre_and_film(class_bits: u32) -> (Vec<u32>, Vec<u8>) {
+    let fibre = (0..4).map(|column| column << 20 | 223 << 11 | 303 << 2);
+    let film = (0..4).map(|column| 1 << 26 | column << 20 | 183 << 11 | 223 << 2);
+    (fibre.chain(film).map(|word| word | class_bits).collect(), [[FIBRE; 4], [FILM; 4]].concat())
+}
+
+/// Every call by class on fibre and film, by what is written of it.
+#[test]
+fn a_set_names_what_is_fitted() {
+    for class_bits in [0, 3] {
+        let (words, classes) = fibre_and_film(class_bits);
+        for (set, [u, v], energy, stored) in [
+            (ClassSet::of(&[FIBRE]), [10.0, 0.0], 100.0, [0, 655_360]),
+            (ClassSet::of(&[FILM]), [0.0, -5.0], 25.0, [-327_680, 0]),
+            (ClassSet::of(&[FIBRE, FILM]), [5.0, -2.5], 62.5, [0, 0]),
+            (ClassSet::ALL, [5.0, -2.5], 62.5, [0, 0]),
+        ] {
+            let fitted = belt::fit_by_class(set, 1, &words, &classes).unwrap();
+            assert_eq!((fitted.gm_type, fitted.numbers), (1, [u, v, 0.0, 0.0, 0.0, 0.0]));
+            let model = belt::quantize_by_class(set, &fitted, 1, &words, &classes).unwrap();
+            assert_eq!((model.shift().u, model.shift().v), (u, v));
+            assert_eq!(belt::score_by_class(set, &Model::IDENTITY, &words, &classes), Ok(energy));
+            let elected = belt::elect_by_class(set, 1, &words, &classes).unwrap();
+            assert_eq!((elected.gm_type, &elected.model.0[..2]), (u8::from(stored != [0, 0]), &stored[..]));
+            assert_eq!(elected.score, if elected.gm_type == 0 { energy } else { 0.0 });
+            let trimmed = belt::fit_trimmed_by_class(set, 1, &words, &classes).unwrap();
+            let used = named(set, &words, &classes).len();
+            assert_eq!((trimmed.fitted, trimmed.used), (fitted, used));
+            let trimmed = belt::quantize_trimmed_by_class(set, 1, 1, &words, &classes).unwrap();
+            assert_eq!((trimmed.model, trimmed.used), (model, used));
+        }
+        let fibre = ClassSet::of(&[FIBRE]);
+        assert_eq!(belt::fit_trimmed_by_class(fibre, 2, &words, &classes), Err(Refusal::TooFew));
+        // a set with no sample present
+        let none = ClassSet::of(&[RIGID_PLASTIC]);
+        let fitted = belt::fit_by_class(none, 1, &words, &classes).unwrap();
+        assert!(fitted.numbers[0].is_nan() && fitted.numbers[1].is_nan());
+        assert_eq!(belt::quantize_by_class(none, &fitted, 1, &words, &classes), Ok(Model::IDENTITY));
+        assert_eq!(belt::score_by_class(none, &Model([9; 6]), &words, &classes), Ok(0.0));
+        assert_eq!(belt::fit_by_class(none, 2, &words, &classes), Err(Refusal::Singular));
+        assert_eq!(belt::fit_trimmed_by_class(none, 1, &words, &classes), Err(Refusal::TooFew));
+        let elected = belt::elect_by_class(none, 1, &words, &classes).unwrap();
+        assert_eq!((elected.gm_type, elected.score), (0, 0.0));
+    }
+}
+
+/// By every set the calls answer as those without one do for the words that it names, whatever the others are; by all five
+/// as for the whole list.
+#[test]
+fn other_samples_play_no_part() {
+    let reference = noisy_plane(112, 96);
+    let handed = Handed::new(moved(&reference, 112, 96, 2, -5), reference, 112, 96, 1);
+    let mut left = Buffers::new(112, 96);
+    belt::job(&handed.task(), &mut left.lend()).expect("no row refuses");
+    let (mut words, classes) = (left.words, handed.classes);
+    for (word, class) in words.iter_mut().zip(&classes) {
+        // each class moves on its own, and a few samples of it on theirs
+        *word = word.wrapping_add(u32::from(*class) * 9 << 2).wrapping_add((*word >> 20 & 7) << 11);
+    }
+    for set in (1..=31).map(ClassSet::from_bits) {
+        let own = named(set, &words, &classes);
+        let mut others = words.clone();
+        for (word, class) in others.iter_mut().zip(&classes) {
+            *word = if set.names(*class) { *word | 3 } else { !*word };
+        }
+        assert_eq!(own.len() == words.len(), set == ClassSet::ALL);
+        for words in [&words, &others] {
+            for gm_type in 1..=3 {
+                let fitted = belt::fit_by_class(set, gm_type, words, &classes);
+                assert_eq!(fitted, fit(gm_type, &own));
+                let fitted = fitted.unwrap();
+                let model = belt::quantize_by_class(set, &fitted, 1, words, &classes);
+                assert_eq!(model, belt::quantize_model(&fitted, 1, &own));
+                let model = model.unwrap();
+                assert_eq!(belt::score_by_class(set, &model, words, &classes), belt::mean_sq_residual(&model, &own));
+                assert_eq!(belt::fit_trimmed_by_class(set, gm_type, words, &classes), belt::fit_trimmed(gm_type, &own));
+                let trimmed = belt::quantize_trimmed_by_class(set, gm_type, 0, words, &classes);
+                assert_eq!(trimmed, belt::quantize_trimmed(gm_type, 0, &own));
+            }
+            assert_eq!(belt::elect_by_class(set, 1, words, &classes), belt::elect(1, &own));
+        }
+    }
+}
+
+/// Jobs on the bowl that name a set: what they report, what they leave, and that every sample is stored.
+#[test]
+fn bowls_by_class() {
+    let shifted = |r, c| (r + 2, c - 3);
+    let shift = |set: ClassSet, asked: u8, trim: u8, elect: u8| {
+        let mut handed = bowl_job(shifted, asked);
+        (handed.settings.set, handed.settings.trim, handed.settings.elect) = (set, trim, elect);
+        handed
+    };
+    let three = ClassSet::of(&[UNSORTED, FIBRE, FILM]);
+    let elections: [(fn(i32, i32) -> (i32, i32), ClassSet, u8, [i32; 6], u64, usize); 3] = [
+        (zoomed, three, 2, [-29696, -31744, 69644, -38, 38, 69644], 0x3F54_6E6C_E666_6666, 57),
+        (|r, c| (r, c + r / 8), three, 3, [9216, -86016, 64810, 7296, 4182, 64256], 0x3FF4_119E_0D86_6666, 109),
+        (shifted, ClassSet::of(&[RIGID_PLASTIC]), 0, Model::IDENTITY.0, 0x4029_AD55_5555_5555, 7),
+    ];
+    for (place, set, gm_type, model, score, bits) in elections {
+        let mut handed = bowl_job(place, 0);
+        (handed.settings.set, handed.settings.elect) = (set, 1);
+        let mut left = Buffers::new(64, 64);
+        left.header.fill(0xFF);
+        let report = belt::job(&handed.task(), &mut left.lend()).expect("no row refuses");
+        assert_eq!((report.types[6], report.models[6]), (gm_type, StoredModel(model)));
+        assert_eq!((report.score.to_bits(), report.bits, report.samples), (score, bits, 16));
+        let elected = belt::elect_by_class(set, 1, &left.words, &handed.classes).unwrap();
+        assert_eq!((elected.gm_type, elected.model, elected.score), (gm_type, report.models[6], report.score));
+        let (mut back, mut classes) = (vec![0; 16], vec![0; 16]);
+        assert_eq!(belt::read_both(&left.blocks, &mut back, &mut classes), Ok(Frame { number: 5, samples: 16 }));
+        assert_eq!((&back, &classes), (&left.words, &handed.classes));
+        if gm_type == 0 {
+            assert_eq!(left.header[..2], [0xF8, 0x00]);
+            assert_eq!(left.blocks[508..512], [0x5B, 0xAF, 0xD4, 0x27]);
+        }
+    }
+    // three samples are too few to trim, and nothing is written
+    let before = guarded(64, 64);
+    let mut after = before.clone();
+    let few = shift(ClassSet::of(&[RIGID_PLASTIC]), 1, 1, 0);
+    assert_eq!(belt::job(&few.task(), &mut after.lend()), Err(Refusal::TooFew));
+    assert_eq!(after, before);
+    // no sample of the class: there were samples, so 6 leaves half planes and words
+    for gm_type in [2, 3] {
+        let mut none = shift(ClassSet::of(&[METAL]), gm_type, 0, 0);
+        none.classes.iter_mut().for_each(|class| *class %= METAL);
+        let (mut after, mut whole) = (before.clone(), before.clone());
+        assert_eq!(belt::job(&none.task(), &mut after.lend()), Err(Refusal::Singular));
+        none.settings.set = ClassSet::ALL;
+        belt::job(&none.task(), &mut whole.lend()).expect("no row refuses");
+        assert_ne!(after, before);
+        let Buffers { blocks, header, .. } = before.clone();
+        assert_eq!(after, Buffers { blocks, header, ..whole });
+    }
+    // and a translation is the identity's numbers, scored over nothing
+    let mut none = shift(ClassSet::of(&[METAL]), 1, 0, 0);
+    none.classes.iter_mut().for_each(|class| *class %= METAL);
+    let report = belt::job(&none.task(), &mut Buffers::new(64, 64).lend()).expect("no row refuses");
+    assert_eq!((report.types[6], report.models[6], report.score), (1, StoredModel::IDENTITY, 0.0));
+}
+
+/// Jobs that name a set have the model and the score of the calls by class, and leave what the job of every class leaves
+/// but for the header.
+#[test]
+fn jobs_by_class() {
+    let planes = (smooth_plane(112, 80, [3.0, -2.0, 1.01, 0.02, -0.02, 1.01]), smooth_plane(112, 80, STILL));
+    for gm_type in 1..=3 {
+        let mut handed = Handed::new(planes.0.clone(), planes.1.clone(), 112, 80, gm_type);
+        let (_, all) = run(&handed);
+        for set in (1..=31).map(ClassSet::from_bits) {
+            handed.settings.set = set;
+            let mut left = guarded(112, 80);
+            let report = belt::job(&handed.task(), &mut left.lend()).expect("no row refuses");
+            let words = &left.words[..35];
+            let fitted = belt::fit_by_class(set, gm_type, words, &handed.classes).unwrap();
+            let model = belt::quantize_by_class(set, &fitted, 1, words, &handed.classes).unwrap();
+            assert_eq!(report.models[2], model.row_first(gm_type));
+            assert_eq!(Ok(report.score), belt::score_by_class(set, &model, words, &handed.classes));
+            let read = belt::read_global_motion_params(&left.header, 5, 1, &handed.prior).unwrap();
+            assert_eq!((read.types, read.models, read.bits), (report.types, report.models, report.bits));
+            if set != ClassSet::ALL {
+                left.header.clone_from(&all.header);
+            }
+            assert_eq!(left, all);
         }
     }
 }

@@ -3,7 +3,7 @@
 mod frames;
 
 use belt::Refusal::{self, *};
-use belt::{Buffers, FILM, Fitted, Form, IDENTITIES, Kind, Length, METAL, Model, Shear, StoredModel};
+use belt::{Buffers, ClassSet, FIBRE, FILM, Fitted, Form, IDENTITIES, Kind, Length, METAL, Model, Shear, StoredModel};
 use frames::{Handed, guarded, noisy_plane};
 
 /// Words that rise, at zero motion.
@@ -14,8 +14,8 @@ fn words(count: usize) -> Vec<u32> {
 #[test]
 fn the_table_is_that_of_the_rules() {
     let numbers = Refusal::TABLE.map(|(number, _)| number);
-    assert_eq!(numbers, [1, 18, 2, 4, 5, 14, 7, 8, 12, 13, 3, 15, 17, 6, 16, 9, 10, 11]);
-    for row in [TooLarge, TooFar, NoSuchCode, NoSuchSlot, OffGrid, PriorOut, NotRising, NotHeld, Singular] {
+    assert_eq!(numbers, [1, 18, 2, 4, 19, 5, 14, 7, 8, 12, 13, 3, 15, 17, 6, 16, 9, 10, 11]);
+    for row in [TooLarge, TooFar, NoSuchCode, NoClass, NoSuchSlot, OffGrid, PriorOut, NotRising, NotHeld, Singular] {
         assert_eq!(row.to_string(), format!("{}: {}", row.number(), row.condition()));
     }
     for row in [TooFew, ShutterClosed, NotFinite, EndsFirst, WrongCheck, WrongBlock] {
@@ -74,6 +74,9 @@ fn job() {
         (NoSuchCode, |h, _| h.settings.elect = 2),
         (NoSuchCode, |h, _| h.settings.elect = 255),
         (NoSuchCode, |h, _| h.types[5] = 4),
+        (NoSuchCode, |h, _| h.settings.set = ClassSet::of(&[FIBRE, 5])),
+        (NoSuchCode, |h, _| h.settings.set = ClassSet::from_bits(255)),
+        (NoClass, |h, _| h.settings.set = ClassSet::of(&[])),
         (NoSuchSlot, |h, _| h.settings.reference = 0),
         (NoSuchSlot, |h, _| h.settings.reference = 8),
         (StartOver, |h, _| h.settings.start = 8),
@@ -95,6 +98,7 @@ fn job() {
         (short("header", 124, 125), |_, b| b.header.truncate(124)),
         (short("header", 0, 125), |_, b| b.header.clear()),
         (TooFew, |h, _| (h.settings.gm_type, h.settings.trim) = (3, 1)),
+        (TooFew, |h, _| (h.settings.set, h.settings.trim) = (ClassSet::of(&[FILM]), 1)),
         (ShutterClosed, |h, _| h.settings.frame = 0),
     ];
     let handed = Handed::new(noisy_plane(48, 32), noisy_plane(48, 32), 48, 32, 1);
@@ -267,7 +271,7 @@ fn a_job_that_elects() {
     let mut handed = Handed::new(noisy_plane(48, 32), noisy_plane(48, 32), 48, 32, 1);
     handed.settings.elect = 1;
     let before = guarded(48, 32);
-    let changes: [(Result<(), Refusal>, fn(&mut Handed)); 10] = [
+    let changes: [(Result<(), Refusal>, fn(&mut Handed)); 13] = [
         (Ok(()), |_| {}),
         (Ok(()), |h| h.settings.gm_type = 0),
         (Ok(()), |h| h.settings.gm_type = 4),
@@ -278,12 +282,75 @@ fn a_job_that_elects() {
         (Err(NoSuchCode), |h| h.types[5] = 4),
         (Err(NoSuchSlot), |h| h.settings.reference = 8),
         (Err(ShutterClosed), |h| h.settings.frame = 0),
+        (Ok(()), |h| h.settings.set = ClassSet::of(&[FILM])),
+        (Err(NoSuchCode), |h| h.settings.set = ClassSet::of(&[255])),
+        (Err(NoClass), |h| (h.settings.set, h.settings.reference) = (ClassSet::of(&[]), 0)),
     ];
     for (i, (answer, change)) in changes.into_iter().enumerate() {
         let (mut handed, mut after) = (handed.clone(), before.clone());
         change(&mut handed);
         assert_eq!(belt::job(&handed.task(), &mut after.lend()).map(|_| ()), answer, "change {i}");
         assert_eq!(after == before, answer.is_err(), "change {i}");
+    }
+}
+
+/// Every call by class has rows 1, 2, 4 and 19 of its own list, in this order, and judges all of it, named or not.
+#[test]
+fn calls_by_class() {
+    type Call = (&'static str, fn(ClassSet, &[u32], &[u8]) -> Result<(), Refusal>);
+    fn unmoved(gm_type: u8) -> Fitted {
+        Fitted { gm_type, numbers: [0.0, 0.0, 1.0, 0.0, 0.0, 1.0] }
+    }
+    let calls: [Call; 6] = [
+        ("fit", |set, words, classes| belt::fit_by_class(set, 1, words, classes).map(|_| ())),
+        ("quantize", |set, words, classes| belt::quantize_by_class(set, &unmoved(1), 1, words, classes).map(|_| ())),
+        ("score", |set, words, classes| belt::score_by_class(set, &Model::IDENTITY, words, classes).map(|_| ())),
+        ("fit_trimmed", |set, words, classes| belt::fit_trimmed_by_class(set, 1, words, classes).map(|_| ())),
+        ("quantize_trimmed", |set, words, classes| {
+            belt::quantize_trimmed_by_class(set, 1, 1, words, classes).map(|_| ())
+        }),
+        ("elect", |set, words, classes| belt::elect_by_class(set, 1, words, classes).map(|_| ())),
+    ];
+    let (many, film) = (words(4097), vec![FILM; 4097]);
+    let mut last_out = film.clone();
+    last_out[8] = 5;
+    let (none, over, fibre) = (ClassSet::of(&[]), ClassSet::of(&[FILM, 200]), ClassSet::of(&[FIBRE]));
+    for (name, call) in calls {
+        assert_eq!(call(none, &many, &film[..9]), Err(TooLarge), "{name}");
+        for classes in [&film[..8], &film[..10], &[]] {
+            assert_eq!(call(none, &many[..9], classes), Err(wrong("classes", classes.len(), 9)), "{name}");
+            assert_eq!(call(over, &many[..9], classes), Err(wrong("classes", classes.len(), 9)), "{name}");
+        }
+        assert_eq!(call(none, &[], &film[..1]), Err(wrong("classes", 1, 0)), "{name}");
+        for set in [none, over, fibre] {
+            assert_eq!(call(set, &many[..9], &last_out[..9]), Err(NoSuchCode), "{name}");
+        }
+        assert_eq!(call(over, &many[..9], &film[..9]), Err(NoSuchCode), "{name}");
+        assert_eq!(call(none, &many[..9], &film[..9]), Err(NoClass), "{name}");
+        assert_eq!(call(none, &[], &[]), Err(NoClass), "{name}");
+        for set in [ClassSet::of(&[FILM]), ClassSet::ALL] {
+            assert_eq!(call(set, &many[..4096], &film[..4096]), Ok(()), "{name}");
+        }
+        // with no sample of the class at all
+        let trims = name.contains("trimmed");
+        assert_eq!(call(fibre, &many[..9], &film[..9]), if trims { Err(TooFew) } else { Ok(()) }, "{name}");
+    }
+    // the call's own codes are row 4 too, so before 19
+    let (words, classes) = (&many[..9], &film[..9]);
+    for set in [none, ClassSet::ALL] {
+        for gm_type in [0, 4] {
+            assert_eq!(belt::fit_by_class(set, gm_type, words, classes), Err(NoSuchCode));
+            assert_eq!(belt::quantize_by_class(set, &unmoved(gm_type), 1, words, classes), Err(NoSuchCode));
+            assert_eq!(belt::fit_trimmed_by_class(set, gm_type, words, classes), Err(NoSuchCode));
+            assert_eq!(belt::quantize_trimmed_by_class(set, gm_type, 1, words, classes), Err(NoSuchCode));
+        }
+        assert_eq!(belt::quantize_by_class(set, &unmoved(3), 2, words, classes), Err(NoSuchCode));
+        assert_eq!(belt::quantize_trimmed_by_class(set, 3, 2, words, classes), Err(NoSuchCode));
+        assert_eq!(belt::elect_by_class(set, 2, words, classes), Err(NoSuchCode));
+    }
+    for gm_type in [2, 3] {
+        assert_eq!(belt::fit_by_class(fibre, gm_type, words, classes), Err(Singular));
+        assert_eq!(belt::quantize_by_class(fibre, &unmoved(gm_type), 1, words, classes), Ok(Model::IDENTITY));
     }
 }
 
@@ -715,7 +782,10 @@ fn price_of_a_frame() {
     assert_eq!(price(Kind::Inter, &types, &models, 1, &IDENTITIES), Ok(17));
     for start in 0..8 {
         let mut header = [0; 125];
-        assert_eq!(belt::encode_global_motion(Kind::Inter, &types, &models, 1, &IDENTITIES, start, &mut header), Ok(17));
+        assert_eq!(
+            belt::encode_global_motion(Kind::Inter, &types, &models, 1, &IDENTITIES, start, &mut header),
+            Ok(17)
+        );
     }
     assert_eq!(price(Kind::Inter, &types, &models, 2, &IDENTITIES), Err(NoSuchCode));
     assert_eq!(price(Kind::Inter, &types, &models, 0, &IDENTITIES), Err(OffGrid));

@@ -5,6 +5,7 @@
 // then what is stored: the header's bytes and the blocks as the list program prints them; last, whether
 // all of it is right.
 ghost use Prim.Native.Nat.{_<_};
+use class_set::ALL_CLASSES;
 use job::Report;
 use job::Settings;
 use libc::STDOUT_FILENO;
@@ -482,6 +483,7 @@ fn run(gm_type: u8, input: &[u16], reference: &[u16], prior: &[i32], models: &[i
         flag: HIGH_PRECISION,
         trim: 0,
         elect: 1,
+        set: ALL_CLASSES,
         start: START,
     };
     let classes = load();

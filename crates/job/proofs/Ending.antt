@@ -9,12 +9,15 @@ use native.Mathlib.Omega.{arith}
 use borrow.Author.Tests.{ne-eqb, lt-ltb}
 use lib.Dec.{ltb}
 use lib.IntN.{ℤ}
-use lib.ListN.{length, take, length-take}
+use lib.ListN.{length, take}
 use Rattle.laws.specs.Buffer.{onto}
+use Rattle.laws.specs.Chosen.{Front}
 use Rattle.laws.specs.Refusal.{choose}
 use Rattle.laws.proofs.Buffer.{onto-front}
 use Rattle.laws.proofs.Call.{answered-accepted, answered-refused, left-accepted}
 use Rattle.laws.proofs.Cases.{eq-or-ne}
+use Rattle.class_set.specs.Set.{chosen}
+use Rattle.class_set.proofs.Chosen.{chosen-count, named-few}
 use Rattle.search.specs.declared.Searched.{Searched}
 use Rattle.search.specs.Refusal as search
 use Rattle.frame_store.specs.Store.{blocksLeft, storeRefusal}
@@ -28,14 +31,14 @@ use Rattle.job_model.specs.declared.Modelled.{Modelled}
 use Rattle.job_model.specs.Modelled.{modelled, modelledAs, notModelled}
 use Rattle.job_model.specs.Inner.{Modelling}
 use Rattle.job_outcome.specs.declared.Report.{Report}
-use Rattle.job_outcome.specs.Outcome.{Ended, ended, samples, words, bits, late, refused, accepted, blocksBy, outcome}
+use Rattle.job_outcome.specs.Outcome.{Ended, ended, samples, words, named, bits, late, refused, accepted, blocksBy, outcome}
 use Rattle.job_outcome.specs.Done.{Done}
 use Rattle.job_outcome.proofs.Demand3.{done}
 use Rattle.job_outcome.proofs.Stages.{refused-early, refused-late, ends-accepted}
 use Rattle.job_outcome.proofs.Samples.{words-length, words-few}
 use Rattle.job_outcome.proofs.Blocks.{stored}
 use Rattle.job_outcome.proofs.Written.{bits-written, header-written}
-use Rattle.job.specs.Inner.{Finished, finish, reportOf, writtenOut, finished}
+use Rattle.job.specs.Inner.{Naming, Finished, finish, reportOf, writtenOut, finished}
 
 -- ---- the search of a job that is ready
 
@@ -67,20 +70,24 @@ module _ (j : Task) (l : Lent) (r : Ready j l) {found : Searched} {left : search
   pub found-words : take (found .samples) (left .words) ≡ words j
   found-words = rw (found-samples, words-left) (front-words (samples j) (words j) (l .words) (words-length j))
 
-  pub found-count : found .samples ≡ length (take (found .samples) (left .words))
-  found-count = found-samples ∙ sym (ap length found-words ∙ words-length j)
+  pub found-front : Front (words j) (left .words) (found .samples)
+  found-front = record { counted = found-samples ∙ sym (words-length j); front = found-words }
 
-  pub found-there : found .samples ≤ length (left .words)
-  found-there = omega (arith, found-count, length-take (found .samples) (left .words))
-
-  pub found-modelling : Modelling (j .settings) (j .types) (j .models) (take (found .samples) (left .words))
-  found-modelling =
+  -- the named words are at most all, and as many as row 15 counts
+  modelling : Modelling (j .settings) (j .types) (j .models) (named j)
+  modelling =
       let s = r .sound in
+      let few : length (named j) ≤ 4096 = omega (arith, named-few (j .settings .set) (words j) (j .classes), words-few j s) in
       record {
-        fitting = record { range = s .range; few = rw found-words (words-few j s); enough = rw (found-words, words-length j) (s .enough) };
+        fitting = record { range = s .range; few = few; enough = rw (chosen-count (j .settings .set) (words j) (j .classes) (s .class-count ∙ sym (words-length j))) (s .enough) };
         six = s .six;
         numbers = s .numbers;
       }
+
+  pub found-naming : Naming (j .settings) (j .types) (j .models) (take (found .samples) (left .words)) (j .classes)
+  found-naming =
+      let s = r .sound in
+      rw found-words (record { classed = words-length j ∙ sym (s .class-count); few = words-few j s; modelling = modelling })
 
 -- ---- what follows from the words, by the model's refusal
 
@@ -89,10 +96,10 @@ finish-same p q s = rw (p, q, s)
 
 module _ (j : Task) where
   abbrev model : Modelled
-  model = modelled (j .settings) (j .types) (j .models) (words j)
+  model = modelled (j .settings) (j .types) (j .models) (named j)
 
   abbrev whole : Modelled
-  whole = modelledAs (j .settings) (j .types) (j .models) (words j)
+  whole = modelledAs (j .settings) (j .types) (j .models) (named j)
 
   with-model : late j ≡ 0 → model ≡ whole
   unfolding modelled
@@ -146,7 +153,7 @@ module _ (j : Task) (l : Lent) (quiet : early j l ≡ 0) {found : Searched} {lef
 
 -- ---- the code's two ways through `finish`, and the call's refusal
 
-module _ (s : Settings) (ts : List ℕ) (ms qs : List ℤ) (ws cs blocks header : List ℕ) {m : Modelled} (e : m ≡ modelled s ts ms ws) where
+module _ (s : Settings) (ts : List ℕ) (ms qs : List ℤ) (ws cs blocks header : List ℕ) {m : Modelled} (e : m ≡ modelled s ts ms (chosen (s .set) ws cs)) where
   pub finish-refused : (m .refusal ≡ 0 → ⊥) → {report : Report} → report ≡ refused (m .refusal) → finish report blocks header ≡ finished s ts ms qs ws cs blocks header
   unfolding finished
   finish-refused h q = rw (← e, ne-eqb (m .refusal) 0 h) (ap (λ (r : Report). finish r blocks header) q)

@@ -1,18 +1,27 @@
 -- What the functions below the public calls ask and answer; no public contract cites it.
 -- Assumes nothing.
-use Prim.Native.Nat.{ℕ}
+use Prim.Native.Nat.{ℕ, _≤_}
 use mathlib.Core.List.{List}
+use mathlib.Core.Path.{_≡_}
 use lib.Dec.{eqb}
 use lib.IntN.{ℤ}
 use lib.ListN.{length}
 use Rattle.laws.specs.Refusal.{choose}
+use Rattle.class_set.specs.Set.{chosen}
 use Rattle.frame_store.specs.Store.{blocksLeft}
 use Rattle.header.specs.Writing.{written, headerAfter}
 use Rattle.job_task.specs.declared.Settings.{Settings}
 use Rattle.job_model.specs.declared.Modelled.{Modelled}
 use Rattle.job_model.specs.Modelled.{modelled}
+use Rattle.job_model.specs.Inner.{Modelling}
 use Rattle.job_outcome.specs.declared.Report.{Report}
 use Rattle.job_outcome.specs.Outcome.{refused}
+
+-- what the model of the named words rests on
+pub record Naming (s : Settings) (types : List ℕ) (models : List ℤ) (ws cs : List ℕ) : Type 0 where
+  pub classed : length ws ≡ length cs
+  pub few : length ws ≤ 4096
+  pub modelling : Modelling s types models (chosen (s .set) ws cs)
 
 -- the report of a job whose words are there, and what it leaves in blocks and header
 pub record Finished : Type 0 where
@@ -40,5 +49,6 @@ writtenOut m s prior ws cs blocks header =
 abbrev pub finishedAs : Modelled → Settings → List ℤ → List ℕ → List ℕ → List ℕ → List ℕ → Finished
 finishedAs m s prior ws cs blocks header = choose (eqb (m .refusal) 0) (writtenOut m s prior ws cs blocks header) (finish (refused (m .refusal)) blocks header)
 
+-- the model is of the named words, the blocks of all
 unfoldable pub finished : Settings → List ℕ → List ℤ → List ℤ → List ℕ → List ℕ → List ℕ → List ℕ → Finished
-finished s types models prior ws cs blocks header = finishedAs (modelled s types models ws) s prior ws cs blocks header
+finished s types models prior ws cs blocks header = finishedAs (modelled s types models (chosen (s .set) ws cs)) s prior ws cs blocks header

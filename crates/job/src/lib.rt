@@ -1,15 +1,18 @@
-// The job (docs/RULES.md, 'Job'): search, sample words, fit for the type asked for or election, grid,
-// score, then the blocks and the header with the model at its reference. In go a frame pair, the settings, a class for
-// each sample, the six other types and models, and the prior; lent are two half planes, words, blocks
-// and header. It calls the public calls alone; its rows are in the crate `job_task`.
+// The job (docs/RULES.md, 'Job'): search, sample words, fit for the type asked for or election over the
+// words of the named classes, grid, score, then the blocks of all words and the header with the model at
+// its reference. In go a frame pair, the settings, a class for each sample, the six other types and
+// models, and the prior; lent are two half planes, words, blocks and header. It calls the public calls
+// alone; its rows are in the crate `job_task`.
 use job_model::Modelled;
 pub use job_outcome::Report;
 pub use job_task::Settings;
 use job_task::Sizes;
+use sample::MOST_SAMPLES;
 ghost use mathlib.Core.Path.{_≡_};
+ghost use Rattle.class_set.specs.Set.{chosen};
 ghost use Rattle.job_task.specs.Task.{task, lend};
 ghost use Rattle.job_task.specs.Rows.{early};
-ghost use Rattle.job_model.specs.Inner.{Modelling};
+ghost use Rattle.job_model.specs.Modelled.{modelled};
 ghost use Rattle.job_outcome.specs.Outcome.{refused, ended, outcome};
 ghost use Rattle.job_outcome.specs.Done.{Done};
 ghost use Rattle.job.specs.Inner as inner;
@@ -63,7 +66,23 @@ fn write_out(
     }
 }
 
-// The model of the words; a refused one writes no block and no header.
+// The model of the words whose classes the set names.
+fn model_of_named(
+    settings: Settings,
+    types: &[u8],
+    models: &[i32],
+    words: &[u32],
+    classes: &[u8],
+) -> Modelled
+    requires { ⌜ inner.Naming settings (now types) (now models) (now words) (now classes) ⌝ }
+    ensures { λ r. ⌜ r ≡ modelled settings (now (types .entry)) (now (models .entry)) (chosen (settings .set) (now (words .entry)) (now (classes .entry))) ⌝ }
+{
+    let mut named = [0u32; MOST_SAMPLES];
+    let n = class_set::choose(settings.set, words, classes, &mut named);
+    job_model::models_of(settings, types, models, &named[..n])
+}
+
+// The model of the named words; a refused one writes no block and no header.
 fn finish(
     settings: Settings,
     types: &[u8],
@@ -74,11 +93,11 @@ fn finish(
     blocks: &mut [u8],
     header: &mut [u8],
 ) -> Report
-    requires { ⌜ Modelling settings (now types) (now models) (now words) ⌝ }
+    requires { ⌜ inner.Naming settings (now types) (now models) (now words) (now classes) ⌝ }
     ensures { λ r. ⌜ inner.finish r (now (blocks .exit)) (now (header .exit)) ≡
         inner.finished settings (now (types .entry)) (now (models .entry)) (now (prior .entry)) (now (words .entry)) (now (classes .entry)) (now (blocks .entry)) (now (header .entry)) ⌝ }
 {
-    let m = job_model::models_of(settings, types, models, words);
+    let m = model_of_named(settings, types, models, words, classes);
     if m.refusal != 0 {
         return refused(m.refusal);
     }

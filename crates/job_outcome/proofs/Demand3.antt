@@ -18,8 +18,8 @@ use Rattle.job_model.specs.Modelled.{own, stored}
 use Rattle.job_task.specs.Task.{Task, Lent}
 use Rattle.job_task.proofs.Ready.{Sound, Ready}
 use Rattle.job_task.proofs.Accepted.{ready}
-use Rattle.job_outcome.specs.Outcome.{Ended, ended, words, ownType, fitWords, types, models, bits, fitIn, late, accepted, leftByJob, outcome}
-use Rattle.job_outcome.specs.Demand3.{wordsRead, headerRead, ownPlace, ownRead, HeaderRead, NearestRead, CountRead, Demand3}
+use Rattle.job_outcome.specs.Outcome.{Ended, ended, named, ownType, fitWords, types, models, bits, fitIn, late, accepted, leftByJob, outcome}
+use Rattle.job_outcome.specs.Demand3.{namedRead, headerRead, ownPlace, ownRead, HeaderRead, NearestRead, CountRead, Demand3}
 use Rattle.job_outcome.specs.Done.{Done}
 use Rattle.job_outcome.proofs.Stages.{ends-accepted, accepted-stages}
 use Rattle.job_outcome.proofs.Blocks.{blocks-read}
@@ -37,7 +37,7 @@ module _ (j : Task) (l : Lent) (r : Ready j l) (fits : late j ≡ 0) where
   flag = j .settings .flag
 
   abbrev fitted : List ℤ
-  fitted = own (j .settings) (words j)
+  fitted = own (j .settings) (named j)
 
   -- what the standard reads of the header at exit
   back : headerRead j o ≡ record { types = types j; params = models j; bits = length (bits j) }
@@ -46,8 +46,8 @@ module _ (j : Task) (l : Lent) (r : Ready j l) (fits : late j ≡ 0) where
   own-read : ownRead j o ≡ fitted
   own-read = ap (λ (m : ReadModels). rowFirst (ownType j) (take 6 (drop (6 * ownPlace j) (m .params)))) back ∙ own-back j s fits
 
-  words-back : wordsRead j o ≡ words j
-  words-back = blocks-read j s o (l .blocks) (r .blocks-room) refl refl .same
+  named-back : namedRead j o ≡ named j
+  named-back = let b = blocks-read j s o (l .blocks) (r .blocks-room) refl refl in rw (b .same, b .same-classes)
 
   header-read : HeaderRead j o
   header-read =
@@ -57,7 +57,7 @@ module _ (j : Task) (l : Lent) (r : Ready j l) (fits : late j ≡ 0) where
         models = ap (λ (m : ReadModels). m .params) back;
         ends = rw back (bits-end j s fits (l .header) (r .header-room));
         other-types = λ k h. rw back (type-other (ownPlace j) (ownType j) (j .types) (s .six) p k h);
-        other-models = λ k i h m. rw back (number-other (ownPlace j) (stored (j .settings) (words j)) (j .models) (stored-six j s fits) (s .numbers) p k i h m);
+        other-models = λ k i h m. rw back (number-other (ownPlace j) (stored (j .settings) (named j)) (j .models) (stored-six j s fits) (s .numbers) p k i h m);
         own-type = rw back (type-own (ownPlace j) (ownType j) (j .types) (s .six) p);
         own-model = λ some. own-read ∙ as-fitted j s fits some;
         own-identity = λ none. own-read ∙ as-identity j s fits none;
@@ -73,10 +73,10 @@ module _ (j : Task) (l : Lent) (r : Ready j l) (fits : late j ≡ 0) where
   nearest-read : NearestRead j o
   nearest-read i h g =
       ⊎-elim
-      (λ (p : (1 ≤ ownType j) × (i < 2)). rw (own-read ∙ as-fitted j s fits (p .0), words-back) (nearest-fitted (p .0) i h (inl (p .1))))
+      (λ (p : (1 ≤ ownType j) × (i < 2)). rw (own-read ∙ as-fitted j s fits (p .0), named-back) (nearest-fitted (p .0) i h (inl (p .1))))
       (λ (p : 2 ≤ ownType j).
       let some : 1 ≤ ownType j = omega (arith, p) in
-      rw (own-read ∙ as-fitted j s fits some, words-back) (nearest-fitted some i h (inr (rw (type-is j s fits some) p))))
+      rw (own-read ∙ as-fitted j s fits some, named-back) (nearest-fitted some i h (inr (rw (type-is j s fits some) p))))
       g
 
   count-read : CountRead j o
@@ -90,7 +90,7 @@ module _ (j : Task) (l : Lent) (r : Ready j l) (fits : late j ≡ 0) where
       record {
         blocks = blocks-read j s o (l .blocks) (r .blocks-room) refl refl;
         header = header-read;
-        score = rw (own-read, words-back);
+        score = rw (own-read, named-back);
         nearest = nearest-read;
         count = count-read;
       }

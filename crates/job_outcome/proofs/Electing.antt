@@ -19,7 +19,7 @@ use Rattle.job_model.specs.Assemble.{typesWith, modelsWith}
 use Rattle.job_model.specs.Modelled.{own}
 use Rattle.job_model.proofs.Refusals.{electing-refusals}
 use Rattle.job_outcome.specs.declared.Report.{Report}
-use Rattle.job_outcome.specs.Outcome.{ended, samples, words, ownType, late, refusal, refused, accepted, leftBySearch, leftByJob, outcome}
+use Rattle.job_outcome.specs.Outcome.{ended, samples, named, ownType, late, refusal, refused, accepted, leftBySearch, leftByJob, outcome}
 use Rattle.job_outcome.proofs.Stages.{electing-never-fifteen, refused-in-second}
 use Rattle.job_outcome.proofs.Six.{six-needed}
 
@@ -27,12 +27,12 @@ module _ (j : Task) (l : Lent) (e : elects (j .settings) ≡ true) where
   pub never-six : refusal j l ≡ 6 → ⊥
   never-six q =
       let six = six-needed j l q .1 in
-      ⊎-elim (λ (z : late j ≡ 0). omega (arith, six)) (λ (z : late j ≡ 16). omega (arith, six)) (electing-refusals (j .settings) (words j) e)
+      ⊎-elim (λ (z : late j ≡ 0). omega (arith, six)) (λ (z : late j ≡ 16). omega (arith, six)) (electing-refusals (j .settings) (named j) e)
 
   pub never-fifteen : refusal j l ≡ 15 → ⊥
   never-fifteen q =
       let late-fifteen = refused-in-second j l 15 (electing-never-fifteen j l e) q .1 in
-      ⊎-elim (λ (z : late j ≡ 0). omega (arith, late-fifteen)) (λ (z : late j ≡ 16). omega (arith, late-fifteen)) (electing-refusals (j .settings) (words j) e)
+      ⊎-elim (λ (z : late j ≡ 0). omega (arith, late-fifteen)) (λ (z : late j ≡ 16). omega (arith, late-fifteen)) (electing-refusals (j .settings) (named j) e)
 
 -- ends by the same numbers, with the same report and buffers
 same-ends : {a a' b b' : ℕ} {r r' : Report} {x x' : Lent} (y z : Lent) → a ≡ a' → b ≡ b' → r ≡ r' → x ≡ x'
@@ -50,7 +50,7 @@ reportBy j kind p =
       refusal = 0;
       types = types;
       models = models;
-      score = meanSqResidual p (words j) .score;
+      score = meanSqResidual p (named j) .score;
       bits = length (headerBits types models (s .flag) (j .prior));
       samples = samples j;
     }
@@ -60,7 +60,7 @@ abbrev withCodes : ℕ → ℕ → Task → Task
 withCodes gmType trim j =
     let s = j .settings in
     task (j .input) (j .reference) (j .width) (j .height)
-    (record { frame = s .frame; «gm_type» = gmType; reference = s .reference; flag = s .flag; trim = trim; elect = s .elect; start = s .start })
+    (record { frame = s .frame; «gm_type» = gmType; reference = s .reference; flag = s .flag; trim = trim; elect = s .elect; set = s .set; start = s .start })
     (j .classes) (j .types) (j .models) (j .prior)
 
 module _ (j : Task) (l : Lent) (e : elects (j .settings) ≡ true) (gmType trim : ℕ) where
@@ -74,11 +74,11 @@ module _ (j : Task) (l : Lent) (e : elects (j .settings) ≡ true) (gmType trim 
   same-type : ownType (withCodes gmType trim j) ≡ ownType j
   same-type = rw e
 
-  same-model : own (withCodes gmType trim j .settings) (words j) ≡ own (j .settings) (words j)
+  same-model : own (withCodes gmType trim j .settings) (named j) ≡ own (j .settings) (named j)
   same-model = rw e
 
   same-report : accepted (withCodes gmType trim j) ≡ accepted j
-  same-report = ap (λ (k : ℕ). reportBy j k (own (withCodes gmType trim j .settings) (words j))) same-type ∙ ap (reportBy j (ownType j)) same-model
+  same-report = ap (λ (k : ℕ). reportBy j k (own (withCodes gmType trim j .settings) (named j))) same-type ∙ ap (reportBy j (ownType j)) same-model
 
   same-left : leftByJob (withCodes gmType trim j) l ≡ leftByJob j l
   same-left = rw e

@@ -11,3 +11,5 @@ pub mod HeaderRead
 pub mod Asked
 pub mod Untrimmed
 pub mod Electing
+pub mod Unnamed
+pub mod Agreeing

@@ -13,7 +13,7 @@ use Rattle.job_model.proofs.Refusals.{model-refusals}
 use Rattle.job_task.specs.Task.{Task, Lent, sizesOf}
 use Rattle.job_task.specs.Rows.{tooLittle, early}
 use Rattle.job_task.proofs.Accepted.{all-quiet, quiet-all, ready}
-use Rattle.job_outcome.specs.Outcome.{Ended, words, ownType, types, models, late, refusal, refused, searched, outcome}
+use Rattle.job_outcome.specs.Outcome.{Ended, words, named, ownType, types, models, late, refusal, refused, searched, outcome}
 use Rattle.job_outcome.proofs.Stages.{refused-early, refused-late, ends-accepted, by-stages, early-never-twelve, refused-in-second}
 use Rattle.job_outcome.proofs.Blocks as blocks
 use Rattle.job_outcome.proofs.Written.{writable, fitted-right}
@@ -51,7 +51,7 @@ module _ (j : Task) (l : Lent) where
       let r = ready j l (q .0) .sound .range in
       ⊎-elim (λ (z : late j ≡ 0). omega (arith, q .1))
       (⊎-elim (λ (z : late j ≡ 6). omega (arith, q .1)) (λ (z : late j ≡ 16). omega (arith, q .1)))
-      (model-refusals (j .settings) (words j) r)
+      (model-refusals (j .settings) (named j) r)
 
   module _ (quiet : early j l ≡ 0) where
     -- storing refuses nothing, 12 neither
@@ -62,7 +62,7 @@ module _ (j : Task) (l : Lent) where
     pub models-never-seven : late j ≡ 0 → modelsWrong (types j) (j .settings .flag) (models j) ≡ false
     models-never-seven fits = writable j (ready j l quiet .sound) fits .right
 
-    pub fitted-never-seven : late j ≡ 0 → modelWrong (ownType j) (j .settings .flag) (stored (j .settings) (words j)) 0 ≡ false
+    pub fitted-never-seven : late j ≡ 0 → modelWrong (ownType j) (j .settings .flag) (stored (j .settings) (named j)) 0 ≡ false
     fitted-never-seven fits = fitted-right j (ready j l quiet .sound) fits
 
     -- ---- other buffers

@@ -92,7 +92,7 @@ module _ (j : Task) (l : Lent) where
   handed = modelRows (j .settings) (j .types) (j .models) (j .prior)
 
   abbrev room : List Row
-  room = roomRows (sizesOf j l) (j .settings)
+  room = roomRows (sizesOf j l) (j .settings) (j .classes)
 
   abbrev shutter : List Row
   shutter = row shutterClosed (closed (j .settings .frame)) ∷ []

@@ -1,17 +1,16 @@
--- A job that neither elects nor trims is the job without trimming, bit for bit: it is refused by the same rows, fits all words, and reports and leaves the same.
+-- A job that neither elects nor trims is the job without trimming, bit for bit: it is refused by the same rows, fits all named words, and reports and leaves the same.
 -- Assumes nothing.
 use mathlib.Core.Path.{_≡_, _∙_}
-use lib.Dec.{ltb}
 use Rattle.job_task.specs.Task.{Task, Lent}
 use Rattle.job_task.specs.Rows.{early}
-use Rattle.job_outcome.specs.Outcome.{words, fitWords, fitIn, late, outcome}
+use Rattle.job_outcome.specs.Outcome.{named, fitWords, fitIn, late, outcome}
 use Rattle.job_outcome.specs.Asked as asked
 use Rattle.job_outcome.specs.Untrimmed as untrimmed
 use Rattle.job_outcome.proofs.Asked as asking
 use Rattle.fit.specs.Fitted.{refusalOf}
 
 module _ (j : Task) (asks : j .settings .elect ≡ 0) (plain : j .settings .trim ≡ 0) where
-  pub words-of-fit : fitWords j ≡ words j
+  pub words-of-fit : fitWords j ≡ named j
   words-of-fit = asking.words-of-fit j asks ∙ rw plain
 
   pub fit-is : fitIn j ≡ untrimmed.fit j
@@ -22,7 +21,7 @@ module _ (j : Task) (asks : j .settings .elect ≡ 0) (plain : j .settings .trim
 
   module _ (l : Lent) where
     rows-are : asked.early j l ≡ untrimmed.early j l
-    rows-are = rw (plain, asking.either-false (ltb 1 (j .settings .flag)))
+    rows-are = rw plain
 
     pub early-is : early j l ≡ untrimmed.early j l
     early-is = asking.early-is j asks l ∙ rows-are

@@ -29,7 +29,7 @@ use Rattle.job_model.proofs.Refusals.{fit-type}
 use Rattle.job_task.specs.Task.{Task}
 use Rattle.job_task.specs.Rows.{headerBytes, elects}
 use Rattle.job_task.proofs.Ready.{Sound}
-use Rattle.job_outcome.specs.Outcome.{words, ownType, fitWords, types, models, bits, fitIn, late}
+use Rattle.job_outcome.specs.Outcome.{named, ownType, fitWords, types, models, bits, fitIn, late}
 use Rattle.job_outcome.proofs.Seven.{seven-types, types-known, all-numbers, own-six, models-right, row-first-length}
 
 module _ (j : Task) (s : Sound j) (fits : late j ≡ 0) where
@@ -47,31 +47,31 @@ module _ (j : Task) (s : Sound j) (fits : late j ≡ 0) where
 
   -- the job's own model on the grid, x first, and as it is stored
   abbrev fitted : List ℤ
-  fitted = own (j .settings) (words j)
+  fitted = own (j .settings) (named j)
 
   abbrev kept : List ℤ
-  kept = stored (j .settings) (words j)
+  kept = stored (j .settings) (named j)
 
   pub place-le : place ≤ 6
   place-le = omega (arith, s .range .some-reference, s .range .last-reference)
 
   last-type : kind ≤ 3
-  last-type = own-type.last-type (j .settings) (words j) (s .range) fits
+  last-type = own-type.last-type (j .settings) (named j) (s .range) fits
 
   -- IDENTITY
   pub as-identity : kind ≡ 0 → fitted ≡ identityParams
-  as-identity = own-type.as-identity (j .settings) (words j) (s .range) fits
+  as-identity = own-type.as-identity (j .settings) (named j) (s .range) fits
 
   -- a fitted model
   module _ (some : 1 ≤ kind) where
     pub type-is : typeOf (fitIn j) ≡ kind
-    type-is = fit-type (j .settings) (words j) (s .range) fits some
+    type-is = fit-type (j .settings) (named j) (s .range) fits some
 
     pub some-model : typeOf (fitIn j) ≡ 0 → ⊥
     some-model e = omega (arith, type-is, some)
 
     pub as-fitted : fitted ≡ params (fitIn j) flag (fitWords j)
-    as-fitted = own-type.as-fitted (j .settings) (words j) (s .range) fits some
+    as-fitted = own-type.as-fitted (j .settings) (named j) (s .range) fits some
 
     on-grid : OnGrid kind flag fitted
     on-grid =
@@ -88,15 +88,15 @@ module _ (j : Task) (s : Sound j) (fits : late j ≡ 0) where
 
   elected-right : elects (j .settings) ≡ true → modelWrong kind flag kept 0 ≡ false
   elected-right e =
-      let w = winner (j .settings) (words j) in
-      let z = sym (own-type.refusal-elected (j .settings) (words j) e) ∙ fits in
-      ap (λ (k : ℕ). modelWrong k flag (rowFirst k fitted) 0) (own-type.elected-type (j .settings) (words j) e z)
-      ∙ ap (λ (p : List ℤ). modelWrong (w .«gm_type») flag (rowFirst (w .«gm_type») p) 0) (own-type.elected-own (j .settings) (words j) e z)
-      ∙ winner-codable sampleOf flag (words j) z
+      let w = winner (j .settings) (named j) in
+      let z = sym (own-type.refusal-elected (j .settings) (named j) e) ∙ fits in
+      ap (λ (k : ℕ). modelWrong k flag (rowFirst k fitted) 0) (own-type.elected-type (j .settings) (named j) e z)
+      ∙ ap (λ (p : List ℤ). modelWrong (w .«gm_type») flag (rowFirst (w .«gm_type») p) 0) (own-type.elected-own (j .settings) (named j) e z)
+      ∙ winner-codable sampleOf flag (named j) z
 
   asked-right : elects (j .settings) ≡ false → modelWrong kind flag kept 0 ≡ false
   asked-right a =
-      let t = own-type.type-asked (j .settings) (words j) a in
+      let t = own-type.type-asked (j .settings) (named j) a in
       let some : 1 ≤ kind = omega (arith, t, s .range .some-type a) in
       own-right kind flag some last-type fitted (on-grid some)
 

@@ -9,6 +9,7 @@ use lib.IntN.{ℤ}
 use lib.ListN.{length}
 use Rattle.laws.specs.Refusal.{Row, row, judge, orElse, either, both, choose}
 use Rattle.class.specs.Class.{lastClass, classOver}
+use Rattle.class_set.specs.Set.{namesOver, namesNone, namedCount}
 use Rattle.models.specs.Models.{typesOver, startOver}
 use Rattle.frame_number.specs.Shutter.{closedRefusal}
 use Rattle.sample.specs.Sample.{sampleOf}
@@ -19,7 +20,7 @@ use Rattle.trim.specs.Trim.{tooFew, usedFrom, trimRefusal}
 use Rattle.job_task.specs.Task.{Task, Lent, sizesOf}
 use Rattle.job_task.specs.Rows.{noReference, tooLittle, sizeRows, modelRows}
 use Rattle.job_model.specs.Assemble.{typesWith, modelsWith}
-use Rattle.job_outcome.specs.Outcome.{Ended, samples, words}
+use Rattle.job_outcome.specs.Outcome.{Ended, named}
 use Rattle.job_outcome.specs.Ends.{outcomeBy}
 
 -- ---- the rows: 4 without the elect code
@@ -33,11 +34,13 @@ trims j = eqb (j .settings .trim) 1
 abbrev pub codes : Task → Bool
 codes j =
     either (classOver lastClass (j .classes))
-    (either (noType (gmType j)) (either (typesOver (j .types)) (either (ltb 1 (j .settings .flag)) (ltb 1 (j .settings .trim)))))
+    (either (noType (gmType j))
+    (either (typesOver (j .types)) (either (ltb 1 (j .settings .flag)) (either (ltb 1 (j .settings .trim)) (namesOver (j .settings .set))))))
 
 abbrev pub codeRows : Task → List Row
 codeRows j =
     row 4 (codes j)
+    ∷ row 19 (namesNone (j .settings .set))
     ∷ row 5 (noReference (j .settings .reference))
     ∷ row 14 (startOver (j .settings .start))
     ∷ []
@@ -45,7 +48,7 @@ codeRows j =
 abbrev pub roomRows : Task → Lent → List Row
 roomRows j l =
     row 3 (tooLittle (sizesOf j l))
-    ∷ row 15 (both (trims j) (tooFew (gmType j) (samples j)))
+    ∷ row 15 (both (trims j) (tooFew (gmType j) (namedCount (j .settings .set) (j .classes))))
     ∷ []
 
 abbrev pub early : Task → Lent → ℕ
@@ -56,16 +59,16 @@ early j l =
     (orElse (judge (roomRows j l))
     (closedRefusal (j .settings .frame)))))
 
--- ---- the model: the fit of the type asked for, of the last fit's words where the job trims, otherwise of all
+-- ---- the model: the fit of the type asked for, of the last fit's words where the job trims, otherwise of all that are named
 
 abbrev pub fitWords : Task → List ℕ
-fitWords j = choose (trims j) (usedFrom sampleOf (gmType j) (words j)) (words j)
+fitWords j = choose (trims j) (usedFrom sampleOf (gmType j) (named j)) (named j)
 
 abbrev pub fit : Task → Fitted
 fit j = fitOf (gmType j) (fitWords j)
 
 abbrev pub late : Task → ℕ
-late j = choose (trims j) (trimRefusal sampleOf (gmType j) (words j)) (refusalOf (fit j))
+late j = choose (trims j) (trimRefusal sampleOf (gmType j) (named j)) (refusalOf (fit j))
 
 abbrev pub own : Task → List ℤ
 own j = params (fit j) (j .settings .flag) (fitWords j)
@@ -79,4 +82,4 @@ models j = modelsWith (j .settings .reference) (rowFirst (gmType j) (own j)) (j 
 -- ---- the end
 
 abbrev pub outcome : Task → Lent → Ended
-outcome j l = outcomeBy j l (types j) (models j) (own j) (early j l) (late j)
+outcome j l = outcomeBy j l (types j) (models j) (own j) (named j) (early j l) (late j)

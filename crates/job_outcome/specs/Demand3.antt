@@ -17,6 +17,7 @@ use Rattle.stage.specs.Stage.{Found}
 use Rattle.search.specs.Search.{motion, blockColumns}
 use Rattle.layout.specs.Form.{blockBytes, blocksOf, countAt}
 use Rattle.class.specs.Class as class
+use Rattle.class_set.specs.Set.{chosen}
 use Rattle.form2.specs.Block.{form2}
 use Rattle.forms.specs.Forms.{readAlone}
 use Rattle.frame_number.specs.Shutter.{closed}
@@ -49,6 +50,10 @@ wordsRead j o = class.wordsIn (samplesRead j o)
 
 abbrev pub classesRead : Task → Ended → List ℕ
 classesRead j o = class.classesIn (samplesRead j o)
+
+-- of the words read those whose class read is named
+abbrev pub namedRead : Task → Ended → List ℕ
+namedRead j o = chosen (j .settings .set) (wordsRead j o) (classesRead j o)
 
 -- the motion that the search finds for sample i
 abbrev pub motionOf : Task → ℕ → Found
@@ -114,9 +119,9 @@ pub record HeaderRead (j : Task) (o : Ended) : Type 0 where
 
 -- ---- the grid: each grid number of the fit, none of IDENTITY, two of a TRANSLATION and six of the other types, against its own slot's codable numbers
 
--- grid number i of the fit, over the words of the fit among those read
+-- grid number i of the fit, over the words of the fit among the named ones read
 abbrev pub numberRead : Task → Ended → ℕ → ℤ
-numberRead j o i = gridNumberAt (fitIn j) (j .settings .flag) (model.fitWords (j .settings) (wordsRead j o)) i
+numberRead j o i = gridNumberAt (fitIn j) (j .settings .flag) (model.fitWords (j .settings) (namedRead j o)) i
 
 abbrev pub NearestRead : Task → Ended → Type 0
 NearestRead j o =
@@ -142,7 +147,7 @@ pub record CountRead (j : Task) (o : Ended) : Type 0 where
 pub record Demand3 (j : Task) (o : Ended) : Type 0 where
   pub blocks : BlocksRead j o
   pub header : HeaderRead j o
-  -- the score is that of the model read, over the words of the score among those read
-  pub score : o .report .score ≡ meanSqResidual (ownRead j o) (model.scoreWords (j .settings) (wordsRead j o)) .score
+  -- the score is that of the model read, over the words of the score among the named ones read
+  pub score : o .report .score ≡ meanSqResidual (ownRead j o) (model.scoreWords (j .settings) (namedRead j o)) .score
   pub nearest : NearestRead j o
   pub count : CountRead j o

@@ -1,5 +1,6 @@
 -- How a job ends whose rows and model are given: the row that it meets before its search and the one after, 0 for none,
--- its seven types and models, and its own six numbers, which are scored over all words. For `Asked` and `Untrimmed`.
+-- its seven types and models, and its own six numbers with the words over which they are scored. For `Asked`,
+-- `Untrimmed` and `Unnamed`.
 -- Assumes nothing.
 use Prim.Native.Nat.{ℕ}
 use mathlib.Core.List.{List}
@@ -11,9 +12,9 @@ use Rattle.score.specs.Score.{meanSqResidual}
 use Rattle.header.specs.Writing.{headerBits, bitsPlaced}
 use Rattle.job_task.specs.Task.{Task, Lent}
 use Rattle.job_outcome.specs.declared.Report.{Report}
-use Rattle.job_outcome.specs.Outcome.{Ended, ended, samples, words, refused, leftWith, leftBySearch, blocksBy}
+use Rattle.job_outcome.specs.Outcome.{Ended, ended, samples, refused, leftWith, leftBySearch, blocksBy}
 
-module _ (j : Task) (l : Lent) (types : List ℕ) (models own : List ℤ) where
+module _ (j : Task) (l : Lent) (types : List ℕ) (models own : List ℤ) (scored : List ℕ) where
   abbrev bits : List ℕ
   bits = headerBits types models (j .settings .flag) (j .prior)
 
@@ -23,7 +24,7 @@ module _ (j : Task) (l : Lent) (types : List ℕ) (models own : List ℤ) where
         refusal = 0;
         types = types;
         models = models;
-        score = meanSqResidual own (words j) .score;
+        score = meanSqResidual own scored .score;
         bits = length bits;
         samples = samples j;
       }

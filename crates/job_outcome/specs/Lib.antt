@@ -4,3 +4,4 @@ pub mod Done
 pub mod Ends
 pub mod Asked
 pub mod Untrimmed
+pub mod Unnamed

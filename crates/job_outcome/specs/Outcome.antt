@@ -12,6 +12,7 @@ use Rattle.search.specs.Search.{sampleCount, sampleWords}
 use Rattle.search.specs.Refusal as search
 use Rattle.fit.specs.declared.Fitted.{Fitted}
 use Rattle.class.specs.Class.{Classed, classed}
+use Rattle.class_set.specs.Set.{chosen}
 use Rattle.form2.specs.Block.{codec2}
 use Rattle.block.specs.Frame.{frameBytes}
 use Rattle.header.specs.Writing.{headerBits, bitsPlaced}
@@ -39,26 +40,30 @@ words j = sampleWords (j .input) (j .reference) (j .width) (j .height)
 abbrev pub classedWords : Task → List Classed
 classedWords j = classed (words j) (j .classes)
 
+-- the words of the named classes, in their order: what the model and its score are of
+abbrev pub named : Task → List ℕ
+named j = chosen (j .settings .set) (words j) (j .classes)
+
 -- the type of its model, the words of its fit and those of its score
 abbrev pub ownType : Task → ℕ
-ownType j = model.ownType (j .settings) (words j)
+ownType j = model.ownType (j .settings) (named j)
 
 abbrev pub fitWords : Task → List ℕ
-fitWords j = model.fitWords (j .settings) (words j)
+fitWords j = model.fitWords (j .settings) (named j)
 
 abbrev pub scoreWords : Task → List ℕ
-scoreWords j = model.scoreWords (j .settings) (words j)
+scoreWords j = model.scoreWords (j .settings) (named j)
 
 -- the fit
 abbrev pub fitIn : Task → Fitted
-fitIn j = model.fitIn (j .settings) (words j)
+fitIn j = model.fitIn (j .settings) (named j)
 
 -- the seven types and models as stored, and the bits of their header
 abbrev pub types : Task → List ℕ
-types j = model.allTypes (j .settings) (j .types) (words j)
+types j = model.allTypes (j .settings) (j .types) (named j)
 
 abbrev pub models : Task → List ℤ
-models j = model.allModels (j .settings) (j .models) (words j)
+models j = model.allModels (j .settings) (j .models) (named j)
 
 abbrev pub bits : Task → List ℕ
 bits j = headerBits (types j) (models j) (j .settings .flag) (j .prior)
@@ -66,7 +71,7 @@ bits j = headerBits (types j) (models j) (j .settings .flag) (j .prior)
 -- ---- when it says no: before the search, by `early`; after it, where its model is refused
 
 abbrev pub late : Task → ℕ
-late j = model.modelRefusal (j .settings) (words j)
+late j = model.modelRefusal (j .settings) (named j)
 
 abbrev pub refusal : Task → Lent → ℕ
 refusal j l = orElse (early j l) (late j)
@@ -82,7 +87,7 @@ accepted j =
       refusal = 0;
       types = types j;
       models = models j;
-      score = model.scoreOf (j .settings) (words j);
+      score = model.scoreOf (j .settings) (named j);
       bits = length (bits j);
       samples = samples j;
     }

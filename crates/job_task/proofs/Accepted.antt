@@ -13,6 +13,7 @@ use Rattle.laws.specs.Refusal.{judge, choose}
 use Rattle.laws.proofs.Refusal.{neither, length-is, quiet, or-else-quiet}
 use Rattle.plane.specs.Inner.{Small}
 use Rattle.class.specs.Class.{lastClass, classOver}
+use Rattle.class_set.specs.Set.{allClasses, namesOver}
 use Rattle.search.specs.Search.{sampleCount}
 use Rattle.search.specs.Refusal as search
 use Rattle.search.proofs.Rows as search-rows
@@ -36,7 +37,7 @@ module _ (z : Sizes) (s : Settings) (classes types : List ℕ) (models prior : L
     pub sizes : judge (sizeRows z (length classes) (length types) (length models) (length prior)) ≡ 0
     pub codes : judge (codeRows s classes types) ≡ 0
     pub handed : judge (modelRows s types models prior) ≡ 0
-    pub room : judge (roomRows z s) ≡ 0
+    pub room : judge (roomRows z s classes) ≡ 0
     pub shutter : closedRefusal (s .frame) ≡ 0
 
   pub all-quiet : refusalBefore z s classes types models prior ≡ 0 → AllQuiet
@@ -45,7 +46,7 @@ module _ (z : Sizes) (s : Settings) (classes types : List ℕ) (models prior : L
       let a = or-else-quiet (judge (sizeRows z (length classes) (length types) (length models) (length prior))) _ e in
       let b = or-else-quiet (judge (codeRows s classes types)) _ (a .1) in
       let c = or-else-quiet (judge (modelRows s types models prior)) _ (b .1) in
-      let d = or-else-quiet (judge (roomRows z s)) (closedRefusal (s .frame)) (c .1) in
+      let d = or-else-quiet (judge (roomRows z s classes)) (closedRefusal (s .frame)) (c .1) in
       record { sizes = a .0; codes = b .0; handed = c .0; room = d .0; shutter = d .1 }
 
   pub quiet-all : AllQuiet → refusalBefore z s classes types models prior ≡ 0
@@ -80,7 +81,7 @@ lengths z classes types models prior e =
       places = length-is prior priorNumbers (m .1);
     }
 
--- ---- rows 4, 5 and 14
+-- ---- rows 4, 19, 5 and 14
 
 pub record Codes (s : Settings) (classes types : List ℕ) : Type 0 where
   pub classed : classOver lastClass classes ≡ false
@@ -101,15 +102,17 @@ asked s a e =
     let some : s .«gm_type» ≡ 0 → ⊥ = eqb-false (s .«gm_type») 0 (q .0) in
     record { some = omega arith; last = ltb-false 3 (s .«gm_type») (q .1) }
 
-codes : (s : Settings) (classes types : List ℕ) → judge (codeRows s classes types) ≡ 0 → Codes s classes types
+pub codes : (s : Settings) (classes types : List ℕ) → judge (codeRows s classes types) ≡ 0 → Codes s classes types
 codes s classes types e =
     let q = quiet (codeRows s classes types) tt e in
     let four = neither (classOver lastClass classes) _ (q .0) in
     let kind = neither (unlessElects s (noType (s .«gm_type»))) _ (four .1) in
     let over = neither (typesOver types) _ (kind .1) in
     let flags = neither (ltb 1 (s .flag)) _ (over .1) in
-    let codes = neither (unlessElects s (ltb 1 (s .trim))) (ltb 1 (s .elect)) (flags .1) in
-    let five = neither (eqb (s .reference) 0) (ltb 7 (s .reference)) (q .1 .0) in
+    let trims = neither (unlessElects s (ltb 1 (s .trim))) _ (flags .1) in
+    let last = neither (ltb 1 (s .elect)) (namesOver (s .set)) (trims .1) in
+    let some : s .set ≡ 0 → ⊥ = eqb-false (s .set) 0 (q .1 .0) in
+    let five = neither (eqb (s .reference) 0) (ltb 7 (s .reference)) (q .1 .1 .0) in
     let one : s .reference ≡ 0 → ⊥ = eqb-false (s .reference) 0 (five .0) in
     record {
       classed = four .0;
@@ -120,9 +123,11 @@ codes s classes types e =
         some-reference = omega arith;
         last-reference = ltb-false 7 (s .reference) (five .1);
         flagged = ltb-false 1 (s .flag) (flags .0);
-        trimming = λ a. ltb-false 1 (s .trim) (sym (unless-elects s (ltb 1 (s .trim)) a) ∙ codes .0);
-        electing = ltb-false 1 (s .elect) (codes .1);
-        low = omega (arith, ltb-false 7 (s .start) (q .1 .1 .0));
+        trimming = λ a. ltb-false 1 (s .trim) (sym (unless-elects s (ltb 1 (s .trim)) a) ∙ trims .0);
+        electing = ltb-false 1 (s .elect) (last .0);
+        some-class = omega arith;
+        last-class = ltb-false allClasses (s .set) (last .1);
+        low = omega (arith, ltb-false 7 (s .start) (q .1 .1 .1 .0));
       };
     }
 
@@ -145,7 +150,7 @@ module _ (j : Task) (l : Lent) where
       let c = codes (j .settings) (j .classes) (j .types) (q .codes) in
       let m = quiet (modelRows (j .settings) (j .types) (j .models) (j .prior)) tt (q .handed) in
       let needed : ℕ = blockBytes * blocksOf form2 (sampleCount (j .width) (j .height)) in
-      let last = quiet (roomRows z (j .settings)) tt (q .room) in
+      let last = quiet (roomRows z (j .settings) (j .classes)) tt (q .room) in
       let three = neither (search.tooShort (j .width) (j .height) (length (l .inputHalf)) (length (l .refHalf)) (length (l .words))) _ (last .0) in
       let room = neither (ltb (length (l .blocks)) needed) (ltb (length (l .header)) headerBytes) (three .1) in
       let found : search.refusal (searchTask j) (searchLent l) ≡ 0 = search-accepts (searchTask j) (searchLent l) (n .large) (n .planes) (c .classed) (three .0) in

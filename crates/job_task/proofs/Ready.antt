@@ -5,6 +5,7 @@ use mathlib.Core.Bool.{false}
 use mathlib.Core.Path.{_≡_}
 use lib.ListN.{length}
 use Rattle.class.specs.Class.{lastClass, classOver}
+use Rattle.class_set.specs.Set.{namedCount}
 use Rattle.search.specs.Search.{sampleCount}
 use Rattle.search.specs.Refusal as search
 use Rattle.models.specs.Models.{typesOver, modelsWrong, priorsOut}
@@ -28,7 +29,7 @@ pub record Sound (j : Task) : Type 0 where
   pub known : typesOver (j .types) ≡ false
   pub right : modelsWrong (j .types) (j .settings .flag) (j .models) ≡ false
   pub within : priorsOut (j .prior) ≡ false
-  pub enough : tooFewToTrim (j .settings) (sampleCount (j .width) (j .height)) ≡ false
+  pub enough : tooFewToTrim (j .settings) (namedCount (j .settings .set) (j .classes)) ≡ false
   pub used : closed (j .settings .frame) ≡ false
 
 -- and what is lent

@@ -1,5 +1,5 @@
--- The rows of the table of refusals that a job meets before its search, in the table's order: 1, 2, 4, 5, 14, 7, 8, 3,
--- 15, 17. A job that elects has no 15. docs/RULES.md, 'When a call says no'.
+-- The rows of the table of refusals that a job meets before its search, in the table's order: 1, 2, 4, 19, 5, 14, 7, 8,
+-- 3, 15, 17. A job that elects has no 15. docs/RULES.md, 'When a call says no'.
 -- Assumes nothing.
 use Prim.Native.Nat.{ℕ, _*_}
 use mathlib.Core.Bool.{Bool, false, not}
@@ -10,6 +10,7 @@ use lib.ListN.{length}
 use Rattle.laws.specs.Refusal.{Row, row, judge, orElse, choose, either, both}
 use Rattle.search.specs.Search.{sampleCount}
 use Rattle.class.specs.Class.{lastClass, classOver}
+use Rattle.class_set.specs.Set.{namesOver, namesNone, namedCount}
 use Rattle.search.specs.Refusal.{tooLarge, wrongLength, tooShort}
 use Rattle.fit.specs.Fitted.{noType}
 use Rattle.trim.specs.Trim.{tooFew}
@@ -57,13 +58,13 @@ wrongLengths z classes types models prior =
     (either (not (eqb types otherTypes)) (either (not (eqb models otherNumbers)) (not (eqb prior priorNumbers))))
 
 -- row 4: a class over 4; the type asked for 0 or over 3; another's type over 3; the flag over 1; the trim code over 1;
--- the elect code over 1
+-- the elect code over 1; the set naming a class over 4
 abbrev pub badCodes : Settings → List ℕ → List ℕ → Bool
 badCodes s classes types =
     either (classOver lastClass classes)
     (either (unlessElects s (noType (s .«gm_type»)))
     (either (typesOver types)
-    (either (ltb 1 (s .flag)) (either (unlessElects s (ltb 1 (s .trim))) (ltb 1 (s .elect))))))
+    (either (ltb 1 (s .flag)) (either (unlessElects s (ltb 1 (s .trim))) (either (ltb 1 (s .elect)) (namesOver (s .set)))))))
 
 -- row 5: a reference outside 1 to 7
 abbrev pub noReference : ℕ → Bool
@@ -75,9 +76,9 @@ tooLittle z =
     either (tooShort (z .width) (z .height) (z .«input_half») (z .«ref_half») (z .words))
     (either (ltb (z .blocks) (blockBytes * blocksOf form2 (sampleCount (z .width) (z .height)))) (ltb (z .header) headerBytes))
 
--- row 15: a job that trims the type asked for has fewer samples than that type's least
+-- row 15: a job that trims the type asked for has fewer samples than that type's least; those of the named classes count
 abbrev pub tooFewToTrim : Settings → ℕ → Bool
-tooFewToTrim s samples = unlessElects s (both (trims s) (tooFew (s .«gm_type») samples))
+tooFewToTrim s named = unlessElects s (both (trims s) (tooFew (s .«gm_type») named))
 
 -- ---- the rows, in groups
 
@@ -90,6 +91,7 @@ sizeRows z classes types models prior =
 abbrev pub codeRows : Settings → List ℕ → List ℕ → List Row
 codeRows s classes types =
     row 4 (badCodes s classes types)
+    ∷ row 19 (namesNone (s .set))
     ∷ row 5 (noReference (s .reference))
     ∷ row 14 (startOver (s .start))
     ∷ []
@@ -100,10 +102,10 @@ modelRows s types models prior =
     ∷ row 8 (priorsOut prior)
     ∷ []
 
-abbrev pub roomRows : Sizes → Settings → List Row
-roomRows z s =
+abbrev pub roomRows : Sizes → Settings → List ℕ → List Row
+roomRows z s classes =
     row 3 (tooLittle z)
-    ∷ row 15 (tooFewToTrim s (sampleCount (z .width) (z .height)))
+    ∷ row 15 (tooFewToTrim s (namedCount (s .set) classes))
     ∷ []
 
 -- the first of these rows that holds, 0 for none
@@ -112,7 +114,7 @@ refusalBefore z s classes types models prior =
     orElse (judge (sizeRows z (length classes) (length types) (length models) (length prior)))
     (orElse (judge (codeRows s classes types))
     (orElse (judge (modelRows s types models prior))
-    (orElse (judge (roomRows z s))
+    (orElse (judge (roomRows z s classes))
     (closedRefusal (s .frame)))))
 
 -- of a job: refused before its search

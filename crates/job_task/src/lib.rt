@@ -1,9 +1,10 @@
 // What a job is handed, and the rows of the table of refusals that it meets before its search: 1, 2,
-// 4, 5, 14, 7, 8, 3, 15, 17, in the table's order (docs/RULES.md, 'Job', 'When a call says no'); a job
-// that elects takes no type and always trims, so it has no 15. In go the settings, how long planes and
+// 4, 19, 5, 14, 7, 8, 3, 15, 17, in the table's order (docs/RULES.md, 'Job', 'When a call says no'); a
+// job that elects takes no type and always trims, so it has no 15. In go the settings, how long planes and
 // lent buffers are, and the lists that are looked into; out comes the first row that holds, 0 for none.
 // The rows are judged in groups; a group is a function.
 use class::LAST_CLASS;
+use class_set::NO_CLASS;
 use forms::FORM2;
 use header::MOST_BYTES;
 use layout::BLOCK_BYTES;
@@ -14,7 +15,7 @@ ghost use lib.ListN.{length};
 ghost use Rattle.laws.specs.Refusal.{judge};
 ghost use Rattle.plane.specs.Inner.{Small};
 ghost use lib.Dec.{ltb};
-ghost use Rattle.search.specs.Search.{sampleCount};
+ghost use Rattle.class_set.specs.Set.{namedCount};
 ghost use Rattle.fit.specs.Fitted.{noType};
 ghost use Rattle.job_task.specs.Rows.{wrongLengths, unlessElects, badCodes, noReference, tooLittle, tooFewToTrim, sizeRows, codeRows, modelRows, roomRows, refusalBefore};
 
@@ -50,8 +51,9 @@ const TOO_FEW: u32 = 15;
 
 // The frame number of the blocks, the type to fit, the reference that the model is for, the flag of
 // high precision, whether the job trims (1, otherwise 0), whether it elects (1, otherwise 0: the type
-// and the trim above aren't looked at where it does), and the bit of the header's first byte at which
-// writing begins.
+// and the trim above aren't looked at where it does), the set of the classes whose samples the model is
+// made from (class c is bit c; 31: all of them), and the bit of the header's first byte at which writing
+// begins.
 #[repr(C)]
 pub struct Settings {
     pub frame: u16,
@@ -60,6 +62,7 @@ pub struct Settings {
     pub flag: u8,
     pub trim: u8,
     pub elect: u8,
+    pub set: u8,
     pub start: usize,
 }
 
@@ -137,7 +140,10 @@ fn bad_codes(settings: Settings, classes: &[u8], types: &[u8]) -> bool
     if bad_trim(settings) {
         return true;
     }
-    1 < settings.elect
+    if 1 < settings.elect {
+        return true;
+    }
+    class_set::names_over(settings.set)
 }
 
 fn no_reference(reference: u8) -> bool
@@ -169,9 +175,9 @@ fn too_little(sizes: Sizes) -> bool
     sizes.header < MOST_BYTES
 }
 
-fn too_few_to_trim(sizes: Sizes, settings: Settings) -> bool
-    requires { ⌜ Small (sizes .width) (sizes .height) ⌝ }
-    ensures { λ b. ⌜ b ≡ tooFewToTrim settings (sampleCount (sizes .width) (sizes .height)) ⌝ }
+// Of the classes' samples those count that the set names.
+fn too_few_to_trim(settings: Settings, classes: &[u8]) -> bool
+    ensures { λ b. ⌜ b ≡ tooFewToTrim settings (namedCount (settings .set) (now (classes .entry))) ⌝ }
 {
     if settings.elect == 1 {
         return false;
@@ -179,8 +185,8 @@ fn too_few_to_trim(sizes: Sizes, settings: Settings) -> bool
     if settings.trim != 1 {
         return false;
     }
-    let samples = sizes.height / BLOCK * (sizes.width / BLOCK);
-    samples < trim::least_of(settings.gm_type)
+    let named = class_set::count_named(settings.set, classes);
+    named < trim::least_of(settings.gm_type)
 }
 
 fn sizes_refusal(sizes: Sizes, classes: usize, types: usize, models: usize, prior: usize) -> u32
@@ -200,6 +206,9 @@ fn codes_refusal(settings: Settings, classes: &[u8], types: &[u8]) -> u32
 {
     if bad_codes(settings, classes, types) {
         return BAD_CODE;
+    }
+    if settings.set == 0 {
+        return NO_CLASS;
     }
     if no_reference(settings.reference) {
         return NO_REFERENCE;
@@ -223,14 +232,14 @@ fn models_refusal(settings: Settings, types: &[u8], models: &[i32], prior: &[i32
     0
 }
 
-fn room_refusal(sizes: Sizes, settings: Settings) -> u32
+fn room_refusal(sizes: Sizes, settings: Settings, classes: &[u8]) -> u32
     requires { ⌜ Small (sizes .width) (sizes .height) ⌝ }
-    ensures { λ r. ⌜ r ≡ judge (roomRows sizes settings) ⌝ }
+    ensures { λ r. ⌜ r ≡ judge (roomRows sizes settings (now (classes .entry))) ⌝ }
 {
     if too_little(sizes) {
         return TOO_LITTLE;
     }
-    if too_few_to_trim(sizes, settings) {
+    if too_few_to_trim(settings, classes) {
         return TOO_FEW;
     }
     0
@@ -258,7 +267,7 @@ pub fn refusal_of(
     if handed != 0 {
         return handed;
     }
-    let room = room_refusal(sizes, settings);
+    let room = room_refusal(sizes, settings, classes);
     if room != 0 {
         return room;
     }

@@ -229,3 +229,12 @@ module _ (b : ℕ) (h : b < infinite) where
   plain-below =
       let k = plain-of-bits (ofBits binary64 b) no-nan-read (rw bits-back h) in
       record { held = ofBits-fits binary64 b; bare = k .0; ends = k .1 }
+
+-- a number that another lies below is none that isn't a number
+pub above-is-no-nan : (y x : Float) → lt y x ≡ true → T (not (isNan x))
+unfolding lt isNan
+above-is-no-nan nan nan p = absurd (subst T (sym p) tt)
+above-is-no-nan (inf t) nan p = absurd (subst T (sym p) tt)
+above-is-no-nan (fin t n k) nan p = absurd (subst T (sym p) tt)
+above-is-no-nan y (inf s) p = tt
+above-is-no-nan y (fin s m e) p = tt

@@ -4,7 +4,7 @@
 // for `word_trim` too, and the trim over numbers in a call's own memory, which lent samples take.
 // Nothing is moved there: a sample is passed over where its squared residual is above a limit. The root
 // rises, so the residuals' median is the root of their squares' median, and a residual is at most the
-// cutoff where its square is at most the greatest number whose root is: a call takes some sixty roots,
+// cutoff where its square is at most the greatest number whose root is: a call takes four roots,
 // however many samples there are. Before the first fit every square is 0.0 and so is the limit.
 
 use fit::AffineSums;
@@ -52,11 +52,11 @@ const LEAST_AFFINE: usize = 8;
 // The pattern of infinity.
 pub const INFINITE: u64 = 0x7ff0_0000_0000_0000;
 
-// So many patterns from the square of a cutoff the limit of the squares is looked for first.
-const BESIDE: u64 = 4;
+// So many patterns above the square of a cutoff no square is at most the limit.
+const BESIDE: u64 = 2;
 
 // A pattern below this has one of a finite number so far above it.
-const FAR: u64 = 0x7fef_ffff_ffff_fffc;
+const FAR: u64 = 0x7fef_ffff_ffff_fffe;
 
 // The last fit made, or a refusal, and how many samples it used.
 pub struct Trimmed {
@@ -342,8 +342,8 @@ fn cutoff_of(squares: &[f64], n: usize) -> f64
     three
 }
 
-// Where to cut next between lo and hi: first beside a guess, above it and then below, where it lies
-// between them, otherwise in the middle.
+// Where to cut next between lo and hi: first above a guess and then at it, where it lies between them,
+// otherwise in the middle.
 fn between(lo: u64, hi: u64, guess: u64) -> u64
     requires { ⌜ lo < hi ⌝ }
     ensures { λ r. ⌜ lo ≤ r ⌝ }
@@ -352,8 +352,8 @@ fn between(lo: u64, hi: u64, guess: u64) -> u64
     if hi == INFINITE && guess >= lo && guess < FAR {
         return guess + BESIDE;
     }
-    if lo == 0 && guess >= BESIDE && guess <= hi {
-        return guess - BESIDE;
+    if lo == 0 && guess < hi {
+        return guess;
     }
     lo + (hi - lo) / 2
 }
@@ -368,8 +368,8 @@ fn square_pattern(x: f64) -> u64 {
 }
 
 // The greatest finite number whose root is at most the cutoff, by bisecting the patterns: the root of
-// each below lo is, and of none from hi on. Minus infinity where there is none. It lies a few patterns
-// from the cutoff's square, which the search begins with.
+// each below lo is, and of none from hi on. Minus infinity where there is none. It is
+// the cutoff's square or the next number, so the search begins there.
 fn square_limit(cutoff: f64) -> f64
     requires { ⌜ Bare cutoff ⌝ }
     ensures { λ r. ⌜ Limits cutoff r ⌝ }

@@ -38,18 +38,19 @@ use Rattle.word_trim.proofs.Kept.{chosen-kept, chosen-all}
 
 -- ---- what rows 1, 4 and 15 let pass
 
-asked : (gmType n : ℕ) (kept : List ℕ) → length kept ≡ mostSamples → fitRefusal gmType n ≡ 0 → fewRefusal gmType n ≡ 0 → Asked gmType n kept
-asked gmType n kept room e f =
-    record { few = fit-few gmType n e; typed = or-else-quiet (listRefusal n) (typeRefusal gmType) e .1; enough = few-passes gmType n f; room = room }
+module _ (gmType n : ℕ) (squares : List Float) (kept : List ℕ) (long : n ≤ length squares) (room : n ≤ length kept) where
+  asked : fitRefusal gmType n ≡ 0 → fewRefusal gmType n ≡ 0 → Asked gmType n squares kept
+  asked e f =
+      record { few = fit-few gmType n e; typed = or-else-quiet (listRefusal n) (typeRefusal gmType) e .1; enough = few-passes gmType n f; long = long; room = room }
 
-pub list-asked : (gmType n : ℕ) (kept : List ℕ) → length kept ≡ mostSamples → trimming.listRefusal gmType n ≡ 0 → Asked gmType n kept
-list-asked gmType n kept room e =
-    let q = or-else-quiet (fitRefusal gmType n) (fewRefusal gmType n) e in
-    asked gmType n kept room (q .0) (q .1)
+  pub list-asked : trimming.listRefusal gmType n ≡ 0 → Asked gmType n squares kept
+  list-asked e = let q = or-else-quiet (fitRefusal gmType n) (fewRefusal gmType n) e in asked (q .0) (q .1)
 
-pub model-asked : (gmType flag n : ℕ) (kept : List ℕ) → length kept ≡ mostSamples → trimming.modelRefusal gmType flag n ≡ 0 → Asked gmType n kept
-model-asked gmType flag n kept room e =
-    asked gmType n kept room (first-quiet gmType flag n e .0) (then-quiet gmType flag n e .1)
+  pub model-asked : (flag : ℕ) → trimming.modelRefusal gmType flag n ≡ 0 → Asked gmType n squares kept
+  model-asked flag e = asked (first-quiet gmType flag n e .0) (then-quiet gmType flag n e .1)
+
+pub list-few : (gmType n : ℕ) → trimming.listRefusal gmType n ≡ 0 → n ≤ mostSamples
+list-few gmType n e = fit-few gmType n (or-else-quiet (fitRefusal gmType n) (fewRefusal gmType n) e .0)
 
 -- such a list is fitted
 fit-made : (gmType : ℕ) (ws : List ℕ) → length ws ≤ mostSamples → typeRefusal gmType ≡ 0 → fitted gmType ws ≡ fitFrom sampleOf gmType ws
@@ -59,7 +60,7 @@ fit-made gmType ws h t =
 
 -- ---- the first fit
 
-module _ (gmType : ℕ) (words kept : List ℕ) (q : Asked gmType (length words) kept) (f : Fitted) (e : f ≡ fitted gmType words) where
+module _ (gmType : ℕ) (words : List ℕ) (old : List Float) (kept : List ℕ) (q : Asked gmType (length words) old kept) (f : Fitted) (e : f ≡ fitted gmType words) where
   first-is : f ≡ firstFrom sampleOf gmType words
   first-is = e ∙ fit-made gmType words (q .few) (q .typed)
 
@@ -68,14 +69,13 @@ module _ (gmType : ℕ) (words kept : List ℕ) (q : Asked gmType (length words)
       let number : trimRefusal sampleOf gmType words ≡ refusalOf f = first-refused sampleOf gmType words f first-is h in
       record { answers = refused-answer sampleOf gmType words (refusalOf f) h number; room = q .room; within = λ z. absurd (h (sym number ∙ z)) }
 
-  pub measured : refusalOf f ≡ 0 → (old after : List Float) → length old ≡ mostSamples → after ≡ onto (squaresFrom sampleOf f words) old → Measured gmType f words after kept
-  measured h old after l s =
+  pub measured : refusalOf f ≡ 0 → (after : List Float) → after ≡ onto (squaresFrom sampleOf f words) old → Measured gmType f words after kept
+  measured h after s =
       record {
+        old = old;
         asked = q;
         is = first-is;
         fitted = sym (ap refusalOf first-is) ∙ h;
-        old = old;
-        long = l;
         squared = s ∙ ap (λ (g : Fitted). onto (squaresFrom sampleOf g words) old) first-is;
       }
 
@@ -107,7 +107,7 @@ module _ (gmType : ℕ) (first : Fitted) (words : List ℕ) (squares : List Floa
       omega (arith, e, length-distances)
 
   pub kept-long : length words ≤ length kept
-  kept-long = omega (arith, m .asked .few, m .asked .room)
+  kept-long = m .asked .room
 
   abbrev chosen : Float → List ℕ
   chosen limit = chosenBy (atMost limit) words squares
@@ -142,7 +142,7 @@ module _ (gmType : ℕ) (first : Fitted) (words : List ℕ) (squares : List Floa
         let some : 0 < length distances = omega (arith, some-least gmType, m .asked .enough, length-distances) in
         subst (λ (l : List Float). Findable l) (sym front) (record { some = some; plain = squares-plain sampleOf before words each-measured })
 
-    made : (out : List ℕ) (f : Fitted) (n : ℕ) → length out ≡ mostSamples → f ≡ fitFrom sampleOf gmType used → Front used out n → Trims gmType words out (trimOf f n)
+    made : (out : List ℕ) (f : Fitted) (n : ℕ) → length words ≤ length out → f ≡ fitFrom sampleOf gmType used → Front used out n → Trims gmType words out (trimOf f n)
     made out f n room is there =
         let answer = last-answer sampleOf gmType words (m .fitted) (finite-is true finite) f n is (there .counted) in
         let whole : Trimmed = trimmedAs (fitFrom sampleOf gmType used) (length used) in
@@ -168,7 +168,7 @@ module _ (gmType : ℕ) (first : Fitted) (words : List ℕ) (squares : List Floa
       kept-count = there .counted ∙ ap (λ (l : List ℕ). length l) is-kept
 
       -- too few are kept: the first fit is the last, of all words
-      pub stood-trims : n < leastOf gmType → (top : Float) → top ≡ inf false → (after : List ℕ) (all : ℕ) → length after ≡ mostSamples → Front (chosen top) after all
+      pub stood-trims : n < leastOf gmType → (top : Float) → top ≡ inf false → (after : List ℕ) (all : ℕ) → length words ≤ length after → Front (chosen top) after all
           → Trims gmType words after (trimOf first all)
       stood-trims h top i after all room whole =
           let every : chosen top ≡ words = chosen-is top ∙ chosen-all before words (drop (length distances) (m .old)) each-measured top i in
@@ -176,7 +176,7 @@ module _ (gmType : ℕ) (first : Fitted) (words : List ℕ) (squares : List Floa
           made after first all room (m .is ∙ ap (λ (l : List ℕ). fitFrom sampleOf gmType l) (sym those))
           (subst (λ (l : List ℕ). Front l after all) (every ∙ sym those) whole)
 
-      pub fitted-trims : leastOf gmType ≤ n → length out ≡ mostSamples → (f : Fitted) → f ≡ fitted gmType (take n out) → Trims gmType words out (trimOf f n)
+      pub fitted-trims : leastOf gmType ≤ n → length words ≤ length out → (f : Fitted) → f ≡ fitted gmType (take n out) → Trims gmType words out (trimOf f n)
       fitted-trims h room f i =
           let those : chosen limit ≡ used = is-kept ∙ sym (used-kept sampleOf gmType words (omega (arith, h, kept-count))) in
           let few : length (take n out) ≤ mostSamples = omega (arith, ap (λ (l : List ℕ). length l) (there .front), there .counted, kept-few limit out n there) in

@@ -4,6 +4,7 @@
 // The cutoff, its limit and the refusals are those of `trim`.
 
 use fit::Fitted;
+use sample::MOST_SAMPLES;
 use trim::INFINITE;
 use trim::NOT_FINITE;
 use trim::Trimmed;
@@ -18,7 +19,10 @@ ghost use Rattle.sample.specs.Sample.{sampleOf};
 ghost use Rattle.quantize.specs.Quantize.{quantizedModel};
 ghost use Rattle.trim.specs.Trim.{trimmedFrom, trimmedModelFrom};
 ghost use Rattle.trim.specs.Inner.{squaresFrom, modelAs};
-ghost use Rattle.word_trim.specs.Inner.{atMost, refusedTrim, trimOf, Asked, Measured, Trims};
+ghost use Rattle.word_trim.specs.Inner.{atMost, refusedTrim, trimOf, Asked, Measured, Trims, Placed};
+
+// A list up to this length takes as little room: clearing the most would take longer than trimming it.
+const SHORT: usize = 64;
 
 // How far each word's sample lies from a fit, squared.
 fn residuals(fitted: Fitted, words: &[u32], squares: &mut [f64])
@@ -95,8 +99,8 @@ fn second(gm_type: u8, first: Fitted, words: &[u32], squares: &[f64], kept: &mut
 }
 
 // The last fit made, or a refusal; the words that it used are in front of the list.
-fn trimmed(gm_type: u8, words: &[u32], kept: &mut [u32]) -> Trimmed
-    requires { ⌜ Asked «gm_type» (length (now words)) (now kept) ⌝ }
+fn trimmed(gm_type: u8, words: &[u32], squares: &mut [f64], kept: &mut [u32]) -> Trimmed
+    requires { ⌜ Asked «gm_type» (length (now words)) (now squares) (now kept) ⌝ }
     ensures { λ r. ⌜ Trims «gm_type» (now (words .entry)) (now (kept .exit)) r ⌝ }
 {
     let first = fit::fit_model(gm_type, words);
@@ -104,9 +108,8 @@ fn trimmed(gm_type: u8, words: &[u32], kept: &mut [u32]) -> Trimmed
     if number != 0 {
         return refused_trim(number);
     }
-    let mut squares = [0.0f64; 4096];
-    residuals(first, words, &mut squares);
-    second(gm_type, first, words, &squares, kept)
+    residuals(first, words, squares);
+    second(gm_type, first, words, squares, kept)
 }
 
 // The fit of a type code over sample words, after trimming.
@@ -117,8 +120,14 @@ pub fn fit_trimmed(gm_type: u8, words: &[u32]) -> Trimmed
     if refusal != 0 {
         return refused_trim(refusal);
     }
-    let mut kept = [0u32; 4096];
-    trimmed(gm_type, words, &mut kept)
+    if words.len() <= SHORT {
+        let mut few = [0.0f64; SHORT];
+        let mut front = [0u32; SHORT];
+        return trimmed(gm_type, words, &mut few, &mut front);
+    }
+    let mut squares = [0.0f64; MOST_SAMPLES];
+    let mut kept = [0u32; MOST_SAMPLES];
+    trimmed(gm_type, words, &mut squares, &mut kept)
 }
 
 // A fit on the grid, the translation fitted again over the words that it used.
@@ -135,6 +144,26 @@ fn on_grid(fitted: Fitted, flag: u8, used: &[u32]) -> TrimmedModel
     }
 }
 
+// The last fit on the grid, or a refusal.
+fn placed(
+    gm_type: u8,
+    flag: u8,
+    words: &[u32],
+    squares: &mut [f64],
+    kept: &mut [u32],
+) -> TrimmedModel
+    requires { ⌜ Placed «gm_type» flag (length (now words)) (now squares) (now kept) ⌝ }
+    ensures { λ r. ⌜ r ≡ trimmedModelFrom sampleOf «gm_type» flag (now (words .entry)) ⌝ }
+{
+    let last = trimmed(gm_type, words, squares, kept);
+    let fitted = last.fitted;
+    let number = fit::refusal_of(fitted);
+    if number != 0 {
+        return trim::refused_model(number);
+    }
+    on_grid(fitted, flag, &kept[..last.used as usize])
+}
+
 // The same on the grid, x first.
 pub fn quantize_trimmed(gm_type: u8, flag: u8, words: &[u32]) -> TrimmedModel
     ensures { λ r. ⌜ r ≡ trimmedModelFrom sampleOf «gm_type» flag (now (words .entry)) ⌝ }
@@ -143,12 +172,12 @@ pub fn quantize_trimmed(gm_type: u8, flag: u8, words: &[u32]) -> TrimmedModel
     if refusal != 0 {
         return trim::refused_model(refusal);
     }
-    let mut kept = [0u32; 4096];
-    let last = trimmed(gm_type, words, &mut kept);
-    let fitted = last.fitted;
-    let number = fit::refusal_of(fitted);
-    if number != 0 {
-        return trim::refused_model(number);
+    if words.len() <= SHORT {
+        let mut few = [0.0f64; SHORT];
+        let mut front = [0u32; SHORT];
+        return placed(gm_type, flag, words, &mut few, &mut front);
     }
-    on_grid(fitted, flag, &kept[..last.used as usize])
+    let mut squares = [0.0f64; MOST_SAMPLES];
+    let mut kept = [0u32; MOST_SAMPLES];
+    placed(gm_type, flag, words, &mut squares, &mut kept)
 }

@@ -118,6 +118,25 @@ pub fn classes(random: &mut Random, count: usize) -> Vec<u8> {
     (0..count).map(|_| random.below(5) as u8).collect()
 }
 
+/// The classes, and the bits of the set that names them all.
+pub const LAST_CLASS: u8 = 4;
+pub const ALL_CLASSES: u8 = 31;
+
+/// A set of classes that isn't refused: of one, of some, or of all five.
+pub fn class_set(random: &mut Random) -> u8 {
+    match random.below(8) {
+        0 => ALL_CLASSES,
+        1 => 1 << random.below(5),
+        _ => 1 + random.below(31) as u8,
+    }
+}
+
+/// A set that may be empty or name a class that there isn't, at times both that and nothing else.
+pub fn any_class_set(random: &mut Random) -> u8 {
+    let set = if random.one_in(30) { 0 } else { class_set(random) };
+    if random.one_in(30) { set | 32 << random.below(3) } else { set }
+}
+
 /// Up to 4,096 words of any field value, with fields that are all alike, near each other or free.
 pub fn words(random: &mut Random) -> Vec<u32> {
     if random.one_in(12) {

@@ -3,8 +3,8 @@
 use crate::inputs::{self, Scene, float, number, prior, sides, stored_model};
 use crate::random::Random;
 use belt::{
-    Buffers, Elected, Fitted, Frame, Kind as FrameKind, Lent, Model, MotionSample, Refusal, Report, Settings,
-    StoredModel, Task,
+    Buffers, ClassSet, Elected, Fitted, Frame, Kind as FrameKind, Lent, Model, MotionSample, Refusal, Report, Settings,
+    StoredModel, Task, Trimmed, TrimmedModel,
 };
 use oracle::blocks::{self, BLOCK, Form, ONE, TWO};
 use oracle::{Models, SINGULAR, TOO_FEW, practice};
@@ -30,7 +30,7 @@ pub struct Kind {
     pub compare: fn(&mut Case) -> Result<(), String>,
 }
 
-pub const KINDS: [Kind; 32] = [
+pub const KINDS: [Kind; 38] = [
     Kind { name: "search", share: 4, compare: search },
     Kind { name: "fit translation", share: 4, compare: |case| fit(case, 1) },
     Kind { name: "fit rotation-zoom", share: 4, compare: |case| fit(case, 2) },
@@ -40,6 +40,12 @@ pub const KINDS: [Kind; 32] = [
     Kind { name: "trimmed model", share: 8, compare: trimmed_model },
     Kind { name: "election", share: 8, compare: election },
     Kind { name: "score", share: 4, compare: score },
+    Kind { name: "fit by class", share: 8, compare: fit_by_class },
+    Kind { name: "quantized model by class", share: 4, compare: quantized_by_class },
+    Kind { name: "score by class", share: 4, compare: score_by_class },
+    Kind { name: "trimmed fit by class", share: 6, compare: trimmed_fit_by_class },
+    Kind { name: "trimmed model by class", share: 6, compare: trimmed_model_by_class },
+    Kind { name: "election by class", share: 8, compare: election_by_class },
     Kind { name: "samples, translation", share: 4, compare: |case| fit_samples(case, 1) },
     Kind { name: "samples, rotation-zoom", share: 6, compare: |case| fit_samples(case, 2) },
     Kind { name: "samples, affine", share: 6, compare: |case| fit_samples(case, 3) },
@@ -103,6 +109,10 @@ fn row<T>(answer: Result<T, Refusal>) -> Result<T, u32> {
 const TOO_SHORT: u32 = 3;
 const ENDS_FIRST: u32 = 9;
 /// Those that only the rules have.
+const TOO_LARGE: u32 = 1;
+const WRONG_LENGTH: u32 = 2;
+const NO_SUCH_CODE: u32 = 4;
+const NO_CLASS: u32 = 19;
 const OFF_GRID: u32 = 7;
 const START_OVER: u32 = 14;
 const CLOSED: u32 = 17;
@@ -210,11 +220,32 @@ fn trimmed_fit(case: &mut Case) -> Result<(), String> {
     case.note("type", kind);
     case.note("words", &words);
     let ours = row(belt::fit_trimmed(kind, &words));
+    same_trimmed(case, ours, kind, oracle::trimmed_or_row(kind, false, &samples(&words)))
+}
+
+/// A fit after trimming, by bits, and how many samples it used.
+fn same_trimmed(
+    case: &mut Case,
+    ours: Result<Trimmed, u32>,
+    kind: u8,
+    theirs: Result<oracle::Trimmed, u32>,
+) -> Result<(), String> {
     case.accepted = ours.is_ok();
     let ours = ours.map(|trimmed| (trimmed.fitted.gm_type, trimmed.fitted.numbers.map(bits), trimmed.used));
-    let theirs = oracle::trimmed_or_row(kind, false, &samples(&words));
     let theirs = theirs.map(|trimmed| (kind, carried(kind, trimmed.model), trimmed.used));
     same("bits of the numbers, samples used", ours, theirs)
+}
+
+/// The same on the grid.
+fn same_trimmed_model(
+    case: &mut Case,
+    ours: Result<TrimmedModel, u32>,
+    theirs: Result<oracle::Trimmed, u32>,
+) -> Result<(), String> {
+    case.accepted = ours.is_ok();
+    let ours = ours.map(|trimmed| (trimmed.model, trimmed.used));
+    let theirs = theirs.map(|trimmed| (Model(trimmed.params), trimmed.used));
+    same("model, samples used", ours, theirs)
 }
 
 fn trimmed_model(case: &mut Case) -> Result<(), String> {
@@ -223,11 +254,7 @@ fn trimmed_model(case: &mut Case) -> Result<(), String> {
     case.note("type, flag", (kind, flag));
     case.note("words", &words);
     let ours = row(belt::quantize_trimmed(kind, flag, &words));
-    case.accepted = ours.is_ok();
-    let ours = ours.map(|trimmed| (trimmed.model, trimmed.used));
-    let theirs = oracle::trimmed_or_row(kind, flag == 1, &samples(&words));
-    let theirs = theirs.map(|trimmed| (Model(trimmed.params), trimmed.used));
-    same("model, samples used", ours, theirs)
+    same_trimmed_model(case, ours, oracle::trimmed_or_row(kind, flag == 1, &samples(&words)))
 }
 
 fn election(case: &mut Case) -> Result<(), String> {
@@ -257,6 +284,154 @@ fn elected(answer: Elected) -> (u8, StoredModel, u64) {
 fn rust_elected(flag: u8, samples: &[[f64; 4]]) -> Result<(u8, StoredModel, u64), u32> {
     let answer = oracle::elect_or_row(flag == 1, samples)?;
     Ok((answer.kind, StoredModel(answer.params), bits(answer.score)))
+}
+
+/// Words, a class for each and a set, some of them refused.
+struct Classed {
+    set: u8,
+    words: Vec<u32>,
+    classes: Vec<u8>,
+}
+
+/// The words with classes of their own and any class bits; some words that the set doesn't name become any others.
+fn classed(case: &mut Case, mut words: Vec<u32>) -> Classed {
+    let random = &mut case.random;
+    let set = inputs::any_class_set(random);
+    let mut classes = inputs::classes(random, words.len());
+    for (word, &class) in words.iter_mut().zip(&classes) {
+        if !named(set, class) && random.one_in(2) {
+            *word = random.bits() as u32;
+        }
+        *word |= random.below(4) as u32;
+    }
+    if random.one_in(60) {
+        words.resize(inputs::MOST_SAMPLES + 1, inputs::STILL);
+        classes.resize(words.len(), 0);
+    }
+    if random.one_in(30) && !classes.is_empty() {
+        let place = random.below(classes.len());
+        classes[place] = inputs::LAST_CLASS + 1 + random.below(251) as u8;
+    }
+    if random.one_in(30) {
+        classes.resize(random.below(words.len() + 3), 0);
+    }
+    case.note("set", set);
+    case.note("classes", &classes);
+    case.note("words", &words);
+    Classed { set, words, classes }
+}
+
+/// Whether a set names one of the five classes.
+fn named(set: u8, class: u8) -> bool {
+    class <= inputs::LAST_CLASS && set >> class & 1 == 1
+}
+
+/// The samples of the words whose classes a set names, in their order.
+fn named_samples(set: u8, words: &[u32], classes: &[u8]) -> Vec<[f64; 4]> {
+    let pairs = words.iter().zip(classes).filter(|&(_, &class)| named(set, class));
+    pairs.map(|(&word, _)| oracle::sample_of(word)).collect()
+}
+
+impl Classed {
+    fn set(&self) -> ClassSet {
+        ClassSet::from_bits(self.set)
+    }
+
+    /// The samples that the Rust is handed, or the row of the rules before it, where the call's own codes are these.
+    fn samples(&self, codes_are_right: bool) -> Result<Vec<[f64; 4]>, u32> {
+        if self.words.len() > inputs::MOST_SAMPLES {
+            return Err(TOO_LARGE);
+        }
+        if self.words.len() != self.classes.len() {
+            return Err(WRONG_LENGTH);
+        }
+        let no_such_class = self.classes.iter().any(|&class| class > inputs::LAST_CLASS);
+        if !codes_are_right || no_such_class || self.set > inputs::ALL_CLASSES {
+            return Err(NO_SUCH_CODE);
+        }
+        if self.set == 0 {
+            return Err(NO_CLASS);
+        }
+        Ok(named_samples(self.set, &self.words, &self.classes))
+    }
+}
+
+/// A type and a flag, at times one that there isn't, and whether both are right.
+fn codes(case: &mut Case) -> (u8, u8, bool) {
+    let random = &mut case.random;
+    let mut kind = 1 + random.below(3) as u8;
+    let mut flag = random.below(2) as u8;
+    if random.one_in(40) {
+        kind = random.pick(&[0, 4, 255]);
+    }
+    if random.one_in(40) {
+        flag = random.pick(&[2, 255]);
+    }
+    case.note("type, flag", (kind, flag));
+    (kind, flag, (1..=3).contains(&kind) && flag < 2)
+}
+
+fn fit_by_class(case: &mut Case) -> Result<(), String> {
+    let words = inputs::words(&mut case.random);
+    let list = classed(case, words);
+    let (kind, ..) = codes(case);
+    let ours = row(belt::fit_by_class(list.set(), kind, &list.words, &list.classes));
+    case.accepted = ours.is_ok();
+    let ours = ours.map(|fitted| (fitted.gm_type, fitted.numbers.map(bits)));
+    let theirs = list.samples((1..=3).contains(&kind));
+    let theirs = theirs.and_then(|samples| oracle::fit(kind, &samples).ok_or(SINGULAR));
+    same("bits of the numbers", ours, theirs.map(|numbers| (kind, carried(kind, numbers))))
+}
+
+fn quantized_by_class(case: &mut Case) -> Result<(), String> {
+    let words = inputs::words(&mut case.random);
+    let list = classed(case, words);
+    let (kind, flag, right) = codes(case);
+    let samples = list.samples(right);
+    let own = samples.as_ref().ok().filter(|_| case.random.one_in(2)).and_then(|samples| oracle::fit(kind, samples));
+    let numbers = own.unwrap_or_else(|| std::array::from_fn(|_| float(&mut case.random)));
+    case.note("numbers", numbers);
+    let fitted = Fitted { gm_type: kind, numbers };
+    let ours = row(belt::quantize_by_class(list.set(), &fitted, flag, &list.words, &list.classes));
+    case.accepted = ours.is_ok();
+    same("model", ours, samples.map(|samples| rust_quantized(kind, flag, numbers, &samples)))
+}
+
+fn score_by_class(case: &mut Case) -> Result<(), String> {
+    let words = inputs::words(&mut case.random);
+    let list = classed(case, words);
+    let params = to_score(case);
+    let ours = row(belt::score_by_class(list.set(), &Model(params), &list.words, &list.classes)).map(bits);
+    case.accepted = ours.is_ok();
+    same("bits of the score", ours, list.samples(true).map(|samples| bits(oracle::score(&params, &samples))))
+}
+
+fn trimmed_fit_by_class(case: &mut Case) -> Result<(), String> {
+    let words = inputs::loose_words(&mut case.random);
+    let list = classed(case, words);
+    let (kind, ..) = codes(case);
+    let ours = row(belt::fit_trimmed_by_class(list.set(), kind, &list.words, &list.classes));
+    let theirs = list.samples((1..=3).contains(&kind));
+    same_trimmed(case, ours, kind, theirs.and_then(|samples| oracle::trimmed_or_row(kind, false, &samples)))
+}
+
+fn trimmed_model_by_class(case: &mut Case) -> Result<(), String> {
+    let words = inputs::loose_words(&mut case.random);
+    let list = classed(case, words);
+    let (kind, flag, right) = codes(case);
+    let ours = row(belt::quantize_trimmed_by_class(list.set(), kind, flag, &list.words, &list.classes));
+    let theirs = list.samples(right).and_then(|samples| oracle::trimmed_or_row(kind, flag == 1, &samples));
+    same_trimmed_model(case, ours, theirs)
+}
+
+fn election_by_class(case: &mut Case) -> Result<(), String> {
+    let words = inputs::words_to_elect(&mut case.random);
+    let list = classed(case, words);
+    let (_, flag, _) = codes(case);
+    let ours = row(belt::elect_by_class(list.set(), flag, &list.words, &list.classes));
+    case.accepted = ours.is_ok();
+    let theirs = list.samples(flag < 2).and_then(|samples| rust_elected(flag, &samples));
+    same("type, model, bits of the score", ours.map(elected), theirs)
 }
 
 /// Samples with the layout of the library.
@@ -339,11 +514,7 @@ fn trimmed_fit_samples(case: &mut Case) -> Result<(), String> {
     case.note("type", kind);
     case.note("samples", &samples);
     let ours = row(belt::fit_trimmed_samples(kind, &lent(&samples)));
-    case.accepted = ours.is_ok();
-    let ours = ours.map(|trimmed| (trimmed.fitted.gm_type, trimmed.fitted.numbers.map(bits), trimmed.used));
-    let theirs = oracle::trimmed_or_row(kind, false, &samples);
-    let theirs = theirs.map(|trimmed| (kind, carried(kind, trimmed.model), trimmed.used));
-    same("bits of the numbers, samples used", ours, theirs)
+    same_trimmed(case, ours, kind, oracle::trimmed_or_row(kind, false, &samples))
 }
 
 fn trimmed_model_samples(case: &mut Case) -> Result<(), String> {
@@ -352,11 +523,7 @@ fn trimmed_model_samples(case: &mut Case) -> Result<(), String> {
     case.note("type, flag", (kind, flag));
     case.note("samples", &samples);
     let ours = row(belt::quantize_trimmed_samples(kind, flag, &lent(&samples)));
-    case.accepted = ours.is_ok();
-    let ours = ours.map(|trimmed| (trimmed.model, trimmed.used));
-    let theirs = oracle::trimmed_or_row(kind, flag == 1, &samples);
-    let theirs = theirs.map(|trimmed| (Model(trimmed.params), trimmed.used));
-    same("model, samples used", ours, theirs)
+    same_trimmed_model(case, ours, oracle::trimmed_or_row(kind, flag == 1, &samples))
 }
 
 fn score(case: &mut Case) -> Result<(), String> {
@@ -572,7 +739,17 @@ fn key_frame(case: &mut Case) -> Result<(), String> {
     let ours = row(belt::encode_global_motion(FrameKind::Key, &types, &models, flag, &prior, start, &mut after));
     case.accepted = ours.is_ok();
     let plain = (types, models) == ([0; 7], belt::IDENTITIES);
-    same("bits", ours, if start > 7 { Err(START_OVER) } else if plain { Ok(0) } else { Err(OFF_GRID) })?;
+    same(
+        "bits",
+        ours,
+        if start > 7 {
+            Err(START_OVER)
+        } else if plain {
+            Ok(0)
+        } else {
+            Err(OFF_GRID)
+        },
+    )?;
     same_list("bytes", &after, &before)?;
     let read = row(belt::read_global_motion(FrameKind::Key, &after, at, flag, &prior));
     let read = read.map(|read| (read.types, read.models.map(|model| model.0), read.bits));
@@ -603,9 +780,16 @@ fn own_of_the_rust(settings: Settings, samples: &[[f64; 4]]) -> Result<(u8, [i32
 
 /// The composition of the Rust's answers: what a job reports and leaves.
 fn job_of_the_rust(pair: &Pair, settings: Settings, header: &Header, left: &mut Buffers) -> Result<Report, u32> {
-    let Settings { frame, gm_type, reference, flag, trim, elect, start } = settings;
+    let Settings { frame, gm_type, reference, flag, trim, elect, set, start } = settings;
+    if set.bits() > inputs::ALL_CLASSES {
+        return Err(NO_SUCH_CODE);
+    }
+    if set.bits() == 0 {
+        return Err(NO_CLASS);
+    }
     let trims = trim == 1 && elect == 0;
-    if trims && oracle::sample_count(pair.width, pair.height) < oracle::least_samples(gm_type) {
+    let named = pair.classes.iter().filter(|&&class| named(set.bits(), class)).count();
+    if trims && named < oracle::least_samples(gm_type) {
         return Err(TOO_FEW);
     }
     if frame == blocks::CLOSED {
@@ -615,7 +799,8 @@ fn job_of_the_rust(pair: &Pair, settings: Settings, header: &Header, left: &mut 
     let place = usize::from(reference) - 1;
     let mut full = Header { flag, ..*header };
     let score;
-    (full.types[place], full.params[place], score) = own_of_the_rust(settings, &samples(&words))?;
+    let own = named_samples(set.bits(), &words, &pair.classes);
+    (full.types[place], full.params[place], score) = own_of_the_rust(settings, &own)?;
     let (mut bytes, bits) = full.written(start);
     keep_before(start, &mut bytes, &left.header);
     left.header[..bytes.len()].copy_from_slice(&bytes);
@@ -641,6 +826,7 @@ fn job(case: &mut Case, trim: u8, elect: u8) -> Result<(), String> {
         flag: header.flag,
         trim,
         elect,
+        set: if random.one_in(2) { ClassSet::ALL } else { ClassSet::from_bits(inputs::any_class_set(random)) },
         start: start(random),
     };
     let mut ours = buffers(random, pair.width, pair.height);

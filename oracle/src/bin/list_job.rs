@@ -1,10 +1,14 @@
-//! The list for `worked_job`: jobs, each answered by the composition of the Rust's own functions. The argument is the
-//! file to write. Frame pairs are remade from a seed; models, prior and answers are stored.
+//! The lists for `worked_job`: jobs, each answered by the composition of the Rust's own functions over the samples of the
+//! named classes, and refusals, which go by the rows of docs/RULES.md. The arguments are the two files to write. Frame
+//! pairs are remade from a seed; models, prior and answers are stored.
 //!
 //! A count, then for each case: seed, mask, width, height, kind, four numbers of the picture, of kind 3 the pels of its
-//! reference, of kind 4 also those of its input; frame number, type, reference, flag, trim, elect, start; six types and 36 numbers; the prior's 42; then the report (refusal, samples, seven types, 42
-//! numbers, score in two words, bits), the blocks' length in words and their words, the header's length in bytes and
-//! its bytes among `UNTOUCHED` bits, zeros up to a whole word.
+//! reference, of kind 4 also those of its input; frame number, type, reference, flag, trim, elect, set, start; how many
+//! pels of input and reference, classes, other types, numbers of theirs and of the prior go in, and the last four of
+//! these lists; how much of half planes, words, blocks and header is lent. Then the report (refusal, samples, seven
+//! types, 42 numbers, score in two words, bits), the blocks' length in words and their words, the header's length in
+//! bytes and its bytes among `UNTOUCHED` bits, zeros up to a whole word; how many pels of the half planes are written, a
+//! sum of each, how many words, and the words.
 
 use oracle::blocks::{self, TWO};
 use oracle::list::{Lcg, List};
@@ -14,13 +18,22 @@ use std::{env, io};
 const SEED: u32 = 7;
 /// The byte that a replay's header buffer is full of.
 const UNTOUCHED: u8 = 165;
+/// The replay's buffers.
+const HALF_PELS: usize = 9250;
+const WORDS: usize = 150;
+const BLOCK_BYTES: usize = 1100;
+const HEADER_BYTES: usize = 140;
 
 /// Refusals of a job that the composition meets.
 const SINGULAR: u32 = 6;
 const TOO_FEW: u32 = 15;
 
+/// Classes 0 to 4; class c is bit c.
+const ALL: u8 = 0b11111;
+
 /// How the input plane comes from the reference: 0 on its own, 1 mapped, 2 mapped with the two planes exchanged, 3 mapped
 /// from a bowl, 4 a bowl seen from another place.
+#[derive(Clone)]
 struct Picture {
     seed: u32,
     mask: u16,
@@ -38,7 +51,7 @@ impl Picture {
     /// Input and reference.
     fn planes(&self) -> (Vec<u16>, Vec<u16>) {
         let mut lcg = Lcg(self.seed);
-        let first = if self.kind == 3 { self.bowl() } else { lcg.plane(self.width, self.height, self.mask) };
+        let first = if self.kind >= 3 { self.bowl() } else { lcg.plane(self.width, self.height, self.mask) };
         if self.kind == 4 {
             return (self.seen(), first);
         }
@@ -75,64 +88,150 @@ impl Picture {
     }
 }
 
-/// What a job asks beside its picture.
-struct Asked {
+/// A job.
+#[derive(Clone)]
+struct Case {
+    picture: Picture,
     frame: u16,
     kind: u8,
-    reference: usize,
-    high: bool,
+    reference: u8,
+    flag: u8,
     trim: u8,
     elect: u8,
+    set: u8,
     start: usize,
-    types: [u8; 7],
-    params: Models,
-    prior: Models,
+    input_pels: usize,
+    ref_pels: usize,
+    classes: Vec<u8>,
+    types: Vec<u8>,
+    params: Vec<i32>,
+    prior: Vec<i32>,
+    input_half_room: usize,
+    ref_half_room: usize,
+    word_room: usize,
+    block_room: usize,
+    header_room: usize,
 }
 
-impl Asked {
-    fn random(kind: u8, trim: u8, lcg: &mut Lcg) -> Self {
+impl Case {
+    /// All other models and the prior at the identity, the classes in turn.
+    fn plain(picture: &Picture, kind: u8, trim: u8) -> Self {
+        let pels = picture.width * picture.height;
+        let samples = oracle::sample_count(picture.width, picture.height);
+        Self {
+            picture: picture.clone(),
+            frame: 5,
+            kind,
+            reference: 7,
+            flag: 1,
+            trim,
+            elect: 0,
+            set: ALL,
+            start: 5,
+            input_pels: pels,
+            ref_pels: pels,
+            classes: (0..samples).map(|i| (i % 5) as u8).collect(),
+            types: vec![0; 6],
+            params: [IDENTITY; 6].concat(),
+            prior: [IDENTITY; 7].concat(),
+            input_half_room: HALF_PELS,
+            ref_half_room: HALF_PELS,
+            word_room: WORDS,
+            block_room: BLOCK_BYTES,
+            header_room: HEADER_BYTES,
+        }
+    }
+
+    fn random(picture: &Picture, kind: u8, trim: u8, lcg: &mut Lcg) -> Self {
         let frame = lcg.step().max(1);
-        let reference = 1 + usize::from(lcg.below(7));
+        let reference = 1 + lcg.below(7) as u8;
         let high = lcg.below(2) == 1;
         let start = usize::from(lcg.below(8));
         let (types, params) = models(high, lcg);
-        Self { frame, kind, reference, high, trim, elect: 0, start, types, params, prior: prior(lcg) }
-    }
-
-    /// All other models and the prior at the identity.
-    fn plain(kind: u8, trim: u8) -> Self {
-        let (types, params, prior) = ([0; 7], [IDENTITY; 7], [IDENTITY; 7]);
-        Self { frame: 5, kind, reference: 7, high: true, trim, elect: 0, start: 5, types, params, prior }
+        let others = (0..7).filter(|&i| i != usize::from(reference) - 1);
+        Self {
+            frame,
+            reference,
+            flag: u8::from(high),
+            start,
+            types: others.clone().map(|i| types[i]).collect(),
+            params: others.flat_map(|i| params[i]).collect(),
+            prior: prior(lcg).concat(),
+            ..Self::plain(picture, kind, trim)
+        }
     }
 
     /// It elects; its codes of type and trim stay, and aren't looked at.
     fn electing(self) -> Self {
         Self { elect: 1, ..self }
     }
+
+    fn naming(self, set: u8) -> Self {
+        Self { set, ..self }
+    }
+
+    /// Classes drawn at random.
+    fn sorted(self, lcg: &mut Lcg) -> Self {
+        Self { classes: self.classes.iter().map(|_| lcg.below(5) as u8).collect(), ..self }
+    }
 }
 
 fn main() -> io::Result<()> {
-    let path = env::args().nth(1).expect("the argument is the file to write");
+    let path = |n| env::args().nth(n).expect("the arguments are the files to write");
     let mut lcg = Lcg(SEED);
+    let cases: Vec<Case> = jobs(&mut lcg);
     let mut list = List::default();
-    let pictures = pictures(&mut lcg);
+    list.push(cases.len() as u32);
+    cases.iter().for_each(|case| push_case(&mut list, case, 0));
+    list.write(path(1))?;
+
+    let refused = [refusals(), pairs()].concat();
+    let mut list = List::default();
+    list.push(refused.len() as u32);
+    refused.iter().for_each(|(row, case)| push_case(&mut list, case, *row));
+    list.write(path(2))
+}
+
+fn jobs(lcg: &mut Lcg) -> Vec<Case> {
+    let pictures = pictures(lcg);
     let bowl = bowl();
     let seen = seen();
-    list.push((6 * (pictures.len() + 1) + pictures.len() + 1 + seen.len()) as u32);
+    let mut cases = Vec::new();
     for trim in [0, 1] {
         for picture in &pictures {
-            (1..=3).for_each(|kind| push_case(&mut list, picture, Asked::random(kind, trim, &mut lcg)));
+            cases.extend((1..=3).map(|kind| Case::random(picture, kind, trim, lcg)));
         }
-        (1..=3).for_each(|kind| push_case(&mut list, &bowl, Asked::plain(kind, trim)));
+        cases.extend((1..=3).map(|kind| Case::plain(&bowl, kind, trim)));
     }
     for (i, picture) in pictures.iter().enumerate() {
         let codes = [(0, 0), (1, 1), (4, 2), (255, 255)][i % 4];
-        push_case(&mut list, picture, Asked::random(codes.0, codes.1, &mut lcg).electing());
+        cases.push(Case::random(picture, codes.0, codes.1, lcg).electing());
     }
-    for picture in seen.iter().chain([&bowl]) {
-        push_case(&mut list, picture, Asked::plain(0, 2).electing());
+    cases.extend(seen.iter().chain([&bowl]).map(|picture| Case::plain(picture, 0, 2).electing()));
+
+    for (i, picture) in pictures.iter().enumerate() {
+        let case = Case::random(picture, 1 + (i % 3) as u8, (i / 3 % 2) as u8, lcg).sorted(lcg);
+        let case = case.naming(1 + lcg.below(u16::from(ALL)) as u8);
+        cases.push(if i % 4 == 3 { case.electing() } else { case });
     }
-    list.write(path)
+    let [shift, _, slant] = &seen;
+    cases.push(Case::plain(&bowl, 0, 0).electing().naming(0b10011));
+    cases.push(Case::plain(slant, 0, 0).electing().naming(0b10011));
+    cases.push(Case::plain(shift, 0, 0).electing().naming(0b00100));
+    cases.push(Case::plain(shift, 1, 1).naming(0b00100));
+    for case in [1, 2, 3]
+        .map(|kind| Case::plain(&square(), kind, 0))
+        .into_iter()
+        .chain([Case::plain(&square(), 0, 0).electing()])
+    {
+        cases.push(Case { classes: case.classes.iter().map(|class| class % 4).collect(), ..case }.naming(0b10000));
+    }
+    cases
+}
+
+/// 16 samples of noise.
+fn square() -> Picture {
+    Picture { mask: 0xffff, kind: 0, ..bowl() }
 }
 
 /// The sizes about no sample, one, one row or column, and more than a block; then sides of every remainder.
@@ -167,8 +266,109 @@ fn seen() -> [Picture; 3] {
     places.map(|place| Picture { kind: 4, place, ..bowl() })
 }
 
-fn push_case(list: &mut List, picture: &Picture, asked: Asked) {
-    let Asked { frame, kind, reference, high, trim, elect, start, mut types, mut params, prior } = asked;
+type Change = Box<dyn Fn(Case) -> Case>;
+
+/// The row that each change of a job of one flat block brings about, in the order of the table.
+fn causes(elects: bool) -> Vec<(u32, Change)> {
+    let mut causes: Vec<(u32, Change)> = vec![
+        (1, Box::new(|c| Case { picture: Picture { width: 1025, ..c.picture }, ..c })),
+        (2, Box::new(|c| Case { input_pels: 255, ..c })),
+        (2, Box::new(|c| Case { ref_pels: 257, ..c })),
+        (2, Box::new(|c| Case { classes: Vec::new(), ..c })),
+        (2, Box::new(|c| Case { types: vec![0; 5], ..c })),
+        (2, Box::new(|c| Case { params: c.params[1..].to_vec(), ..c })),
+        (2, Box::new(|c| Case { prior: c.prior[1..].to_vec(), ..c })),
+        (4, Box::new(|c| Case { classes: vec![5; c.classes.len()], ..c })),
+        (4, Box::new(|c| Case { types: vec![4; c.types.len()], ..c })),
+        (4, Box::new(|c| Case { flag: 2, ..c })),
+        (4, Box::new(|c| Case { elect: 2, ..c })),
+        (4, Box::new(|c| Case { set: 0b100000, ..c })),
+    ];
+    if !elects {
+        causes.push((4, Box::new(|c| Case { kind: 0, ..c })));
+        causes.push((4, Box::new(|c| Case { kind: 4, ..c })));
+        causes.push((4, Box::new(|c| Case { trim: 2, ..c })));
+    }
+    causes.push((19, Box::new(|c| Case { set: 0, ..c })));
+    causes.push((5, Box::new(|c| Case { reference: 0, ..c })));
+    causes.push((5, Box::new(|c| Case { reference: 8, ..c })));
+    causes.push((14, Box::new(|c| Case { start: 8, ..c })));
+    causes.push((7, Box::new(|c| Case { params: changed(c.params, 65537), ..c })));
+    causes.push((8, Box::new(|c| Case { prior: changed(c.prior, 73729), ..c })));
+    causes.push((3, Box::new(|c| Case { input_half_room: 63, ..c })));
+    causes.push((3, Box::new(|c| Case { ref_half_room: 63, ..c })));
+    causes.push((3, Box::new(|c| Case { word_room: 0, ..c })));
+    causes.push((3, Box::new(|c| Case { block_room: 511, ..c })));
+    causes.push((3, Box::new(|c| Case { header_room: 124, ..c })));
+    if !elects {
+        causes.push((TOO_FEW, Box::new(|c| Case { trim: 1, ..c })));
+    }
+    causes.push((17, Box::new(|c| Case { frame: 0, ..c })));
+    if !elects {
+        causes.push((0, Box::new(|c| Case { kind: 2, ..c })));
+    }
+    causes
+}
+
+/// The numbers with another on the diagonal of the last model.
+fn changed(mut numbers: Vec<i32>, number: i32) -> Vec<i32> {
+    let last = numbers.len() - 1;
+    numbers[last] = number;
+    numbers
+}
+
+/// Every fault, also with another of the same row or a later one, of a job that asks for its type and of one that
+/// elects, which takes any code of type and trim.
+fn refusals() -> Vec<(u32, Case)> {
+    let flat = Picture { mask: 0, width: 16, height: 16, kind: 0, ..bowl() };
+    let mut cases = Vec::new();
+    for case in [Case::plain(&flat, 1, 0), Case::plain(&flat, 0, 2).electing()] {
+        let causes = causes(case.elect == 1);
+        for (i, (row, change)) in causes.iter().enumerate() {
+            cases.extend(causes[i..].iter().map(|(_, second)| (*row, change(second(case.clone())))));
+        }
+    }
+    cases
+}
+
+/// Two faults of a job of 16 samples, of which three are named.
+fn pairs() -> Vec<(u32, Case)> {
+    let three = |kind| Case::plain(&square(), kind, 1).naming(0b00100);
+    vec![
+        (3, Case { header_room: 124, ..three(2) }),
+        (TOO_FEW, Case { frame: 0, ..three(2) }),
+        (TOO_FEW, Case { frame: 0, ..three(1) }),
+        (19, Case { reference: 0, ..three(2).naming(0) }),
+        (2, Case { classes: Vec::new(), ..three(2).naming(0b100000) }),
+    ]
+}
+
+/// A case and its answer: the number of a row that it meets before its search, or what the composition gives.
+fn push_case(list: &mut List, case: &Case, row: u32) {
+    push_asked(list, case);
+    let (words, own) = match row {
+        0 => answered(case),
+        _ => (Vec::new(), Err(row)),
+    };
+    match own {
+        Ok(own) => push_done(list, case, &words, own),
+        Err(refusal) => {
+            list.push(refusal);
+            (0..1 + 7 + 42 + 2 + 1 + 1 + 1).for_each(|_| list.push(0));
+        }
+    }
+    let Picture { width, height, .. } = case.picture;
+    let half = |plane: Vec<u16>| if words.is_empty() { Vec::new() } else { oracle::half_plane(&plane, width, height) };
+    let (input, plane) = case.picture.planes();
+    let halves = [input, plane].map(half);
+    list.push(halves[0].len() as u32);
+    halves.iter().for_each(|half| list.push(oracle::list::sum(half)));
+    list.push(words.len() as u32);
+    words.iter().for_each(|&word| list.push(word));
+}
+
+fn push_asked(list: &mut List, case: &Case) {
+    let picture = &case.picture;
     for word in [picture.seed, u32::from(picture.mask), picture.width as u32, picture.height as u32, picture.kind] {
         list.push(word);
     }
@@ -180,47 +380,62 @@ fn push_case(list: &mut List, picture: &Picture, asked: Asked) {
     if picture.kind == 4 {
         input.iter().for_each(|&pel| list.push(u32::from(pel)));
     }
-    list.push(u32::from(frame));
-    list.push(u32::from(kind));
-    list.push(reference as u32);
-    for code in [u8::from(high), trim, elect] {
+    list.push(u32::from(case.frame));
+    for code in [case.kind, case.reference, case.flag, case.trim, case.elect, case.set] {
         list.push(u32::from(code));
     }
-    list.push(start as u32);
-    let others = (0..7).filter(|&i| i != reference - 1);
-    others.clone().for_each(|i| list.push(u32::from(types[i])));
-    others.for_each(|i| params[i].iter().for_each(|&p| list.push_signed(p)));
-    prior.iter().flatten().for_each(|&p| list.push_signed(p));
+    list.push(case.start as u32);
+    let lists = [case.classes.len(), case.types.len(), case.params.len(), case.prior.len()];
+    for count in [case.input_pels, case.ref_pels].into_iter().chain(lists) {
+        list.push(count as u32);
+    }
+    case.classes.iter().chain(&case.types).for_each(|&byte| list.push(u32::from(byte)));
+    case.params.iter().chain(&case.prior).for_each(|&number| list.push_signed(number));
+    for room in [case.input_half_room, case.ref_half_room, case.word_room, case.block_room, case.header_room] {
+        list.push(room as u32);
+    }
+}
 
-    let count = oracle::sample_count(picture.width, picture.height);
-    let classes: Vec<u8> = (0..count).map(|i| (i % 5) as u8).collect();
-    let words =
-        if count == 0 { Vec::new() } else { oracle::sample_words(&input, &plane, picture.width, picture.height) };
-    let samples: Vec<[f64; 4]> = words.iter().map(|&word| oracle::sample_of(word)).collect();
-    let own = match elect {
-        1 => oracle::elect_or_row(high, &samples),
-        _ => own_model(kind, high, trim == 1, &samples),
+/// The words of the search, none where the job is refused before it, and the model of the named ones or what refuses it.
+fn answered(case: &Case) -> (Vec<u32>, Result<Elected, u32>) {
+    let Picture { width, height, .. } = case.picture;
+    let (input, plane) = case.picture.planes();
+    let words = match oracle::sample_count(width, height) {
+        0 => Vec::new(),
+        _ => oracle::sample_words(&input, &plane, width, height),
     };
-    let own = match own {
-        Ok(own) => own,
-        Err(refusal) => {
-            list.push(refusal);
-            (0..1 + 7 + 42 + 2 + 1 + 1 + 1).for_each(|_| list.push(0));
-            return;
-        }
-    };
-    types[reference - 1] = own.kind;
-    params[reference - 1] = own.params;
-    let (mut header, bits) = oracle::write_header(&types, &params, high, &prior, start);
-    header[0] |= UNTOUCHED & !(0xff >> start);
+    let named = words.iter().zip(&case.classes).filter(|&(_, class)| case.set >> class & 1 == 1);
+    let samples: Vec<[f64; 4]> = named.map(|(&word, _)| oracle::sample_of(word)).collect();
+    let (high, trims) = (case.flag == 1, case.trim == 1);
+    if case.elect == 1 {
+        return (words, oracle::elect_or_row(high, &samples));
+    }
+    if trims && samples.len() < oracle::least_samples(case.kind) {
+        return (Vec::new(), Err(TOO_FEW));
+    }
+    (words, own_model(case.kind, high, trims, &samples))
+}
+
+/// The report of an accepted job, its blocks and its header.
+fn push_done(list: &mut List, case: &Case, words: &[u32], own: Elected) {
+    let place = usize::from(case.reference) - 1;
+    let mut types = case.types.clone();
+    types.insert(place, own.kind);
+    let mut params = case.params.clone();
+    params.splice(6 * place..6 * place, own.params);
+    let seven = |numbers: &[i32]| -> Models { std::array::from_fn(|r| std::array::from_fn(|i| numbers[6 * r + i])) };
+    let codes = std::array::from_fn(|r| types[r]);
+    let (mut header, bits) =
+        oracle::write_header(&codes, &seven(&params), case.flag == 1, &seven(&case.prior), case.start);
+    header[0] |= UNTOUCHED & !(0xff >> case.start);
 
     list.push(0);
     list.push(words.len() as u32);
     types.iter().for_each(|&t| list.push(u32::from(t)));
-    params.iter().flatten().for_each(|&p| list.push_signed(p));
+    params.iter().for_each(|&p| list.push_signed(p));
     list.push_float(own.score);
     list.push(bits as u32);
-    let blocks = blocks::write(TWO, frame, &blocks::classed(&words, &classes));
+    let blocks = blocks::write(TWO, case.frame, &blocks::classed(words, &case.classes));
     list.push((blocks.len() / 4) as u32);
     push_bytes(list, &blocks);
     list.push(header.len() as u32);
@@ -229,9 +444,6 @@ fn push_case(list: &mut List, picture: &Picture, asked: Asked) {
 
 /// The fit of a job that doesn't elect, on the grid and as stored, after trimming or of all samples.
 fn own_model(kind: u8, high: bool, trims: bool, samples: &[[f64; 4]]) -> Result<Elected, u32> {
-    if trims && samples.len() < oracle::least_samples(kind) {
-        return Err(TOO_FEW);
-    }
     let model = match trims {
         true => oracle::trimmed(kind, high, samples).map(|trimmed| trimmed.params),
         false => oracle::fit(kind, samples).map(|fitted| oracle::quantize_model(&fitted, kind, high, samples)),

@@ -1,7 +1,7 @@
 //! The list for `worked_practice`: a count, then for each belt seed, sides, motion and the room of both buffers, refusal,
 //! how many pels each plane has, and the sums of input and reference. The argument is the file to write.
 
-use oracle::list::{Lcg, List};
+use oracle::list::{Lcg, List, sum};
 use oracle::practice::{planes, refusal};
 use std::{env, io};
 
@@ -51,15 +51,6 @@ const BELTS: [Belt; 40] = [
     (11, 5, 5, 24, 0, 20, -25),
     (11, 5, 5, 24, 0, 0, 0),
 ];
-
-/// A sum that depends on the order.
-fn sum(pels: &[u16]) -> u32 {
-    pels.iter().fold(1, |sum: u32, &pel| {
-        let mut state = Lcg(sum.wrapping_add(u32::from(pel)));
-        state.step();
-        state.0
-    })
-}
 
 fn push(list: &mut List, (seed, width, height, dy, dx, input_more, reference_more): Belt) {
     let room = |more: i32| (width * height).saturating_add_signed(more as isize);

@@ -4,7 +4,7 @@
 //! The second: a count, then for each case its sides and pels, the pels of both planes, the samples, the rows added and
 //! the sample words. The arguments are the files to write.
 
-use oracle::list::{Lcg, List};
+use oracle::list::{Lcg, List, sum};
 use std::{env, io};
 
 /// Where the windows lie, far enough from 0 for every shift.
@@ -383,9 +383,4 @@ fn step(state: u32) -> u32 {
     let mut random = Lcg(state);
     random.step();
     random.0
-}
-
-/// A sum that depends on the order, as the replay makes it.
-fn sum(pels: &[u16]) -> u32 {
-    pels.iter().fold(1, |sum: u32, &pel| step(sum.wrapping_add(u32::from(pel))))
 }

@@ -205,6 +205,10 @@ pub struct Measure {
     /// isn't given
     #[arg(long, value_name = "FILE")]
     pub classes: Option<PathBuf>,
+    /// Measure, fit and score the blocks of these classes alone, by names or numbers with commas between them; the others
+    /// are stored all the same
+    #[arg(long, value_name = "LIST", requires = "classes")]
+    pub set: Option<String>,
     /// The frame's number, 1 to 65535, which its blocks carry; of more pictures, that of the first pair
     #[arg(long, value_name = "N", default_value_t = 1)]
     pub frame: u16,

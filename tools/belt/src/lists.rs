@@ -3,7 +3,7 @@
 use crate::failure::Failure;
 use crate::model::{self, TYPES};
 use crate::output::shown;
-use belt::{CLASSES, StoredModel};
+use belt::{CLASSES, ClassSet, StoredModel};
 use std::fmt::Write;
 use std::fs::File;
 use std::io::{self, Read};
@@ -96,11 +96,24 @@ pub fn classes(place: &Path) -> Result<Vec<u8>, Failure> {
 }
 
 fn parse_classes(text: &str) -> Result<Vec<u8>, String> {
-    let class = |(line, word): (usize, &str)| {
-        let named = CLASSES.iter().position(|name| name.replace(' ', "-") == word).map(|code| code as u8);
-        named.or(word.parse().ok()).ok_or(format!("line {line}: '{word}' is no class"))
-    };
+    let class = |(line, word): (usize, &str)| class(word).ok_or(format!("line {line}: '{word}' is no class"));
     words(text).map(class).collect()
+}
+
+/// The code of a class's word, or a number.
+fn class(word: &str) -> Option<u8> {
+    let named = CLASSES.iter().position(|name| name.replace(' ', "-") == word).map(|code| code as u8);
+    named.or(word.parse().ok())
+}
+
+/// The set of some classes with commas between them.
+pub fn class_set(text: &str) -> Result<ClassSet, Failure> {
+    parse_set(text).map_err(|what| Failure::bad("--set", what))
+}
+
+fn parse_set(text: &str) -> Result<ClassSet, String> {
+    let class = |word: &str| class(word).ok_or(format!("'{word}' is no class"));
+    Ok(ClassSet::of(&text.split(',').map(class).collect::<Result<Vec<_>, _>>()?))
 }
 
 #[cfg(test)]
@@ -138,5 +151,8 @@ mod tests {
         assert_eq!(parse_classes("unsorted fibre rigid-plastic metal film 200").unwrap(), [0, 1, 2, 3, 4, 200]);
         assert_eq!(parse_classes("\n\nglass").unwrap_err(), "line 3: 'glass' is no class");
         assert_eq!(parse_classes("256").unwrap_err(), "line 1: '256' is no class");
+        assert_eq!(parse_set("film,1,rigid-plastic").unwrap(), ClassSet::of(&[1, 2, 4]));
+        assert_eq!(parse_set("5,200").unwrap(), ClassSet::of(&[5, 7]));
+        assert_eq!(parse_set("metal,").unwrap_err(), "'' is no class");
     }
 }

@@ -4,7 +4,7 @@ use crate::failure::Failure;
 use crate::frames::Frame;
 use crate::model::{Asked, IDENTITY, Map};
 use crate::way::{self, Answer, Status};
-use belt::{Buffers, IDENTITIES, MOST_EIGHTHS, Motion, Refusal, Report, Sample, Settings, StoredModel, Task};
+use belt::{Buffers, ClassSet, IDENTITIES, MOST_EIGHTHS, Motion, Refusal, Report, Sample, Settings, StoredModel, Task};
 use std::collections::HashMap;
 
 /// A motion of so many pels, across or down, lies at the end of the range: the search looks at whole pels up to here.
@@ -31,6 +31,8 @@ pub struct Job {
     pub prior: [StoredModel; 7],
     /// A class for each block; unsorted where none are given.
     pub classes: Option<Vec<u8>>,
+    /// The classes whose blocks are measured, fitted and scored.
+    pub set: ClassSet,
     /// What isn't black in it is left out of what is measured.
     pub mask: Option<Frame>,
     /// A block agrees with the model within so many pels.
@@ -45,6 +47,7 @@ pub struct Block {
     pub motion: Motion,
     /// The distance between its motion and the model's, in pels.
     pub off: f64,
+    /// Under the mask, or of a class that isn't named.
     pub masked: bool,
 }
 
@@ -122,7 +125,7 @@ pub fn judge_sides(width: usize, height: usize) -> Result<(), Refusal> {
 /// Runs the job on two pictures of the same sides.
 pub fn measure(job: &Job, input: &Frame, reference: &Frame) -> Result<Measured, Failure> {
     let (width, height) = (input.width, input.height);
-    let settings = job.asked.settings(job.frame, job.reference, job.flag, job.start);
+    let settings = Settings { set: job.set, ..job.asked.settings(job.frame, job.reference, job.flag, job.start) };
     let unsorted = vec![belt::UNSORTED; belt::sample_count(width, height)];
     let mut buffers = Buffers::new(width, height);
     let task = Task {
@@ -143,15 +146,17 @@ pub fn measure(job: &Job, input: &Frame, reference: &Frame) -> Result<Measured, 
     buffers.header.truncate((settings.start + report.bits).div_ceil(8));
     let words = &buffers.words[..report.samples];
     let masked = |word: u32| job.mask.as_ref().is_some_and(|mask| is_masked(mask, word));
-    let kept: Vec<u32> = words.iter().copied().filter(|&word| !masked(word)).collect();
+    let left_out: Vec<bool> =
+        words.iter().zip(task.classes).map(|(&word, &class)| !job.set.names(class) || masked(word)).collect();
+    let kept: Vec<u32> = words.iter().zip(&left_out).filter(|(_, out)| !**out).map(|(&word, _)| word).collect();
     let mut answer = way::answer(job.asked, job.flag, job.within, &kept, (width, height));
     if !kept.is_empty() && (input.is_flat() || reference.is_flat()) {
         answer.status = Status::Flat;
     }
-    let block = |&word: &u32| {
+    let block = |(&word, &masked): (&u32, &bool)| {
         let sample = Sample::of_word(word);
         let Sample { x, y, motion, .. } = sample;
-        Block { x, y, motion, off: answer.map.off(&sample), masked: masked(word) }
+        Block { x, y, motion, off: answer.map.off(&sample), masked }
     };
     let mut measured = Measured {
         input: input.name.clone(),
@@ -165,7 +170,7 @@ pub fn measure(job: &Job, input: &Frame, reference: &Frame) -> Result<Measured, 
         stored_type,
         stored: report.models[place].x_first(stored_type),
         report,
-        blocks: words.iter().map(block).collect(),
+        blocks: words.iter().zip(&left_out).map(block).collect(),
         within: job.within,
         warnings: Vec::new(),
         sample_blocks: buffers.blocks,
@@ -206,7 +211,7 @@ fn warnings(measured: &Measured) -> Vec<Warning> {
 }
 
 impl Measured {
-    /// The blocks that aren't masked.
+    /// The blocks that aren't left out.
     pub fn used(&self) -> impl Iterator<Item = &Block> {
         self.blocks.iter().filter(|block| !block.masked)
     }
@@ -319,8 +324,8 @@ pub mod tests {
     /// A job that fits a type, or elects one for the identity.
     pub fn job(kind: u8) -> Job {
         let asked = if kind == IDENTITY { Asked::Elected } else { Asked::Plain(kind) };
-        let (prior, classes, mask) = (IDENTITIES, None, None);
-        Job { asked, frame: 1, reference: 1, flag: 1, start: 0, prior, classes, mask, within: 0.25 }
+        let (prior, classes, set, mask) = (IDENTITIES, None, ClassSet::ALL, None);
+        Job { asked, frame: 1, reference: 1, flag: 1, start: 0, prior, classes, set, mask, within: 0.25 }
     }
 
     #[test]

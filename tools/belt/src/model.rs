@@ -47,7 +47,7 @@ impl Asked {
             Asked::Plain(kind) => (kind, 0, 0),
             Asked::Trimmed(kind) => (kind, 1, 0),
         };
-        Settings { frame, gm_type, reference, flag, trim, elect, start }
+        Settings { frame, gm_type, reference, flag, trim, elect, start, ..Settings::default() }
     }
 }
 
@@ -130,7 +130,7 @@ mod tests {
     #[test]
     fn settings_are_what_is_asked() {
         let settings = |asked: Asked| asked.settings(5, 7, 1, 3);
-        let plain = Settings { frame: 5, gm_type: 2, reference: 7, flag: 1, trim: 0, elect: 0, start: 3 };
+        let plain = Settings { frame: 5, gm_type: 2, reference: 7, flag: 1, start: 3, ..Settings::default() };
         assert_eq!(settings(Asked::of(Some(Type::Rotzoom), false)), plain);
         assert_eq!(settings(Asked::of(Some(Type::Rotzoom), true)), Settings { trim: 1, ..plain });
         assert_eq!(Asked::of(None, true), Asked::Elected);

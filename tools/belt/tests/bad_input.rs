@@ -131,6 +131,7 @@ fn words_that_are_not_known() {
         measure(&["--json", "--json"]),
         measure(&["--halve", "7"]),
         measure(&["--type", "shear"]),
+        measure(&["--set", "film"]),
     ];
     let before = folder.names();
     for words in commands {
@@ -150,6 +151,7 @@ fn words_that_are_not_known() {
     );
     folder.write("glass", "metal\nglass");
     bad(&folder, &measure(&["--classes", "glass"]), "glass: line 2: 'glass' is no class");
+    bad(&folder, &measure(&["--classes", "three", "--set", "film,tin"]), "--set: 'tin' is no class");
     bad(&folder, &["read-header", "three", "--hex"], "three: it has 3 hexadecimal digits; a byte has two");
     bad(&folder, &["practice", "a", "b", "--size", "0x9"], "--size: a picture without pels can't be measured");
 }
@@ -177,6 +179,9 @@ fn refusals() {
     refused(&measure(&["--classes", "few"]), &format!("{pair}, 2: {}: classes has 5 elements, 80 are wanted", row(2)));
     folder.write("five", "5 ".repeat(80));
     refused(&measure(&["--classes", "five"]), &format!("{pair}, 4: {}", row(4)));
+    folder.write("sheets", "film ".repeat(80));
+    refused(&measure(&["--classes", "sheets", "--set", "film,5"]), &format!("{pair}, 4: {}", row(4)));
+    refused(&measure(&["--classes", "sheets", "--set", "metal", "--trim"]), &format!("{pair}, 15: {}", row(15)));
     folder.write("prior", "0 0 65536 8193 0 65536 ".repeat(7));
     refused(&measure(&["--prior", "prior"]), &format!("{pair}, 8: {}", row(8)));
     let small = ["measure", "still.pgm", "pan.pgm", "--type", "rotzoom", "--crop", "0,0,15,15"];
@@ -198,7 +203,7 @@ fn refusals() {
     folder.write("off", "affine 0 0 65537 0 0 65536 ".repeat(7));
     refused(&["price", "off"], &format!("off: refused, 7: {}", row(7)));
     let mut after = folder.names();
-    after.retain(|name| !["few", "five", "prior", "header", "off"].contains(&name.as_str()));
+    after.retain(|name| !["few", "five", "sheets", "prior", "header", "off"].contains(&name.as_str()));
     assert_eq!(after, before);
 }
 

@@ -117,6 +117,34 @@ fn deep_pictures_and_frames_of_a_clip_are_read() {
     assert!(said.out.contains("\nIt moved 2 pels right and 1 pel down.\n"), "{said:?}");
 }
 
+/// Blocks of classes that aren't named play no part in what is measured, and are stored all the same.
+#[test]
+fn a_set_says_which_blocks_are_measured() {
+    let folder = pictures("set");
+    let classes: Vec<u8> = (0..80).map(|i| if i % 4 == 3 { 4 } else { i % 3 }).collect();
+    folder.write("classes", classes.iter().map(|class| format!("{class} ")).collect::<String>());
+    for (name, code, options) in [("turn", 2, &[][..]), ("zoom", 3, &["--type", "affine"])] {
+        let words = ["--classes", "classes", "--set", "unsorted,1,rigid-plastic", "--blocks", "blocks"];
+        let json = measured(&folder, name, &[options, &words].concat());
+        let blocks = fs::read(folder.path("blocks")).unwrap();
+        let (mut words, mut kinds) = ([0; 80], [9; 80]);
+        assert_eq!(belt::read_both(&blocks, &mut words, &mut kinds).unwrap().samples, 80);
+        assert_eq!(kinds[..], classes);
+        let set = belt::ClassSet::of(&[0, 1, 2]);
+        let model = match options {
+            [] => belt::elect_by_class(set, 1, &words, &kinds).unwrap().model,
+            _ => {
+                let fitted = belt::fit_by_class(set, code, &words, &kinds).unwrap();
+                belt::quantize_by_class(set, &fitted, 1, &words, &kinds).unwrap().row_first(code)
+            }
+        };
+        assert_eq!(json["stored"]["numbers"], serde_json::json!(model.0), "{json}");
+        let score = belt::score_by_class(set, &model.x_first(code), &words, &kinds).unwrap();
+        assert_eq!(json["stored"]["score_square_pels"], score);
+        assert_eq!((&json["blocks"], &json["usable"]), (&Value::from(80), &Value::from(60)), "{json}");
+    }
+}
+
 /// Reads back all that a job stored, by the library, and holds it to the report.
 #[test]
 fn what_is_stored_reads_back_as_the_report() {

@@ -56,7 +56,7 @@ impl Handed {
             reference,
             width,
             height,
-            settings: Settings { frame: 4660, gm_type, reference: 3, flag: 1, trim: 0, elect: 0, start: 5 },
+            settings: Settings { frame: 4660, gm_type, reference: 3, flag: 1, start: 5, ..Settings::default() },
             classes: (0..sample_count(width, height)).map(|i| (i % 5) as u8).collect(),
             types: vec![0; 6],
             models: IDENTITIES[..6].to_vec(),

@@ -1,9 +1,10 @@
 -- `job::run`: the search accepts, the words that it found are the job's, and what follows from them is its outcome.
 -- Assumes nothing.
 use borrow.Author.Needs.{needs}
+use Rattle.class_set.proofs.Front.{front-count, front-there}
 use Rattle.job_task.specs.Task.{Task, Lent, task, lend}
 use Rattle.job_task.proofs.Accepted.{ready}
-use Rattle.job.proofs.Ending.{found-there, found-count, found-modelling, ended-found}
+use Rattle.job.proofs.Ending.{found-front, found-naming, ended-found}
 use Rattle.job.proofs.run.Statement.{statement}
 use Rattle.job.proofs.run.Tie as tie
 
@@ -14,7 +15,7 @@ slice-reshare-prefix-finish c =
     let a = e .args in
     let j : Task = task (a .input .now) (a .reference .now) (a .width) (a .height) (a .settings) (a .classes .now) (a .types .now) (a .models .now) (a .prior .now) in
     let l : Lent = lend (a .input-half .now) (a .ref-half .now) (a .words .now) (a .blocks .now) (a .header .now) in
-    found-there j l (ready j l (e .pre)) (c .before .before .before .before .before .before .collect-motion-samples .ensures)
+    front-there (found-front j l (ready j l (e .pre)) (c .before .before .before .before .before .before .collect-motion-samples .ensures))
 
 slice-aggregate-finish : tie.Need-slice-aggregate-finish
 slice-aggregate-finish c =
@@ -23,7 +24,7 @@ slice-aggregate-finish c =
     let a = e .args in
     let j : Task = task (a .input .now) (a .reference .now) (a .width) (a .height) (a .settings) (a .classes .now) (a .types .now) (a .models .now) (a .prior .now) in
     let l : Lent = lend (a .input-half .now) (a .ref-half .now) (a .words .now) (a .blocks .now) (a .header .now) in
-    found-count j l (ready j l (e .pre)) (c .before .before .before .before .before .before .before .collect-motion-samples .ensures)
+    front-count (found-front j l (ready j l (e .pre)) (c .before .before .before .before .before .before .before .collect-motion-samples .ensures))
 
 finish-requires : tie.Need-finish-requires
 finish-requires c κs =
@@ -32,7 +33,7 @@ finish-requires c κs =
     let a = e .args in
     let j : Task = task (a .input .now) (a .reference .now) (a .width) (a .height) (a .settings) (a .classes .now) (a .types .now) (a .models .now) (a .prior .now) in
     let l : Lent = lend (a .input-half .now) (a .ref-half .now) (a .words .now) (a .blocks .now) (a .header .now) in
-    found-modelling j l (ready j l (e .pre)) (c .before .before .before .before .before .before .before .before .before .collect-motion-samples .ensures)
+    found-naming j l (ready j l (e .pre)) (c .before .before .before .before .before .before .before .before .before .collect-motion-samples .ensures)
 
 returns : tie.Need-returns
 returns c =

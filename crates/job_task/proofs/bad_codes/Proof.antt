@@ -47,7 +47,7 @@ returns-5 c =
 
 returns-6 : tie.Need-returns-6
 returns-6 c =
-    let r = c .before in
+    let r = c .before .before in
     let f = r .before .before in
     let t = f .before .before in
     let b = t .before .before in
@@ -57,8 +57,26 @@ returns-6 c =
       sym (t .before .types-over .ensures) ∙ t .if3 .left,
       le-ltb 1 (b .before .before .before .before .before .before .args .settings .flag) (f .if4 .left),
       sym (r .before .bad-trim .ensures) ∙ r .if5 .left,
+      lt-ltb 1 (b .before .before .before .before .before .before .args .settings .elect) (c .if6 .taken),
     )
+
+returns-7 : tie.Need-returns-7
+returns-7 c =
+    let e = c .before in
+    let r = e .before .before in
+    let f = r .before .before in
+    let t = f .before .before in
+    let b = t .before .before in
+    rw (
+      sym (b .before .before .before .some-over .ensures) ∙ b .before .before .if1 .left,
+      sym (b .before .bad-type .ensures) ∙ b .if2 .left,
+      sym (t .before .types-over .ensures) ∙ t .if3 .left,
+      le-ltb 1 (b .before .before .before .before .before .before .args .settings .flag) (f .if4 .left),
+      sym (r .before .bad-trim .ensures) ∙ r .if5 .left,
+      le-ltb 1 (b .before .before .before .before .before .before .args .settings .elect) (e .if6 .left),
+    )
+    (c .names-over .ensures)
 
 pub bad-codes-spec : {M : Type 1} → statement M
 bad-codes-spec =
-    tie.close (tie.spec (search needs) returns (λ c κs. search needs) returns-2 (search needs) returns-3 returns-4 (λ c κs. search needs) returns-5 returns-6)
+    tie.close (tie.spec (search needs) returns (λ c κs. search needs) returns-2 (search needs) returns-3 returns-4 (λ c κs. search needs) returns-5 returns-6 (search needs) returns-7)

@@ -22,61 +22,33 @@ abbrev μ-loop : tie.MeasureT-loop
 readable : (b : ℕ) → b < infinite → T (not (nanBits binary64 b))
 readable b h = subst (λ (t : Bool). T (not t)) (sym (no-nan b h)) tt
 
-module _ (lo hi : ℕ) (h : lo + 1 < hi) where
-  above-lo : lo < lo + (hi - lo) / 2
-  above-lo = omega arith
-
-  below-hi : lo + (hi - lo) / 2 < hi
-  below-hi = omega arith
-
 loop-holds : tie.Need-loop-holds Inv-loop μ-loop
 loop-holds c = starts (c .before .args .values .now) (c .before .pre)
 
 add-loop : tie.Need-add-loop Inv-loop μ-loop
 add-loop c = let b = c .loop .inv in search needs
 
-sub-mid : tie.Need-sub-mid Inv-loop μ-loop
-sub-mid c = let b = c .before .loop .inv .rising in omega arith
-
-add-mid : tie.Need-add-mid Inv-loop μ-loop
-add-mid c =
-    let l = c .before .loop in
-    let m = below-hi (l .lo) (l .hi) (c .loop-test .taken) in
-    let f = l .inv .finite in
-    search needs
-
 float-from-bits-count-below : tie.Need-float-from-bits-count-below Inv-loop μ-loop
 float-from-bits-count-below c =
-    let l = c .before .loop in
-    let m = below-hi (l .lo) (l .hi) (c .loop-test .taken) in
-    let f = l .inv .finite in
-    readable (l .lo + (l .hi - l .lo) / 2) (omega arith)
+    let m = c .between .ensures .1 in
+    let f = c .before .before .loop .inv .finite in
+    readable (c .between .result) (omega (arith, m, f))
 
 loop-less : tie.Need-loop-less Inv-loop μ-loop
-loop-less c =
-    let l = c .before .before .before .loop in
-    let m = above-lo (l .lo) (l .hi) (c .before .before .loop-test .taken) in
-    omega arith
+loop-less c = let m = c .before .before .between .ensures in omega (arith, m .0, m .1)
 
 loop-again : tie.Need-loop-again Inv-loop μ-loop
 loop-again c =
-    let l = c .before .before .before .loop in
-    let t = c .before .before .loop-test .taken in
-    let start = c .before .before .before .before .before in
-    goes-up (start .args .values .now) (start .pre .plain) (l .inv) (above-lo (l .lo) (l .hi) t) (below-hi (l .lo) (l .hi) t) (rw (← c .before .count-below .ensures) (c .if1 .taken))
+    let m = c .before .before .between .ensures in
+    goes-up (c .before .before .before .before .before .before .args .values .now) (c .before .before .before .before .before .before .pre .plain) (c .before .before .before .before .loop .inv) (m .0) (m .1) (rw (← c .before .count-below .ensures) (c .if1 .taken))
 
 loop-less-2 : tie.Need-loop-less-2 Inv-loop μ-loop
-loop-less-2 c =
-    let l = c .before .before .before .loop in
-    let m = below-hi (l .lo) (l .hi) (c .before .before .loop-test .taken) in
-    omega arith
+loop-less-2 c = let m = c .before .before .between .ensures in omega (arith, m .0, m .1)
 
 loop-again-2 : tie.Need-loop-again-2 Inv-loop μ-loop
 loop-again-2 c =
-    let l = c .before .before .before .loop in
-    let t = c .before .before .loop-test .taken in
-    let start = c .before .before .before .before .before in
-    goes-down (start .args .values .now) (start .pre .plain) (l .inv) (above-lo (l .lo) (l .hi) t) (below-hi (l .lo) (l .hi) t) (rw (← c .before .count-below .ensures) (c .if1 .left))
+    let m = c .before .before .between .ensures in
+    goes-down (c .before .before .before .before .before .before .args .values .now) (c .before .before .before .before .before .before .pre .plain) (c .before .before .before .before .loop .inv) (m .0) (m .1) (rw (← c .before .count-below .ensures) (c .if1 .left))
 
 float-from-bits-result : tie.Need-float-from-bits-result Inv-loop μ-loop
 float-from-bits-result c =
@@ -97,8 +69,7 @@ median-spec =
     μ-loop
     loop-holds
     add-loop
-    sub-mid
-    add-mid
+    (search needs)
     float-from-bits-count-below
     (search needs)
     loop-less

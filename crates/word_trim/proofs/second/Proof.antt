@@ -6,6 +6,8 @@ use mathlib.Core.Path.{sym, _∙_}
 use native.Mathlib.Omega.{arith}
 use lib.Ieee.{nanBits}
 use Rattle.trim.proofs.LastFit.{infinity-is}
+use Rattle.laws.proofs.Chosen.{chosen-few}
+use Rattle.word_trim.specs.Inner.{atMost}
 use Rattle.word_trim.proofs.Rounds.{front-count, squares-long, kept-long, kept-few, infinite-trims, squares-findable, stood-trims, fitted-trims}
 use Rattle.word_trim.proofs.second.Statement.{statement}
 use Rattle.word_trim.proofs.second.Tie as tie
@@ -64,14 +66,14 @@ returns-2 c =
     rw (c .trim-of .ensures)
     (stood-trims (a .gm-type) (a .first) (a .words .now) (a .squares .now) (a .kept .now) (c .before .before .before .before .before .before .before .before .before .before .before .before .before .before .before .before .before .pre) (sym (test .ensures) ∙ not-false (test .result) (c .before .before .before .before .before .before .before .before .before .before .before .before .if1 .left))
     (limit .result) (limit .ensures) _ (kept .result) (kept .ensures .0) (omega (arith, c .before .before .before .before .before .if2 .taken, c .before .before .before .before .before .before .least-of .ensures)) _ infinity-is
-    _ (all .result) (all .ensures .1 ∙ kept .ensures .1 ∙ c .before .before .before .before .before .before .before .before .before .before .before .before .before .before .before .before .before .pre .asked .room) (all .ensures .0))
+    _ (all .result) (omega (arith, all .ensures .1, kept .ensures .1, c .before .before .before .before .before .before .before .before .before .before .before .before .before .before .before .before .before .pre .asked .room)) (all .ensures .0))
 
 slice-reshare-prefix-fit-model : tie.Need-slice-reshare-prefix-fit-model
 slice-reshare-prefix-fit-model c =
     let a = c .before .before .before .before .before .before .before .before .before .before .before .before .args in
     let kept = c .before .before .before .before .keep in
-    let few = kept-few (a .gm-type) (a .first) (a .words .now) (a .squares .now) (a .kept .now) (c .before .before .before .before .before .before .before .before .before .before .before .before .pre) _ _ (kept .result) (kept .ensures .0) in
-    omega (arith, few, kept .ensures .1, c .before .before .before .before .before .before .before .before .before .before .before .before .pre .asked .room)
+    let few = chosen-few (atMost (c .before .before .before .before .before .before .limit-of .result)) (a .words .now) (a .squares .now) in
+    omega (arith, few, kept .ensures .0 .counted, kept .ensures .1, c .before .before .before .before .before .before .before .before .before .before .before .before .pre .asked .room)
 
 slice-aggregate-fit-model : tie.Need-slice-aggregate-fit-model
 slice-aggregate-fit-model c = front-count (c .before .before .before .before .before .keep .ensures .0)
@@ -91,7 +93,7 @@ returns-3 c =
     rw (c .trim-of2 .ensures)
     (fitted-trims (a .gm-type) (a .first) (a .words .now) (a .squares .now) (a .kept .now) (c .before .before .before .before .before .before .before .before .before .before .before .before .before .before .before .pre) (sym (test .ensures) ∙ not-false (test .result) (c .before .before .before .before .before .before .before .before .before .before .if1 .left))
     (limit .result) (limit .ensures) _ (kept .result) (kept .ensures .0) (omega (arith, c .before .before .before .if2 .left, c .before .before .before .before .least-of .ensures))
-    (kept .ensures .1 ∙ c .before .before .before .before .before .before .before .before .before .before .before .before .before .before .before .pre .asked .room) (last .result) (last .ensures))
+    (omega (arith, kept .ensures .1, c .before .before .before .before .before .before .before .before .before .before .before .before .before .before .before .pre .asked .room)) (last .result) (last .ensures))
 
 pub second-spec : {M : Type 1} → statement M
 second-spec =

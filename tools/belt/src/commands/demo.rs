@@ -7,7 +7,7 @@ use crate::model::Asked;
 use crate::output::{Files, print, shown};
 use crate::picture;
 use crate::report::words;
-use belt::IDENTITIES;
+use belt::{ClassSet, IDENTITIES};
 use std::fs;
 use std::path::Path;
 
@@ -38,6 +38,7 @@ fn leave(folder: &Path) -> Result<(), Failure> {
         start: 0,
         prior: IDENTITIES,
         classes: None,
+        set: ClassSet::ALL,
         mask: None,
         within: 0.25,
     };

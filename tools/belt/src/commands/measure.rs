@@ -10,6 +10,7 @@ use crate::model::Asked;
 use crate::output::{self, Files, shown};
 use crate::picture;
 use crate::report::{json, words};
+use belt::ClassSet;
 use std::path::{Path, PathBuf};
 
 pub fn run(words: &Measure) -> Result<(), Failure> {
@@ -79,6 +80,7 @@ fn job(words: &Measure) -> Result<Job, Failure> {
         start: words.start,
         prior,
         classes: words.classes.as_deref().map(lists::classes).transpose()?,
+        set: words.set.as_deref().map_or(Ok(ClassSet::ALL), lists::class_set)?,
         mask: None,
         within: words.within,
     })

@@ -177,7 +177,7 @@ fn measured_rows(measured: &Measured, row: &mut impl FnMut(&str, String)) {
     let (agree, used, share) = (count(measured.agreeing()), measured.used().count(), per_cent(measured.share()));
     let masked = match measured.blocks.len() - used {
         0 => String::new(),
-        masked => format!("; {} under the mask", many(masked, "block")),
+        masked => format!("; {} left out", many(masked, "block")),
     };
     row("agreement", format!("{agree} of {} ({share}) within {} pel{masked}", many(used, "block"), measured.within));
 }
