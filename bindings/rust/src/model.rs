@@ -189,8 +189,10 @@ impl MotionSample {
     /// ```
     pub fn word(self, class: u8) -> Option<u32> {
         let place = |centre: f64| (centre as u32 / 16).min(63);
-        let stored = |pels: f64| ((pels * 8.0) as i32).saturating_add(i32::from(crate::MOST_EIGHTHS)).clamp(0, 511) as u32;
-        let word = place(self.y) << 26 | place(self.x) << 20 | stored(self.v) << 11 | stored(self.u) << 2 | u32::from(class);
+        let stored =
+            |pels: f64| ((pels * 8.0) as i32).saturating_add(i32::from(crate::MOST_EIGHTHS)).clamp(0, 511) as u32;
+        let word =
+            place(self.y) << 26 | place(self.x) << 20 | stored(self.v) << 11 | stored(self.u) << 2 | u32::from(class);
         let bits = |sample: Self| [sample.x, sample.y, sample.u, sample.v].map(f64::to_bits);
         (class < 4 && bits(Self::of_word(word)) == bits(self)).then_some(word)
     }

@@ -739,7 +739,17 @@ fn key_frame(case: &mut Case) -> Result<(), String> {
     let ours = row(belt::encode_global_motion(FrameKind::Key, &types, &models, flag, &prior, start, &mut after));
     case.accepted = ours.is_ok();
     let plain = (types, models) == ([0; 7], belt::IDENTITIES);
-    same("bits", ours, if start > 7 { Err(START_OVER) } else if plain { Ok(0) } else { Err(OFF_GRID) })?;
+    same(
+        "bits",
+        ours,
+        if start > 7 {
+            Err(START_OVER)
+        } else if plain {
+            Ok(0)
+        } else {
+            Err(OFF_GRID)
+        },
+    )?;
     same_list("bytes", &after, &before)?;
     let read = row(belt::read_global_motion(FrameKind::Key, &after, at, flag, &prior));
     let read = read.map(|read| (read.types, read.models.map(|model| model.0), read.bits));
