@@ -39,9 +39,13 @@ pub enum Command {
     /// How the load moved between two pictures
     ///
     /// Finds the motion of each 16×16 block, and says where the load went from the first picture to the second: shift in
-    /// pels, zoom, angle, and how many blocks agree. What was measured is the fit of the blocks that agree; what is
-    /// stored is the header's model, on its grid. The status is measured, still, unexplained (no motion explains the
-    /// blocks), flat or no-blocks; only what is measured or still has numbers.
+    /// pels, zoom, angle, and how many blocks agree of those that can tell their motion. What was measured is the motion
+    /// that most of them share, whatever the light does; what is stored is the header's model, on its grid, as the library
+    /// elects it on the pictures as they are. The status is measured, still, unexplained (no motion is to be trusted; the
+    /// warnings say why, and what to do), flat or no-blocks; only what is measured or still has numbers.
+    ///
+    /// How it was found is elected, robust (by the blocks that can tell), half-size (at half the size) or shifted (the
+    /// second picture moved first: up to about 110 pels), and plain or trimmed with --type.
     ///
     /// With more than two pictures each is measured against the next, one line for each pair. A folder stands for its
     /// pictures by name, img2 before img10. clip.y4m#3 is frame 3 of a Y4M file, counted from 0; - is standard input, and
@@ -178,8 +182,9 @@ pub struct Measure {
     /// Pictures, or folders of them
     #[arg(required = true, value_name = "PICTURE")]
     pub places: Vec<PathBuf>,
-    /// The model; if it isn't given, one is elected: the first that explains three quarters of the motion, or a later one
-    /// that is clearly better
+    /// The model that is fitted and stored; it counts if half of the blocks agree. If it isn't given, what is measured is
+    /// what most blocks share, and what is stored is elected: the first that explains three quarters of the motion, or a
+    /// later one that is clearly better
     #[arg(long = "type", value_name = "TYPE")]
     pub gm_type: Option<Type>,
     /// Fit again without the blocks that lie far off the first fit, so that a piece that rolls on its own doesn't pull the
@@ -198,8 +203,11 @@ pub struct Measure {
     /// A picture of the same sides: blocks with a pel of it that isn't black are left out of what is measured
     #[arg(long, value_name = "FILE")]
     pub mask: Option<PathBuf>,
-    /// A block agrees with the model within this distance
-    #[arg(long, value_name = "PELS", default_value_t = 0.25, value_parser = distance)]
+    /// One search, neither the way back nor coarser pictures: faster, and more is unexplained
+    #[arg(long)]
+    pub fast: bool,
+    /// A block agrees with the model of --type within this distance, in pels of what is measured
+    #[arg(long, value_name = "PELS", default_value_t = 0.25, value_parser = distance, requires = "gm_type")]
     pub within: f64,
     /// A class for each block, row by row: unsorted, fibre, rigid-plastic, metal, film, or 0 to 4; all are unsorted if it
     /// isn't given

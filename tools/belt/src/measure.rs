@@ -3,21 +3,17 @@
 use crate::failure::Failure;
 use crate::frames::Frame;
 use crate::model::{Asked, IDENTITY, Map};
-use crate::way::{self, Answer, Status};
-use belt::{Buffers, ClassSet, IDENTITIES, MOST_EIGHTHS, Motion, Refusal, Report, Sample, Settings, StoredModel, Task};
-use std::collections::HashMap;
+use crate::report::words;
+use crate::way::{Answer, Question, Warning};
+use belt::{Buffers, ClassSet, IDENTITIES, Motion, Refusal, Report, Sample, Settings, StoredModel, Task};
+use track::{Common, Refused, Status};
 
-/// A motion of so many pels, across or down, lies at the end of the range: the search looks at whole pels up to here.
-pub const END_OF_RANGE: f64 = 27.0;
-/// The largest motion that the search finds, in pels.
-pub const RANGE: f64 = MOST_EIGHTHS as f64 / 8.0;
-/// An election takes so many blocks.
-pub const LEAST_TO_ELECT: usize = 4;
-/// The share of blocks at the end of the range, or of those that move otherwise, from which on they are many.
-const MANY: f64 = 0.05;
-/// A block that moves by at most so many pels stands still, and blocks move alike within as much.
-const ALIKE: f64 = 0.25;
-/// From this many pels on a load surely moves.
+/// The share of blocks that stand still, or don't, from which on they are a part of the picture.
+const PART: f64 = 0.05;
+/// So many blocks, and this share of them, move together if they move alike.
+const TOGETHER: f64 = 4.0;
+const TOGETHER_SHARE: f64 = 0.02;
+/// From this many pels on a part surely moves.
 const MOVES: f64 = 0.5;
 
 /// What a job is told beside its pictures.
@@ -35,8 +31,10 @@ pub struct Job {
     pub set: ClassSet,
     /// What isn't black in it is left out of what is measured.
     pub mask: Option<Frame>,
-    /// A block agrees with the model within so many pels.
+    /// A block agrees with a named type within so many pels.
     pub within: f64,
+    /// Neither the way back nor coarser planes.
+    pub fast: bool,
 }
 
 /// A block of the picture: what was found, and how far the answer's model is from it.
@@ -49,44 +47,6 @@ pub struct Block {
     pub off: f64,
     /// Under the mask, or of a class that isn't named.
     pub masked: bool,
-}
-
-impl Block {
-    fn length(&self) -> f64 {
-        self.motion.u.hypot(self.motion.v)
-    }
-}
-
-/// What to know of an answer, beside its status.
-#[derive(Clone, Copy, Debug, PartialEq, Eq)]
-pub enum Warning {
-    FewBlocks,
-    FewAgree,
-    EndOfRange,
-    PartMoves,
-    PartStill,
-    WarpNotKept,
-}
-
-impl Warning {
-    /// Its name for programs.
-    pub fn name(self) -> &'static str {
-        match self {
-            Warning::FewBlocks => "few-blocks",
-            Warning::FewAgree => "few-agree",
-            Warning::EndOfRange => "end-of-range",
-            Warning::PartMoves => "part-moves",
-            Warning::PartStill => "part-still",
-            Warning::WarpNotKept => "warp-not-kept",
-        }
-    }
-}
-
-/// The commonest motion of some blocks, and its share of all.
-#[derive(Clone, Copy, Debug, PartialEq)]
-pub struct Commonest {
-    pub motion: Motion,
-    pub share: f64,
 }
 
 /// What was measured.
@@ -106,7 +66,6 @@ pub struct Measured {
     pub stored: belt::Model,
     pub report: Report,
     pub blocks: Vec<Block>,
-    pub within: f64,
     pub warnings: Vec<Warning>,
     /// The frame's sample blocks.
     pub sample_blocks: Vec<u8>,
@@ -140,24 +99,27 @@ pub fn measure(job: &Job, input: &Frame, reference: &Frame) -> Result<Measured, 
         prior: &job.prior,
     };
     let pair = format!("{} to {}", input.name, reference.name);
-    let report = belt::job(&task, &mut buffers.lend()).map_err(|refusal| Failure::refused(pair, refusal))?;
+    let report = belt::job(&task, &mut buffers.lend()).map_err(|refusal| Failure::refused(&pair, refusal))?;
     let place = usize::from(job.reference) - 1;
     let stored_type = report.types[place];
     buffers.header.truncate((settings.start + report.bits).div_ceil(8));
-    let words = &buffers.words[..report.samples];
+    let stored = &buffers.words[..report.samples];
     let masked = |word: u32| job.mask.as_ref().is_some_and(|mask| is_masked(mask, word));
-    let left_out: Vec<bool> =
-        words.iter().zip(task.classes).map(|(&word, &class)| !job.set.names(class) || masked(word)).collect();
-    let kept: Vec<u32> = words.iter().zip(&left_out).filter(|(_, out)| !**out).map(|(&word, _)| word).collect();
-    let mut answer = way::answer(job.asked, job.flag, job.within, &kept, (width, height));
-    if !kept.is_empty() && (input.is_flat() || reference.is_flat()) {
-        answer.status = Status::Flat;
-    }
-    let block = |(&word, &masked): (&u32, &bool)| {
+    let left_out = |(&word, &class): (&u32, &u8)| !job.set.names(class) || masked(word);
+    let some = job.mask.is_some() || job.set != ClassSet::ALL;
+    let mask: Option<Vec<bool>> = some.then(|| stored.iter().zip(task.classes).map(left_out).collect());
+    let question = Question { asked: job.asked, fast: job.fast, within: job.within, mask: mask.as_deref(), stored };
+    let answer = question.answer(input, reference).map_err(|refused| match refused {
+        Refused::Library(refusal) => Failure::refused(&pair, refusal),
+        other => Failure::bad(&pair, other),
+    })?;
+    let searched = if answer.words.is_empty() { stored } else { &answer.words };
+    let block = |(at, &word): (usize, &u32)| {
         let sample = Sample::of_word(word);
         let Sample { x, y, motion, .. } = sample;
-        Block { x, y, motion, off: answer.map.off(&sample), masked }
+        Block { x, y, motion, off: answer.map.off(&sample), masked: mask.as_ref().is_some_and(|mask| mask[at]) }
     };
+    let blocks = searched.iter().enumerate().map(block).collect();
     let mut measured = Measured {
         input: input.name.clone(),
         reference: reference.name.clone(),
@@ -170,8 +132,7 @@ pub fn measure(job: &Job, input: &Frame, reference: &Frame) -> Result<Measured, 
         stored_type,
         stored: report.models[place].x_first(stored_type),
         report,
-        blocks: words.iter().zip(&left_out).map(block).collect(),
-        within: job.within,
+        blocks,
         warnings: Vec::new(),
         sample_blocks: buffers.blocks,
         header: buffers.header,
@@ -187,27 +148,47 @@ fn is_masked(mask: &Frame, word: u32) -> bool {
     (top..top + 16).any(|y| mask.pels[y * mask.width + left..][..16].iter().any(|&pel| pel > 0))
 }
 
+/// Those of the answer, and what parts of the picture and a decoder do.
 fn warnings(measured: &Measured) -> Vec<Warning> {
-    let status = measured.answer.status;
     let kept = measured.stored_type < 2
         || belt::setup_shear(measured.stored_type, &measured.stored.row_first(measured.stored_type).0)
             .is_ok_and(|shear| shear.valid);
-    if matches!(status, Status::Flat | Status::NoBlocks) {
-        return Vec::new();
+    let unkept = || Warning {
+        name: "warp-not-kept",
+        text: "a decoder won't keep the stored warp: its shear is too strong".into(),
+    };
+    let answered = !matches!(measured.answer.status, Status::Flat | Status::NoBlocks);
+    let unkept = (answered && !kept).then(unkept);
+    measured.answer.warnings.iter().cloned().chain(part(measured)).chain(unkept).collect()
+}
+
+/// What is to be known of a part that moves otherwise.
+fn part(measured: &Measured) -> Option<Warning> {
+    let Answer { status, usable, shares, .. } = &measured.answer;
+    let (still, rest) = (shares.still, words::rest(measured));
+    let together = |share: f64| share >= TOGETHER_SHARE && share * *usable as f64 >= TOGETHER;
+    let moves = 1.0 - still >= PART
+        && shares.commonest.is_some_and(|Common { motion, share }| together(share) && moves(motion));
+    match status {
+        Status::Still if moves => Some(Warning {
+            name: "part-moves",
+            text: format!("a part moved on its own: {rest}; --crop measures it alone"),
+        }),
+        Status::Measured | Status::Unexplained if moves && still >= PART + measured.slow() => Some(Warning {
+            name: "part-still",
+            text: format!(
+                "a part stands still, {} of the blocks that can tell their motion: cut it off with --crop, or leave it out \
+                 with --mask; {rest}",
+                words::per_cent(still)
+            ),
+        }),
+        _ => None,
     }
-    let count = measured.used().count() as f64;
-    let few = measured.asked == Asked::Elected && count < LEAST_TO_ELECT as f64;
-    let (still, moving) = (measured.still() / count, measured.moving().count() as f64 / count);
-    let moves = status != Status::Still && measured.middle().u.hypot(measured.middle().v) > MOVES;
-    let found = [
-        (Warning::FewBlocks, few),
-        (Warning::FewAgree, status == Status::Unexplained && !few),
-        (Warning::EndOfRange, measured.at_end() as f64 >= MANY * count),
-        (Warning::PartMoves, status == Status::Still && moving >= MANY),
-        (Warning::PartStill, moves && still >= MANY && moving >= MANY),
-        (Warning::WarpNotKept, !kept),
-    ];
-    found.into_iter().filter(|(_, holds)| *holds).map(|(warning, _)| warning).collect()
+}
+
+/// Whether a motion is surely one.
+fn moves(motion: Motion) -> bool {
+    motion.u.hypot(motion.v) > MOVES
 }
 
 impl Measured {
@@ -216,40 +197,30 @@ impl Measured {
         self.blocks.iter().filter(|block| !block.masked)
     }
 
-    /// How many blocks agree with what was measured.
-    pub fn agreeing(&self) -> usize {
-        self.used().filter(|block| block.off <= self.within).count()
-    }
-
-    /// The share of them, 0 to 1; 0 without blocks.
+    /// The share of the blocks that can tell their motion which agree, 0 to 1; 0 without any.
     pub fn share(&self) -> f64 {
-        let used = self.used().count();
-        if used == 0 { 0.0 } else { self.agreeing() as f64 / used as f64 }
+        self.answer.agree as f64 / self.answer.usable.max(1) as f64
     }
 
-    /// How many blocks stand still.
-    pub fn still(&self) -> f64 {
-        self.used().filter(|block| block.length() <= ALIKE).count() as f64
+    /// The share of the blocks that what was measured hardly moves; 0 where nothing was.
+    fn slow(&self) -> f64 {
+        let is_slow = |block: &&Block| !moves(self.answer.map.motion_at(block.x, block.y));
+        match self.answer.status {
+            Status::Measured => self.used().filter(is_slow).count() as f64 / self.used().count().max(1) as f64,
+            _ => 0.0,
+        }
     }
 
-    /// How many motions lie at the end of the range.
-    pub fn at_end(&self) -> usize {
-        self.used().filter(|block| block.motion.u.abs().max(block.motion.v.abs()) >= END_OF_RANGE).count()
+    /// The commonest motion of the blocks that don't stand still, in pels of the picture.
+    pub fn commonest(&self) -> Option<Common> {
+        let times = self.times as f64;
+        let larger = |Motion { u, v }| Motion { u: u * times, v: v * times };
+        self.answer.shares.commonest.map(|common| Common { motion: larger(common.motion), ..common })
     }
 
-    /// The commonest motion of all blocks.
-    pub fn commonest(&self) -> Option<Commonest> {
-        commonest(self.used(), self.used().count(), self.times)
-    }
-
-    /// The blocks that surely move.
-    fn moving(&self) -> impl Iterator<Item = &Block> {
-        self.used().filter(|block| block.length() > MOVES)
-    }
-
-    /// Their commonest motion.
-    pub fn commonest_moving(&self) -> Option<Commonest> {
-        commonest(self.moving(), self.used().count(), self.times)
+    /// The error to be expected, in pels of the picture.
+    pub fn predicted(&self) -> Option<f64> {
+        self.answer.predicted.map(|pels| pels * self.times as f64)
     }
 
     /// The model that was measured, in pels of the picture.
@@ -276,24 +247,6 @@ impl Measured {
     pub fn is_stored_still(&self) -> bool {
         self.stored_type == IDENTITY
     }
-}
-
-/// The motion that most blocks have within [`ALIKE`], in pels of the picture.
-fn commonest<'a>(blocks: impl Iterator<Item = &'a Block>, all: usize, times: usize) -> Option<Commonest> {
-    let mut counts: HashMap<(i32, i32), usize> = HashMap::new();
-    for block in blocks {
-        let eighths = |pels: f64| (pels * 8.0) as i32;
-        *counts.entry((eighths(block.motion.u), eighths(block.motion.v))).or_default() += 1;
-    }
-    let reach = (ALIKE * 8.0) as i32;
-    let near = |&(u, v): &(i32, i32)| {
-        let places = (-reach..=reach).flat_map(|i| (-reach..=reach).map(move |j| (i, j)));
-        let near = places.filter(|(i, j)| i * i + j * j <= reach * reach);
-        near.filter_map(|(i, j)| counts.get(&(u + i, v + j))).sum::<usize>()
-    };
-    let (u, v) = counts.keys().copied().max_by_key(|key| (near(key), counts[key], *key))?;
-    let pels = |eighths: i32| f64::from(eighths) / 8.0 * times as f64;
-    Some(Commonest { motion: Motion { u: pels(u), v: pels(v) }, share: near(&(u, v)) as f64 / all as f64 })
 }
 
 #[cfg(test)]
@@ -325,16 +278,24 @@ pub mod tests {
     pub fn job(kind: u8) -> Job {
         let asked = if kind == IDENTITY { Asked::Elected } else { Asked::Plain(kind) };
         let (prior, classes, set, mask) = (IDENTITIES, None, ClassSet::ALL, None);
-        Job { asked, frame: 1, reference: 1, flag: 1, start: 0, prior, classes, set, mask, within: 0.25 }
+        Job { asked, frame: 1, reference: 1, flag: 1, start: 0, prior, classes, set, mask, within: 0.25, fast: false }
+    }
+
+    fn names(found: &Measured) -> Vec<&str> {
+        found.warnings.iter().map(|warning| warning.name).collect()
+    }
+
+    fn is_near(found: Motion, u: f64, v: f64) -> bool {
+        (found.u - u).hypot(found.v - v) < 0.03
     }
 
     #[test]
-    fn a_pan_is_measured_and_every_block_agrees() {
+    fn a_pan_is_measured_and_most_blocks_agree() {
         for kind in [IDENTITY, 1] {
-            let found = measure(&job(kind), &frame("a", 96, 64, 2, -4), &frame("b", 96, 64, 0, 0)).unwrap();
-            assert_eq!((found.answer.status, found.middle()), (Status::Measured, Motion { u: -4.0, v: 2.0 }));
-            assert_eq!((found.stored_type, found.blocks.len(), found.sample_blocks.len()), (1, 24, 512));
-            assert!(found.agreeing() >= 20 && found.warnings.is_empty(), "{found:?}");
+            let found = measure(&job(kind), &frame("a", 160, 160, 2, -4), &frame("b", 160, 160, 0, 0)).unwrap();
+            assert!(found.answer.status == Status::Measured && is_near(found.middle(), -4.0, 2.0), "{found:?}");
+            assert_eq!((found.stored_type, found.blocks.len(), found.sample_blocks.len()), (1, 100, 512));
+            assert!(found.answer.agree >= 80 && found.warnings.is_empty(), "{found:?}");
         }
     }
 
@@ -349,12 +310,15 @@ pub mod tests {
         assert_eq!(status(&small, &small), Status::NoBlocks);
         let halves = |by: i64| parted((0, by), (0, -by), |x, _| x < 80);
         let found = measure(&job(IDENTITY), &halves(8), &halves(0)).unwrap();
-        assert_eq!((found.answer.status, &found.warnings[..]), (Status::Unexplained, &[Warning::FewAgree][..]));
-        assert_eq!(found.commonest().map(|common| common.motion.u.abs()), Some(8.0));
+        assert!(found.answer.status == Status::Unexplained && names(&found).contains(&"two-motions"), "{found:?}");
+        assert!(is_near(found.commonest().unwrap().motion, found.commonest().unwrap().motion.u.signum() * 8.0, 0.0));
         let far = measure(&job(1), &frame("b", 160, 160, 40, 0), &still).unwrap();
-        assert_eq!((far.answer.status, far.warnings[0]), (Status::Unexplained, Warning::FewAgree));
+        assert_eq!((far.answer.status, names(&far)[0]), (Status::Unexplained, "few-agree"));
         let few = |dx| frame("a", 48, 16, 0, dx);
-        assert_eq!(measure(&job(IDENTITY), &few(6), &few(0)).unwrap().warnings, [Warning::FewBlocks]);
+        let found = measure(&job(IDENTITY), &few(6), &few(0)).unwrap();
+        assert!(
+            found.warnings[0].name == "few-blocks" && found.warnings[0].text.ends_with("--type fits a model to fewer")
+        );
     }
 
     #[test]
@@ -362,16 +326,16 @@ pub mod tests {
         let piece = |x: usize, y: usize| (32..80).contains(&x) && (32..80).contains(&y);
         let still = parted((0, 0), (0, 0), piece);
         let found = measure(&job(IDENTITY), &parted((0, 6), (0, 0), piece), &still).unwrap();
-        assert_eq!((found.answer.status, &found.warnings[..]), (Status::Still, &[Warning::PartMoves][..]));
-        assert_eq!(found.commonest_moving().unwrap().motion, Motion { u: 6.0, v: 0.0 });
+        assert_eq!((found.answer.status, names(&found)), (Status::Still, vec!["part-moves"]));
+        assert!(is_near(found.commonest().unwrap().motion, 6.0, 0.0), "{found:?}");
         let rail = |_, y: usize| y < 16;
         let found = measure(&job(IDENTITY), &parted((0, 0), (4, 6), rail), &still).unwrap();
-        assert_eq!((found.answer.status, &found.warnings[..]), (Status::Measured, &[Warning::PartStill][..]));
+        assert_eq!((found.answer.status, names(&found)), (Status::Measured, vec!["part-still"]));
         let mask = Frame { pels: (0..160 * 160).map(|i| u16::from(i < 16 * 160)).collect(), ..still.clone() };
         let job = Job { mask: Some(mask), ..job(IDENTITY) };
         let found = measure(&job, &parted((0, 0), (4, 6), rail), &still).unwrap();
-        assert_eq!((found.answer.status, &found.warnings[..]), (Status::Measured, &[][..]));
-        assert_eq!((found.used().count(), found.middle()), (90, Motion { u: 6.0, v: 4.0 }));
+        assert_eq!((found.answer.status, names(&found)), (Status::Measured, vec![]));
+        assert!(found.used().count() == 90 && is_near(found.middle(), 6.0, 4.0), "{found:?}");
     }
 
     #[test]

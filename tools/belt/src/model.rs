@@ -109,6 +109,19 @@ impl Map {
         across.atan2(along).to_degrees()
     }
 
+    /// The root of the mean square of its motion over a picture.
+    pub fn root_mean_square(self, width: usize, height: usize) -> f64 {
+        let (right, bottom) = (width as f64 - 1.0, height as f64 - 1.0);
+        let square = |x: f64, y: f64| {
+            let Motion { u, v } = self.motion_at(x, y);
+            u * u + v * v
+        };
+        // Simpson's rule is exact for a square
+        let weights = [(0.0, 1.0), (0.5, 4.0), (1.0, 1.0)];
+        let sums = weights.iter().flat_map(|&(x, a)| weights.map(|(y, b)| a * b * square(x * right, y * bottom)));
+        (sums.sum::<f64>() / 36.0).sqrt()
+    }
+
     fn rotzoom(self) -> (f64, f64) {
         let [_, _, m2, m3, m4, m5] = self.0;
         ((m2 + m5) / 2.0, (m4 - m3) / 2.0)

@@ -11,7 +11,7 @@ use std::io::{self, BufWriter, ErrorKind, Seek, SeekFrom, Write};
 use std::os::unix::fs::MetadataExt;
 use std::path::{Path, PathBuf};
 use std::sync::atomic::{AtomicBool, Ordering};
-use std::sync::{Mutex, MutexGuard, Once, PoisonError};
+use std::sync::{Mutex, MutexGuard, PoisonError};
 use std::{env, thread};
 
 /// A path as a person reads it, in one line.
@@ -82,19 +82,21 @@ pub fn remove_parts() {
 }
 
 /// From the first file on, a signal that ends the tool removes what waits.
-fn watch_signals() {
-    static ONCE: Once = Once::new();
-    ONCE.call_once(|| {
-        let Ok(mut signals) = Signals::new([SIGHUP, SIGINT, SIGTERM]) else { return };
-        thread::spawn(move || {
-            if let Some(signal) = signals.forever().next() {
-                // held to the end, so that no other file begins
-                let parts = parts();
-                parts.iter().for_each(|part| drop(fs::remove_file(part)));
-                let _ = signal_hook::low_level::emulate_default_handler(signal);
-            }
-        });
-    });
+fn watch_signals() -> io::Result<()> {
+    static WATCHED: AtomicBool = AtomicBool::new(false);
+    if WATCHED.swap(true, Ordering::Relaxed) {
+        return Ok(());
+    }
+    let mut signals = Signals::new([SIGHUP, SIGINT, SIGTERM])?;
+    let watch = move || {
+        if let Some(signal) = signals.forever().next() {
+            // held to the end, so that no other file begins
+            let parts = parts();
+            parts.iter().for_each(|part| drop(fs::remove_file(part)));
+            let _ = signal_hook::low_level::emulate_default_handler(signal);
+        }
+    };
+    thread::Builder::new().spawn(watch).map(drop)
 }
 
 /// Which file a path names: one that is there, by the disk's number, or a new name in a folder.
@@ -244,7 +246,7 @@ fn waiting(path: &Path, name: &str) -> io::Result<Waiting> {
         Target::File(target) => folder(target).to_path_buf(),
         _ => env::temp_dir(),
     };
-    watch_signals();
+    watch_signals()?;
     let mut parts = parts();
     let (part, file) = loop {
         let number = RandomState::new().build_hasher().finish();

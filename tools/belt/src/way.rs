@@ -1,104 +1,202 @@
 //! How an answer is found for a pair of pictures: what is said to have been measured, apart from what is stored.
 //!
-//! Of the samples that aren't masked the library elects a type, or fits the one that is named. What is measured is its
-//! fit, ahead of the grid, of the samples that agree with that model. Where no type is elected, a translation is tried,
-//! trimmed: the election takes what moved by less than half a pel for standing still.
+//! The crate `track` answers. Where a type is named, that type is fitted instead to the samples that are stored, and it
+//! counts if at least half of them agree; of `track` it then takes how the blocks moved, and no more.
 
-use crate::model::{Asked, IDENTITY, Map};
-use belt::Sample;
+use crate::frames::Frame;
+use crate::model::{self, Asked, Map};
+use crate::report::words;
+use belt::{Motion, Sample};
+use track::{Options, Refused, Shares, Status};
 
-/// Below this root of the mean square of the motion over the picture, in pels, the load stands still.
+/// Below this root of the mean square of the motion over the picture, in pels, a load of a named type stands still.
 const STILL: f64 = 1.0 / 16.0;
-/// The share of samples that agree, below which nothing is measured.
+/// The share of samples that agree with a named type, below which nothing is measured.
 const FEW: f64 = 0.5;
+/// A motion of so many pels, across or down, lies at the end of the range: the search looks at whole pels up to here.
+const END_OF_RANGE: f64 = 27.0;
+/// The share of samples at the end of the range, from which on they are many.
+const MANY_AT_END: f64 = 0.05;
 
-/// What is known of a pair.
+/// A picture of fewer blocks than this can't have as many that agree as `track` asks for.
+const LARGE: usize = 24;
+
+/// How a model was found.
 #[derive(Clone, Copy, Debug, PartialEq, Eq)]
-pub enum Status {
-    Measured,
-    Still,
-    Unexplained,
-    Flat,
-    NoBlocks,
+pub enum How {
+    Tracked(track::How),
+    /// A named type, fitted to all samples.
+    Plain,
+    /// A named type, fitted without the samples that lie far off.
+    Trimmed,
 }
 
-impl Status {
+impl How {
+    /// Its name for programs.
     pub fn name(self) -> &'static str {
         match self {
-            Status::Measured => "measured",
-            Status::Still => "still",
-            Status::Unexplained => "unexplained",
-            Status::Flat => "flat",
-            Status::NoBlocks => "no-blocks",
+            How::Tracked(how) => how.name(),
+            How::Plain => "plain",
+            How::Trimmed => "trimmed",
         }
     }
-
-    /// Whether there is a motion to tell.
-    pub fn has_motion(self) -> bool {
-        matches!(self, Status::Measured | Status::Still)
-    }
 }
 
-/// What was found. Without a motion, `map` is the model that comes nearest.
-#[derive(Clone, Copy, Debug)]
+/// What to know of an answer.
+#[derive(Clone, Debug, PartialEq, Eq)]
+pub struct Warning {
+    /// For programs.
+    pub name: &'static str,
+    /// What is the matter, and what to do.
+    pub text: String,
+}
+
+/// What was found. Unless the status is known, `map` is a guess.
+#[derive(Clone, Debug)]
 pub struct Answer {
     pub status: Status,
-    /// How the model was found, for programs.
-    pub how: &'static str,
+    pub how: How,
     pub gm_type: u8,
     pub map: Map,
+    /// How many blocks agree, of how many that can tell their motion, of how many: those of half planes where the answer
+    /// is theirs.
+    pub agree: usize,
+    pub usable: usize,
+    pub blocks: usize,
+    /// They agree within so many pels.
+    pub within: f64,
+    /// The error to be expected, in pels, where it is known.
+    pub predicted: Option<f64>,
+    /// Why the model isn't to be trusted.
+    pub warnings: Vec<Warning>,
+    /// How the blocks moved, whatever the model.
+    pub shares: Shares,
+    /// The words of the search; none where there was none.
+    pub words: Vec<u32>,
 }
 
-/// The answer of the samples that aren't masked, over a picture of these sides.
-pub fn answer(asked: Asked, flag: u8, within: f64, words: &[u32], (width, height): (usize, usize)) -> Answer {
-    let near = |map: Map| -> Vec<u32> {
-        words.iter().copied().filter(|&word| map.off(&Sample::of_word(word)) <= within).collect()
-    };
-    let judged = |how: &'static str, gm_type: u8, first: Map| {
-        let own = near(first);
-        let fitted = Map::fitted(gm_type, &own).filter(|_| !own.is_empty());
-        let map = fitted.unwrap_or(first);
-        let agree = near(map).len().max(own.len()) as f64 >= FEW * words.len() as f64 && fitted.is_some();
-        let status = match agree {
-            false => Status::Unexplained,
-            true if root_mean_square(map, width, height) <= STILL => Status::Still,
-            true => Status::Measured,
+/// What an answer is sought by.
+pub struct Question<'a> {
+    pub asked: Asked,
+    /// One search and no more.
+    pub fast: bool,
+    /// A block agrees with a named type within so many pels.
+    pub within: f64,
+    /// For each block, whether it is left out.
+    pub mask: Option<&'a [bool]>,
+    /// The samples that are stored, one for each block.
+    pub stored: &'a [u32],
+}
+
+impl Question<'_> {
+    /// The answer of two pictures of the same sides.
+    pub fn answer(&self, input: &Frame, reference: &Frame) -> Result<Answer, Refused> {
+        let [first, second] = [input, reference].map(|frame| {
+            let Frame { width, height, most, .. } = *frame;
+            track::Frame { pels: &frame.pels, width, height, most }
+        });
+        let fast = self.fast || self.asked != Asked::Elected;
+        let mut answer = tracked(track::measure(&first, &second, &Options { fast, mask: self.mask })?, self.within);
+        if answer.blocks > 0 && self.mask.is_some_and(|mask| mask.iter().all(|out| *out)) {
+            answer.status = Status::NoBlocks;
+            answer.warnings.clear();
+        }
+        Ok(match self.asked {
+            Asked::Elected => answer,
+            Asked::Plain(kind) => self.named(kind, How::Plain, answer, input),
+            Asked::Trimmed(kind) => self.named(kind, How::Trimmed, answer, input),
+        })
+    }
+
+    /// The answer of a named type, by the samples of the blocks that aren't masked.
+    fn named(&self, kind: u8, how: How, tracked: Answer, input: &Frame) -> Answer {
+        let is_kept = |at: usize| !self.mask.is_some_and(|mask| mask[at]);
+        let kept = self.stored.iter().enumerate().filter(|(at, _)| is_kept(*at));
+        let kept: Vec<u32> = kept.map(|(_, &word)| word).collect();
+        let near = |map: Map| -> Vec<u32> {
+            kept.iter().copied().filter(|&word| map.off(&Sample::of_word(word)) <= self.within).collect()
         };
-        Answer { status, how, gm_type, map }
-    };
-    if words.is_empty() {
-        return Answer { status: Status::NoBlocks, how: "elected", gm_type: IDENTITY, map: Map::IDENTITY };
-    }
-    match asked {
-        Asked::Elected => match belt::elect(flag, words) {
-            Ok(elected) if elected.gm_type != IDENTITY => {
-                judged("elected", elected.gm_type, Map::of_grid(elected.model.x_first(elected.gm_type)))
-            }
-            _ => match belt::fit_trimmed(1, words) {
-                Ok(trimmed) => judged("trimmed", 1, Map::of_fit(&trimmed.fitted)),
-                Err(_) => Answer { status: Status::Unexplained, ..judged("elected", IDENTITY, Map::IDENTITY) },
-            },
-        },
-        Asked::Plain(kind) => match Map::fitted(kind, words) {
-            Some(map) => judged("plain", kind, map),
-            None => Answer { status: Status::Unexplained, ..judged("plain", IDENTITY, Map::IDENTITY) },
-        },
-        Asked::Trimmed(kind) => match belt::fit_trimmed(kind, words) {
-            Ok(trimmed) => judged("trimmed", kind, Map::of_fit(&trimmed.fitted)),
-            Err(_) => Answer { status: Status::Unexplained, ..judged("trimmed", IDENTITY, Map::IDENTITY) },
-        },
+        let first = match how {
+            How::Trimmed => belt::fit_trimmed(kind, &kept).ok().map(|trimmed| Map::of_fit(&trimmed.fitted)),
+            _ => Map::fitted(kind, &kept),
+        };
+        let own = first.map(near).unwrap_or_default();
+        let fitted = if own.is_empty() { None } else { Map::fitted(kind, &own) };
+        let map = fitted.or(first).unwrap_or(Map::IDENTITY);
+        let (agree, usable) = (if fitted.is_some() { near(map).len() } else { own.len() }, kept.len());
+        let status = match tracked.status {
+            status @ (Status::Flat | Status::NoBlocks) => status,
+            _ if fitted.is_none() || (agree as f64) < FEW * usable as f64 => Status::Unexplained,
+            _ if map.root_mean_square(input.width, input.height) <= STILL => Status::Still,
+            _ => Status::Measured,
+        };
+        let warnings = match status {
+            Status::Flat | Status::NoBlocks => Vec::new(),
+            Status::Unexplained => [few_agree(kind, agree, usable)].into_iter().chain(at_end(&kept)).collect(),
+            _ => at_end(&kept).into_iter().collect(),
+        };
+        Answer {
+            status,
+            how,
+            gm_type: kind,
+            map,
+            agree,
+            usable,
+            blocks: self.stored.len(),
+            within: self.within,
+            predicted: None,
+            warnings,
+            shares: tracked.shares,
+            words: Vec::new(),
+        }
     }
 }
 
-/// The root of the mean square of a motion over a picture, by its middle and its corners.
-fn root_mean_square(map: Map, width: usize, height: usize) -> f64 {
-    let (right, bottom) = (width as f64 - 1.0, height as f64 - 1.0);
-    let square = |(x, y): (f64, f64)| {
-        let motion = map.motion_at(x, y);
-        motion.u * motion.u + motion.v * motion.v
+/// What `track` found.
+fn tracked(found: track::Answer, within: f64) -> Answer {
+    let half = if found.how == track::How::HalfSize { 2.0 } else { 1.0 };
+    let small = found.blocks < LARGE;
+    let warning = |warning: &track::Warning| {
+        let more = match warning {
+            track::Warning::FewBlocks if small => "; --type fits a model to fewer",
+            _ => "",
+        };
+        Warning { name: warning.name(), text: format!("{}{more}", warning.advice()) }
     };
-    // Simpson's rule is exact for a square
-    let weights = [(0.0, 1.0), (0.5, 4.0), (1.0, 1.0)];
-    let sums = weights.iter().flat_map(|&(x, a)| weights.map(|(y, b)| a * b * square((x * right, y * bottom))));
-    (sums.sum::<f64>() / 36.0).sqrt()
+    Answer {
+        status: found.status,
+        how: How::Tracked(found.how),
+        gm_type: found.model.gm_type,
+        map: Map(found.model.numbers),
+        agree: found.agree,
+        usable: found.usable,
+        blocks: found.blocks,
+        // of flat pictures none is known
+        within: if found.within > 0.0 { half * found.within } else { within },
+        predicted: Some(found.predicted).filter(|pels| pels.is_finite() && found.status.is_known()),
+        warnings: found.warnings.iter().map(warning).collect(),
+        shares: found.shares,
+        words: found.words,
+    }
+}
+
+fn few_agree(kind: u8, agree: usize, usable: usize) -> Warning {
+    let share = words::per_cent(agree as f64 / usable.max(1) as f64);
+    let text = format!(
+        "only {share} of the blocks agree with {}: it moved otherwise, or not as one piece, or further than the search \
+         looks, {END_OF_RANGE} pels; without --type the model is found too, and --crop or --mask leave a part out",
+        model::words(kind)
+    );
+    Warning { name: track::Warning::FewAgree.name(), text }
+}
+
+/// The warning of samples at the end of the range, if there are many.
+fn at_end(words: &[u32]) -> Option<Warning> {
+    let is_at_end = |&&word: &&u32| {
+        let Motion { u, v } = Sample::of_word(word).motion;
+        u.abs().max(v.abs()) >= END_OF_RANGE
+    };
+    let many = words.iter().filter(is_at_end).count() as f64 >= MANY_AT_END * words.len() as f64;
+    let warning = track::Warning::EndOfRange;
+    many.then(|| Warning { name: warning.name(), text: warning.advice().into() })
 }

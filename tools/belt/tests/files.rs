@@ -104,7 +104,7 @@ fn links_are_followed_and_one_to_nothing_is_an_error() {
 fn a_dash_is_standard_output() {
     let folder = pictures("dash");
     let output = folder.command(&measure(&["--blocks", "-"])).output().unwrap();
-    assert!(String::from_utf8_lossy(&output.stderr).contains("It moved 6 pels right and 3 pels up."));
+    assert!(String::from_utf8_lossy(&output.stderr).contains("\nIt moved 6."));
     folder.write("blocks", &output.stdout);
     let said = folder.belt(&["list", "blocks"]);
     assert!(said.status == 0 && said.out.starts_with("frame 1 block 0 count 80\n"), "{said:?}");

@@ -26,11 +26,10 @@ fn a_creep_is_no_standing_still() {
             folder.write("b.pgm", smooth(step * f64::from(number_of + 1), 0.0));
             let found = pair(&folder, &[]);
             assert_eq!(found["status"], "measured", "{step}: {found}");
-            // the search goes by eighths of a pel, so each block is within a sixteenth
-            assert!((number(&found, "right_pels") - step).abs() < 0.07, "{step}: {found}");
+            assert!((number(&found, "right_pels") - step).abs() < 0.04, "{step}: {found}");
             sum += number(&found, "right_pels");
         }
-        assert!((sum - 4.0 * step).abs() < 0.2, "{step}: {sum}");
+        assert!((sum - 4.0 * step).abs() < 0.1, "{step}: {sum}");
     }
     folder.write("b.pgm", smooth(0.9, 0.0));
     folder.write("a.pgm", smooth(0.9, 0.0));
@@ -45,7 +44,9 @@ fn a_flat_belt_and_a_small_one_have_their_status() {
     for words in [&[][..], &["--type", "affine", "--trim"]] {
         let found = pair(&folder, words);
         assert_eq!((&found["status"], &found["measured"]["zoom"]), (&Value::from("flat"), &Value::Null));
+        assert_eq!((told(&found)[1], warnings(&found).len()), ("null", 0), "{found}");
     }
+    says_one_thing(&pair(&folder, &[]), &words(&folder));
     assert!(words(&folder).contains("\nNothing was measured: a picture is flat, every pel is the same.\n"));
     let found = pair(&folder, &["--crop", "0,0,160,15"]);
     assert_eq!((&found["status"], &found["measured"]["right_pels"]), (&Value::from("no-blocks"), &Value::Null));
@@ -59,21 +60,23 @@ fn a_rail_is_told_and_can_be_left_out() {
     folder.write("b.pgm", noise(|_, _| [20, 20]));
     let found = pair(&folder, &[]);
     assert!(warnings(&found).contains(&"part-still"), "{found}");
-    let common = &found["commonest"];
-    assert_eq!((&common["right_pels"], &common["down_pels"]), (&Value::from(6.0), &Value::from(4.0)));
-    assert!(common["share"].as_f64().unwrap() > 0.6, "{found}");
+    let common = |name: &str| found["commonest"][name].as_f64().unwrap();
+    assert!((common("right_pels") - 6.0).abs() < 0.1 && (common("down_pels") - 4.0).abs() < 0.1, "{found}");
+    assert!(common("share") > 0.6 && found["share_that_stood_still"].as_f64().unwrap() > 0.1, "{found}");
     assert!(words(&folder).contains("cut it off with --crop, or leave it out with --mask"), "{}", words(&folder));
+    says_one_thing(&found, &words(&folder));
     for way in [["--crop", "0,32,160,96"], ["--mask", "mask.pgm"]] {
         let pel = |i: usize| if i / 160 == 17 { 1 } else { u8::from(i / 160 < 3) };
         folder.write("mask.pgm", [b"P5 160 128 255\n".to_vec(), (0..160 * 128).map(pel).collect()].concat());
         let found = pair(&folder, &way);
         assert_eq!((&found["status"], warnings(&found).len()), (&Value::from("measured"), 0), "{found}");
-        assert!((number(&found, "right_pels") - 6.0).abs() < 0.01 && (number(&found, "down_pels") - 4.0).abs() < 0.01);
-        assert_eq!(found["usable"], 60, "{found}");
+        assert!(is_near(&found, [6.0, 4.0], 0.05), "{found}");
+        assert!((40..=60).contains(&found["usable"].as_u64().unwrap()), "{found}");
     }
     folder.write("mask.pgm", [b"P5 160 128 255\n".to_vec(), vec![9; 160 * 128]].concat());
     let found = pair(&folder, &["--mask", "mask.pgm"]);
     assert_eq!((&found["status"], &found["usable"]), (&Value::from("no-blocks"), &Value::from(0)));
+    assert!(warnings(&found).is_empty(), "{found}");
     folder.write("mask.pgm", b"P5 1 1 255\nx");
     let said = folder.belt(&["measure", "a.pgm", "b.pgm", "--mask", "mask.pgm"]);
     assert_eq!(said.error, "belt: mask.pgm: the mask has 1×1 pels, and a.pgm 160×128\n");
@@ -90,7 +93,8 @@ fn a_part_that_moves_is_told() {
     assert_eq!((&found["status"], warnings(&found)), (&Value::from("still"), vec!["part-moves"]), "{found}");
     let text = words(&folder);
     assert!(text.contains(" stood still, and a part moved on its own.\n"), "{text}");
-    assert!(text.contains("the commonest motion of the rest is 6 pels right, of "), "{text}");
+    assert!(text.contains("a part moved on its own: the commonest motion of the rest is 6"), "{text}");
+    says_one_thing(&found, &text);
 }
 
 /// What no motion explains has no numbers, in words and in JSON.
@@ -116,6 +120,174 @@ fn what_is_not_explained_has_no_numbers() {
         assert!(!warnings(&found).is_empty());
         let text = words(&folder);
         assert!(text.contains("\nIt isn't known how it moved") && !text.contains("\n    shift"), "{text}");
+        says_one_thing(&found, &text);
+    }
+}
+
+/// The sides of the drawn belt.
+const WIDTH: usize = 320;
+const HEIGHT: usize = 240;
+
+/// A loaded belt that went so far: smooth noise of three widths.
+fn load(seed: u64, [right, down]: [f64; 2]) -> Vec<f64> {
+    let grain = |x: f64, y: f64, width: u64| {
+        let [x, y] = [x as i64 as u64, y as i64 as u64];
+        let h = x.wrapping_mul(0x9E37_79B9_7F4A_7C15) ^ y.wrapping_mul(0xC2B2_AE3D_27D4_EB4F) ^ seed << 17 ^ width << 7;
+        let h = (h ^ h >> 29).wrapping_mul(0xBF58_476D_1CE4_E5B9);
+        ((h ^ h >> 32).wrapping_mul(0x94D0_49BB_1331_11EB) >> 40) as f64 / f64::from(1 << 24) - 0.5
+    };
+    let smooth = |t: f64| t * t * (3.0 - 2.0 * t);
+    let noise = |x: f64, y: f64, width: u64| {
+        let (x, y) = (x / width as f64, y / width as f64);
+        let (left, top) = (x.floor(), y.floor());
+        let (across, along) = (smooth(x - left), smooth(y - top));
+        let row = |y: f64| grain(left, y, width) * (1.0 - across) + grain(left + 1.0, y, width) * across;
+        row(top) * (1.0 - along) + row(top + 1.0) * along
+    };
+    let pel = |i: usize| {
+        let (x, y) = ((i % WIDTH) as f64 - right + 2000.0, (i / WIDTH) as f64 - down + 2000.0);
+        128.0 + 70.0 * noise(x, y, 4) + 70.0 * noise(x, y, 9) + 60.0 * noise(x, y, 23)
+    };
+    (0..WIDTH * HEIGHT).map(pel).collect()
+}
+
+/// Of two pictures, the one where the other isn't.
+fn over(below: Vec<f64>, above: &[f64], is_above: impl Fn(usize, usize) -> bool) -> Vec<f64> {
+    let pel = |(i, pel): (usize, f64)| if is_above(i % WIDTH, i / WIDTH) { above[i] } else { pel };
+    below.into_iter().enumerate().map(pel).collect()
+}
+
+/// The mean of three by three, so many times.
+fn blurred(pels: Vec<f64>, times: usize) -> Vec<f64> {
+    let once = |pels: Vec<f64>| {
+        let at = |x: usize, y: usize| pels[y.min(HEIGHT - 1) * WIDTH + x.min(WIDTH - 1)];
+        let around = |i: usize| {
+            let (x, y) = (i % WIDTH, i / WIDTH);
+            let places = (0..9).map(|j| at((x + j % 3).saturating_sub(1), (y + j / 3).saturating_sub(1)));
+            places.sum::<f64>() / 9.0
+        };
+        (0..pels.len()).map(around).collect()
+    };
+    (0..times).fold(pels, |pels, _| once(pels))
+}
+
+/// Noise of about this deviation: the sum of four numbers.
+fn noisy(pels: Vec<f64>, mut state: u32, deviation: f64) -> Vec<f64> {
+    let mut any = || {
+        state = state.wrapping_mul(1_664_525).wrapping_add(1_013_904_223);
+        f64::from(state >> 8) / f64::from(1 << 24) - 0.5
+    };
+    pels.into_iter().map(|pel| pel + deviation * 1.73 * (0..4).map(|_| any()).sum::<f64>()).collect()
+}
+
+fn brighter(pels: Vec<f64>, times: f64, more: f64) -> Vec<f64> {
+    pels.into_iter().map(|pel| times * pel + more).collect()
+}
+
+fn pgm(pels: Vec<f64>) -> Vec<u8> {
+    let head = format!("P5 {WIDTH} {HEIGHT} 255\n").into_bytes();
+    head.into_iter().chain(pels.into_iter().map(|pel| pel.round().clamp(0.0, 255.0) as u8)).collect()
+}
+
+/// Writes a pair and measures it.
+fn drawn(folder: &Folder, first: Vec<f64>, second: Vec<f64>, words: &[&str]) -> Value {
+    folder.write("a.pgm", pgm(first));
+    folder.write("b.pgm", pgm(second));
+    pair(folder, words)
+}
+
+fn is_near(found: &Value, [right, down]: [f64; 2], by: f64) -> bool {
+    (number(found, "right_pels") - right).hypot(number(found, "down_pels") - down) <= by
+}
+
+/// Status and how.
+fn told(found: &Value) -> [&str; 2] {
+    ["status", "how"].map(|name| found[name].as_str().unwrap_or("null"))
+}
+
+/// Each kind of footage with its true motion, and what is said of it.
+#[test]
+fn footage_is_measured() {
+    let folder = Folder::new("footage");
+    let at = |motion| load(1, motion);
+    let still = [0.0, 0.0];
+    let is_rail = |_: usize, y: usize| !(40..HEIGHT - 40).contains(&y);
+    let is_piece = |x: usize, y: usize| (64..208).contains(&x) && (64..176).contains(&y);
+    let rails = |motion| over(at(motion), &load(2, still), is_rail);
+    let piece = |motion, own| over(at(motion), &load(3, own), is_piece);
+    let far = [45.0, -12.5];
+    type Case<'a> = (&'a str, Vec<f64>, Vec<f64>, [f64; 2], [&'a str; 2], &'a [&'a str]);
+    let cases: [Case; 12] = [
+        ("pan", at(still), at([7.5, -2.25]), [7.5, -2.25], ["measured", "elected"], &[]),
+        ("creep", at(still), at([0.19, 0.0]), [0.19, 0.0], ["measured", "robust"], &[]),
+        ("slow creep", at(still), at([0.0, -0.1]), [0.0, -0.1], ["measured", "robust"], &[]),
+        ("still", at(still), at(still), still, ["still", "robust"], &[]),
+        ("rails", rails(still), rails([-6.5, 0.75]), [-6.5, 0.75], ["measured", "robust"], &["part-still"]),
+        ("piece", piece(still, still), piece([4.5, 1.25], [-5.0, 3.0]), [4.5, 1.25], ["measured", "robust"], &[]),
+        ("piece alone", piece(still, still), piece(still, [-5.0, 3.0]), still, ["still", "robust"], &["part-moves"]),
+        ("darker", at(still), brighter(at([-3.5, 6.0]), 0.6, 10.0), [-3.5, 6.0], ["measured", "elected"], &[]),
+        ("blurred", blurred(at(still), 4), blurred(at([5.25, 1.5]), 4), [5.25, 1.5], ["measured", "elected"], &[]),
+        ("noisy", noisy(at(still), 1, 6.0), noisy(at([2.5, 2.5]), 2, 6.0), [2.5, 2.5], ["measured", "elected"], &[]),
+        (
+            "noise",
+            noisy(at(still), 1, 60.0),
+            noisy(at([4.0, -4.0]), 2, 60.0),
+            [4.0, -4.0],
+            ["measured", "half-size"],
+            &[],
+        ),
+        ("far", at(still), at(far), far, ["measured", "shifted"], &[]),
+    ];
+    for (name, first, second, truth, wanted, warned) in cases {
+        let found = drawn(&folder, first, second, &[]);
+        assert_eq!((told(&found), warnings(&found)), (wanted, warned.to_vec()), "{name}: {found}");
+        assert!(is_near(&found, truth, if name == "noise" { 0.2 } else { 0.05 }), "{name}: {found}");
+        says_one_thing(&found, &words(&folder));
+    }
+    // without coarser pictures what went far isn't found
+    let found = drawn(&folder, at(still), at(far), &["--fast"]);
+    assert_eq!((told(&found), &found["predicted"]), (["unexplained", "null"], &Value::Null), "{found}");
+    assert_eq!(told(&drawn(&folder, at(still), at([7.5, -2.25]), &["--fast"])), ["measured", "elected"]);
+    // light doesn't stop the named type's counts, but its blocks are those that are stored
+    let found = drawn(&folder, at(still), at([7.5, -2.25]), &["--type", "translation"]);
+    assert_eq!(
+        (told(&found), &found["usable"], &found["predicted"]),
+        (["measured", "plain"], &300.into(), &Value::Null)
+    );
+}
+
+/// The words tell what the JSON does, and no more.
+fn says_one_thing(found: &Value, text: &str) {
+    let status = found["status"].as_str().unwrap();
+    let known = ["measured", "still"].contains(&status);
+    assert_eq!(text.contains("\nIt moved ") || text.contains("\nIt became "), status == "measured", "{text}");
+    assert_eq!(
+        text.contains("\nIt stood still.\n") || text.contains(" % stood still, and"),
+        status == "still",
+        "{text}"
+    );
+    assert_eq!(text.contains("\n  measured   nothing\n"), !known, "{text}");
+    assert_eq!(text.contains("\n    shift "), known, "{text}");
+    assert_eq!(
+        text.contains("\n    zoom "),
+        status == "measured" && found["measured"]["type"] != "translation",
+        "{text}"
+    );
+    for name in ["right_pels", "down_pels", "zoom", "angle_degrees"] {
+        assert_eq!(found["measured"][name].is_null(), !known, "{name}: {found}");
+    }
+    assert_eq!((found["how"].is_null(), found["predicted"].is_null()), (!known, !known), "{found}");
+    let [agree, usable, blocks] = ["agree", "usable", "blocks"].map(|name| found[name].as_u64().unwrap());
+    assert!(agree <= usable && usable <= blocks, "{found}");
+    let counts = format!("\n  agreement  {agree} of {usable} block");
+    assert_eq!(text.contains(&counts), known, "{text}");
+    let otherwise = found["how"] == "elected" && found["measured"]["type"] != found["stored"]["type"];
+    assert_eq!(text.contains(", elected once the pictures' light is taken away\n"), otherwise, "{text}");
+    let listed = found["warnings"].as_array().unwrap();
+    assert_eq!(text.matches("\nwarning: ").count(), listed.len(), "{text}");
+    for warning in listed {
+        let [name, said] = ["name", "text"].map(|part| warning[part].as_str().unwrap());
+        assert!(said.len() > 40 && text.contains(&format!("\nwarning: {name}: {said}\n")), "{text}");
     }
 }
 
@@ -164,7 +336,7 @@ fn the_demo_finds_what_it_drew() {
     }
     assert_eq!(pairs, 24);
     let said = folder.belt(&["measure", "here/clip.y4m#0", "here/clip.y4m#1"]);
-    assert!(said.out.contains("\nIt moved 3"), "{said:?}");
+    assert!(said.out.contains("\nIt moved 3") && said.out.contains(", robust: "), "{said:?}");
     folder.write("file", "x");
     let said = folder.belt(&["demo", "file"]);
     assert_eq!((said.status, said.out.as_str()), (2, ""), "{said:?}");

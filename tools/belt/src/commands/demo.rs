@@ -41,6 +41,7 @@ fn leave(folder: &Path) -> Result<(), Failure> {
         set: ClassSet::ALL,
         mask: None,
         within: 0.25,
+        fast: false,
     };
     let mut pairs = Vec::new();
     for pair in frames.windows(2) {

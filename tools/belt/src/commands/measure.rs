@@ -32,7 +32,7 @@ pub fn run(words: &Measure) -> Result<(), Failure> {
         }
         let measured = measure(&job, &before, &reference)?;
         pairs += 1;
-        warned += usize::from(!measured.warnings.is_empty() || !measured.answer.status.has_motion());
+        warned += usize::from(!measured.warnings.is_empty() || !measured.answer.status.is_known());
         if words.blocks.is_some() {
             blocks.extend(&measured.sample_blocks);
         }
@@ -83,6 +83,7 @@ fn job(words: &Measure) -> Result<Job, Failure> {
         set: words.set.as_deref().map_or(Ok(ClassSet::ALL), lists::class_set)?,
         mask: None,
         within: words.within,
+        fast: words.fast,
     })
 }
 

@@ -67,14 +67,14 @@ pub fn table(pairs: &[Measured]) -> csv::Result<Vec<u8>> {
         "warnings",
     ])?;
     for (number, pair) in pairs.iter().enumerate() {
-        let known = pair.answer.status.has_motion();
+        let known = pair.answer.status.is_known();
         let told = |pels: f64| if known { format!("{pels:.3}") } else { String::new() };
         let stored = pair.middle_of(pair.stored_map(), 1);
         let [right, down] = step(number);
         table.write_record([
             number.to_string(),
             pair.answer.status.name().into(),
-            pair.answer.how.into(),
+            if known { pair.answer.how.name().into() } else { String::new() },
             if known { TYPES[usize::from(pair.answer.gm_type)].into() } else { String::new() },
             told(pair.middle().u),
             told(pair.middle().v),
@@ -82,9 +82,9 @@ pub fn table(pairs: &[Measured]) -> csv::Result<Vec<u8>> {
             down.to_string(),
             stored.u.to_string(),
             stored.v.to_string(),
-            pair.agreeing().to_string(),
-            pair.used().count().to_string(),
-            pair.warnings.iter().map(|warning| warning.name()).collect::<Vec<_>>().join(" "),
+            pair.answer.agree.to_string(),
+            pair.answer.usable.to_string(),
+            pair.warnings.iter().map(|warning| warning.name).collect::<Vec<_>>().join(" "),
         ])?;
     }
     table.into_inner().map_err(|error| std::io::Error::other(error.to_string()).into())

@@ -33,7 +33,7 @@ pub fn plot(pairs: &[Measured]) -> Result<String, Box<dyn Error>> {
                 .label(format!("{name}, as drawn"))
                 .legend(move |(x, y)| PathElement::new([(x, y), (x + 18, y)], colour.mix(0.45).stroke_width(2)));
             let found = |warned: bool| {
-                let pairs = pairs.iter().enumerate().filter(|(_, pair)| pair.answer.status.has_motion());
+                let pairs = pairs.iter().enumerate().filter(|(_, pair)| pair.answer.status.is_known());
                 let pairs = pairs.filter(move |(_, pair)| pair.warnings.is_empty() != warned);
                 pairs.map(move |(at, pair)| (at as f64 + 0.5, [pair.middle().u, pair.middle().v][axis]))
             };

@@ -52,13 +52,6 @@ pub struct Frame {
     pub pels: Vec<u16>,
 }
 
-impl Frame {
-    /// Whether all its pels are the same, so that nothing can be found in it.
-    pub fn is_flat(&self) -> bool {
-        self.pels.windows(2).all(|pair| pair[0] == pair[1])
-    }
-}
-
 /// What gives a picture's rows, one after the other.
 trait Rows {
     /// The brightness of the next row.

@@ -69,7 +69,7 @@ pub fn strokes(measured: &Measured, times: f64, scale: f64) -> Vec<Strokes> {
     let radius = (0.5 + 0.35 * scale).min(2.2);
     let mut strokes = Vec::new();
     for (number, colour) in COLOURS.into_iter().enumerate() {
-        let own = measured.used().filter(|block| rank(block, measured.within) == number);
+        let own = measured.used().filter(|block| rank(block, measured.answer.within) == number);
         let (mut dots, mut arrows) = (Vec::new(), Vec::new());
         for block in own {
             let from = [block.x, block.y].map(|pel| (pel + 0.5) * scale);

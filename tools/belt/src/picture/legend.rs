@@ -5,6 +5,8 @@ use super::{ADVANCE, Colour, MARGIN, Point, Scene, Strokes, Text};
 use crate::measure::Measured;
 use crate::model;
 use crate::report::words;
+use crate::way::How;
+use track::Status;
 
 /// Sizes of the legend, in dots of its letters: from line to line, between text and keys, the room for a key, and where
 /// its text begins.
@@ -50,19 +52,37 @@ fn names(measured: &Measured, letters: usize) -> String {
     format!("{} to {}", cut(input, half), cut(reference, half))
 }
 
+/// What the blocks have to do with the model.
+fn blocks(measured: &Measured) -> String {
+    let answer = &measured.answer;
+    let name = model::words(answer.gm_type);
+    match answer.status {
+        Status::Flat | Status::NoBlocks => "No block tells a motion".into(),
+        Status::Unexplained => format!("The colours are of a guess, {name}, that isn't to be trusted"),
+        _ => {
+            let (share, usable) = (words::per_cent(measured.share()), words::many(answer.usable, "block"));
+            let which = if matches!(answer.how, How::Tracked(_)) { " that can tell their motion" } else { "" };
+            let coarse = match answer.how {
+                How::Tracked(track::How::Shifted) => {
+                    " once the second picture is moved; the arrows are of the search as it is, which doesn't reach so far"
+                }
+                How::Tracked(track::How::HalfSize) => {
+                    " at half the size; the arrows are of the full size, which doesn't tell it"
+                }
+                _ => "",
+            };
+            format!("{share} of {usable}{which} agree with {name}{coarse}")
+        }
+    }
+}
+
 fn lines(measured: &Measured, letters: usize) -> Vec<String> {
-    let said = format!(
-        "{} of {} agree with {}; header {} bits",
-        words::per_cent(measured.share()),
-        words::many(measured.used().count(), "block"),
-        model::words(measured.answer.gm_type),
-        measured.report.bits
-    );
+    let said = format!("{}; header {} bits", blocks(measured), measured.report.bits);
     let mut lines = vec![names(measured, letters)];
     lines.extend(wrapped(&format!("{}.", words::sentence(measured)), letters));
     lines.extend(wrapped(&said, letters));
-    for &warning in &measured.warnings {
-        lines.extend(wrapped(&format!("Warning: {}.", words::warning(warning, measured)), letters));
+    for warning in &measured.warnings {
+        lines.extend(wrapped(&format!("Warning: {}: {}.", warning.name, warning.text), letters));
     }
     lines
 }
@@ -94,10 +114,12 @@ pub fn add(scene: &mut Scene, measured: &Measured, times: f64) {
         scene.height += LINE * dot;
     }
     scene.height += GAP * dot;
-    let within = measured.within;
+    let within = measured.answer.within;
+    // the picture's pels, of which one that is drawn may be more
+    let own = |pels: f64| words::pels(pels * measured.times as f64);
     let meanings = [
-        format!("within {within} pel of the model"),
-        format!("off by up to {}", words::pels(NEAR.max(within))),
+        format!("within {} of the model", own(within)),
+        format!("off by up to {}", own(NEAR.max(within))),
         "further off".to_string(),
     ];
     let usual = 18.0 * dot as f64;
@@ -108,8 +130,6 @@ pub fn add(scene: &mut Scene, measured: &Measured, times: f64) {
     let pixels_per_pel = times * scene.scale as f64;
     let length = key_length(pixels_per_pel, KEY * dot as f64);
     let drawn = if times == 1.0 { String::new() } else { format!(", drawn {times} times as long") };
-    // the picture's pels, of which one that is drawn may be more
-    let own = |pels: f64| words::pels(pels * measured.times as f64);
     key(scene, ANY, length * pixels_per_pel, 1, format!("{} of motion{drawn}", own(length)));
     if measured.used().any(|block| is_shortened(block, times)) {
         let text = format!("more than {} of motion, drawn shorter", own(longest(times)));
@@ -122,7 +142,7 @@ pub fn add(scene: &mut Scene, measured: &Measured, times: f64) {
 mod tests {
     use super::super::tests::example;
     use super::*;
-    use crate::measure::Warning;
+    use crate::way::Warning;
 
     #[test]
     fn texts_are_cut_and_wrapped() {
@@ -139,7 +159,7 @@ mod tests {
         measured.reference = "folder/second.pgm".into();
         assert_eq!(names(&measured, 40), "folder/first.pgm to folder/second.pgm");
         assert_eq!(names(&measured, 30), ".../first.pgm to ...second.pgm");
-        measured.warnings = vec![Warning::FewAgree, Warning::WarpNotKept];
+        measured.warnings = ["one", "two"].map(|name| Warning { name, text: "do this".into() }).to_vec();
         let text = lines(&measured, 60).join(" ");
         assert_eq!(text.matches("Warning: ").count(), 2, "{text}");
     }

@@ -1,7 +1,7 @@
 //! What was measured, for programs: one object in one line.
 
 use super::words;
-use crate::measure::{Commonest, Measured};
+use crate::measure::Measured;
 use crate::model::{Map, TYPES};
 use belt::{Motion, StoredModel};
 use serde::Serialize;
@@ -80,9 +80,9 @@ struct Common {
 }
 
 #[derive(Serialize)]
-struct Warned {
+struct Warned<'a> {
     name: &'static str,
-    text: String,
+    text: &'a str,
 }
 
 #[derive(Serialize)]
@@ -110,7 +110,7 @@ struct Pair<'a> {
     height: usize,
     halved: usize,
     status: &'static str,
-    how: &'static str,
+    how: Option<&'static str>,
     measured: Moved,
     stored: Stored,
     blocks: usize,
@@ -118,19 +118,20 @@ struct Pair<'a> {
     agree: usize,
     share_that_agrees: f64,
     within_pels: f64,
-    at_end_of_range: usize,
+    predicted: Option<f64>,
+    share_that_stood_still: f64,
     commonest: Option<Common>,
     header: Header,
     frame: u16,
     models: Vec<Model>,
-    warnings: Vec<Warned>,
+    warnings: Vec<Warned<'a>>,
 }
 
 pub fn pair(measured: &Measured) -> String {
     let Measured { answer, settings, report, .. } = measured;
     let stored = measured.stored_map();
-    let warned = |&found| Warned { name: crate::measure::Warning::name(found), text: words::warning(found, measured) };
-    let common = |Commonest { motion, share }| Common { right_pels: motion.u, down_pels: motion.v, share };
+    let common = |track::Common { motion, share }| Common { right_pels: motion.u, down_pels: motion.v, share };
+    let known = answer.status.is_known();
     line(&Pair {
         input: &measured.input,
         reference: &measured.reference,
@@ -138,8 +139,8 @@ pub fn pair(measured: &Measured) -> String {
         height: measured.height,
         halved: measured.times.trailing_zeros() as usize,
         status: answer.status.name(),
-        how: answer.how,
-        measured: match answer.status.has_motion() {
+        how: known.then(|| answer.how.name()),
+        measured: match known {
             true => Moved::of(answer.gm_type, measured.map(), measured.middle()),
             false => Moved::UNKNOWN,
         },
@@ -148,12 +149,13 @@ pub fn pair(measured: &Measured) -> String {
             numbers: measured.stored.row_first(measured.stored_type).0,
             score_square_pels: report.score,
         },
-        blocks: measured.blocks.len(),
-        usable: measured.used().count(),
-        agree: measured.agreeing(),
+        blocks: answer.blocks,
+        usable: answer.usable,
+        agree: answer.agree,
         share_that_agrees: measured.share(),
-        within_pels: measured.within,
-        at_end_of_range: measured.at_end(),
+        within_pels: answer.within,
+        predicted: measured.predicted(),
+        share_that_stood_still: answer.shares.still,
         commonest: measured.commonest().map(common),
         header: Header {
             bits: report.bits,
@@ -164,6 +166,6 @@ pub fn pair(measured: &Measured) -> String {
         },
         frame: settings.frame,
         models: report.types.iter().zip(&report.models).map(model).collect(),
-        warnings: measured.warnings.iter().map(warned).collect(),
+        warnings: measured.warnings.iter().map(|found| Warned { name: found.name, text: &found.text }).collect(),
     })
 }

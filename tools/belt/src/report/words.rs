@@ -1,12 +1,15 @@
 //! Motion in words and numbers with units.
 
-use crate::measure::{Commonest, END_OF_RANGE, LEAST_TO_ELECT, Measured, RANGE, Warning};
+use crate::measure::Measured;
 use crate::model::{self, Asked, Map};
-use crate::way::Status;
+use crate::way::How;
 use belt::Motion;
+use track::{Common, Status};
 
 /// Motions below this many pels are none.
 const STILL: f64 = 0.0005;
+/// The least error that is told, in pels.
+const LEAST_ERROR: f64 = 0.001;
 
 /// A whole number with commas.
 pub fn count(number: usize) -> String {
@@ -94,12 +97,11 @@ pub fn sentence(measured: &Measured) -> String {
         Status::NoBlocks if measured.blocks.is_empty() => {
             "Nothing was measured: no whole 16×16 block lies in the picture, and a motion needs one".into()
         }
-        Status::NoBlocks => "Nothing was measured: the mask leaves no block".into(),
+        Status::NoBlocks => "Nothing was measured: no block is left to measure".into(),
         Status::Flat => "Nothing was measured: a picture is flat, every pel is the same".into(),
         Status::Unexplained => "It isn't known how it moved: no motion explains the blocks".into(),
-        Status::Still if measured.warnings.contains(&Warning::PartMoves) => {
-            let still = per_cent(measured.still() / measured.used().count() as f64);
-            format!("{still} stood still, and a part moved on its own")
+        Status::Still if measured.warnings.iter().any(|warning| warning.name == "part-moves") => {
+            format!("{} stood still, and a part moved on its own", per_cent(measured.answer.shares.still))
         }
         Status::Still => "It stood still".into(),
         Status::Measured => format!("It {}", moved(measured.answer.gm_type, measured.map(), measured.middle())),
@@ -111,62 +113,69 @@ pub fn hexadecimal(bytes: &[u8]) -> String {
     bytes.iter().map(|byte| format!("{byte:02X}")).collect::<Vec<_>>().join(" ")
 }
 
-/// The commonest motion of blocks, with its share.
-fn common(found: Option<Commonest>) -> String {
-    let told = |Commonest { motion: own, share }| format!("{}, of {} of the blocks", motion(own), per_cent(share));
-    found.map(told).unwrap_or_default()
+/// What the blocks that don't stand still do most, where there are such.
+pub fn rest(measured: &Measured) -> String {
+    let told = |Common { motion: own, share }| {
+        format!("the commonest motion of the rest is {}, of {}", motion(own), per_cent(share))
+    };
+    measured.commonest().map(told).unwrap_or_default()
 }
 
-/// A warning in words, and what to do.
-pub fn warning(warning: Warning, measured: &Measured) -> String {
-    let used = measured.used().count();
-    match warning {
-        Warning::FewBlocks => {
-            format!("a type is elected from {LEAST_TO_ELECT} blocks on, and there are {used}; --type fits one to fewer")
-        }
-        Warning::FewAgree => format!(
-            "only {} of the blocks agree with {}: it moved further than {RANGE} pels, or not as one piece, or there is too \
-             little to see; the commonest motion is {}; --crop or --mask leave out what moves otherwise",
-            per_cent(measured.share()),
-            model::words(measured.answer.gm_type),
-            common(measured.commonest())
-        ),
-        Warning::EndOfRange => format!(
-            "{} of {} blocks lie at the end of the range ({END_OF_RANGE} pels or more of {RANGE}): it may have moved \
-             further than the search looks; --halve doubles the range",
-            count(measured.at_end()),
-            count(used)
-        ),
-        Warning::PartMoves => format!(
-            "a part moved on its own; the commonest motion of the rest is {}; --crop measures it alone",
-            common(measured.commonest_moving())
-        ),
-        Warning::PartStill => format!(
-            "a part stands still, {} of the blocks; cut it off with --crop, or leave it out with --mask",
-            per_cent(measured.still() / used as f64)
-        ),
-        Warning::WarpNotKept => "a decoder won't keep the stored warp: its shear is too strong".into(),
-    }
-}
-
-/// How the model was found.
+/// The type, and how the model was found.
 fn kind(measured: &Measured) -> String {
-    let name = model::words(measured.answer.gm_type);
-    match measured.answer.how {
-        "elected" => format!("{name}, elected"),
-        "trimmed" => format!("{name}, fitted without the blocks that lie far off"),
-        _ => name.into(),
-    }
+    let name = match measured.answer.status {
+        Status::Still => "standing still",
+        _ => model::words(measured.answer.gm_type),
+    };
+    let how = match measured.answer.how {
+        How::Plain => return name.into(),
+        How::Trimmed => "fitted without the blocks that lie far off",
+        How::Tracked(track::How::Elected) if measured.stored_type == measured.answer.gm_type => "elected",
+        How::Tracked(track::How::Elected) => "elected once the pictures' light is taken away",
+        How::Tracked(track::How::Robust) => "robust: as most of the blocks say that can tell their motion",
+        How::Tracked(track::How::HalfSize) => "half-size: as the blocks say at half the size",
+        How::Tracked(track::How::Shifted) => {
+            "shifted: the second picture was moved first, by what it shows at less size"
+        }
+    };
+    format!("{name}, {how}")
+}
+
+/// How many blocks agree.
+fn agreement(measured: &Measured) -> String {
+    let answer = &measured.answer;
+    let (agree, usable, share) = (count(answer.agree), many(answer.usable, "block"), per_cent(measured.share()));
+    let which = match answer.how {
+        How::Plain | How::Trimmed => "",
+        How::Tracked(track::How::HalfSize) => " of the half size that can tell their motion",
+        How::Tracked(_) => " that can tell their motion",
+    };
+    let halved = if measured.times > 1 { " of the halved picture" } else { "" };
+    let masked = match measured.blocks.len() - measured.used().count() {
+        0 => String::new(),
+        masked => format!("; {} left out", many(masked, "block")),
+    };
+    format!("{agree} of {usable}{which} ({share}) within {}{halved}{masked}", pels(answer.within))
 }
 
 /// The rows of what was measured.
 fn measured_rows(measured: &Measured, row: &mut impl FnMut(&str, String)) {
-    if !measured.answer.status.has_motion() {
-        return row("measured", "nothing".into());
+    let Measured { answer, .. } = measured;
+    match answer.status {
+        Status::Flat | Status::NoBlocks => return row("measured", "nothing".into()),
+        Status::Unexplained => {
+            row("measured", "nothing".into());
+            if measured.commonest().is_some() {
+                row("  blocks", format!("{} stood still; {}", per_cent(answer.shares.still), rest(measured)));
+            }
+            return;
+        }
+        Status::Measured | Status::Still => row("measured", kind(measured)),
     }
     let map = measured.map();
-    row("measured", kind(measured));
-    if measured.answer.gm_type > 1 {
+    if answer.status == Status::Still {
+        row("  shift", format!("{}, too little to be told from none", motion(measured.middle())));
+    } else if answer.gm_type > 1 {
         row("  shift", format!("{}, in the middle of the picture", motion(measured.middle())));
         row("", format!("{}, at its first pel", motion(map.motion_at(0.0, 0.0))));
         row("  zoom", format!("{:.5} ({})", map.zoom(), zoom(map.zoom())));
@@ -174,12 +183,10 @@ fn measured_rows(measured: &Measured, row: &mut impl FnMut(&str, String)) {
     } else {
         row("  shift", motion(measured.middle()));
     }
-    let (agree, used, share) = (count(measured.agreeing()), measured.used().count(), per_cent(measured.share()));
-    let masked = match measured.blocks.len() - used {
-        0 => String::new(),
-        masked => format!("; {} left out", many(masked, "block")),
-    };
-    row("agreement", format!("{agree} of {} ({share}) within {} pel{masked}", many(used, "block"), measured.within));
+    if let Some(error) = measured.predicted() {
+        row("  error", format!("about {} to be expected", pels(error.max(LEAST_ERROR))));
+    }
+    row("agreement", agreement(measured));
 }
 
 /// The rows of what is stored.
@@ -191,7 +198,7 @@ fn stored_rows(measured: &Measured, row: &mut impl FnMut(&str, String)) {
         "stored",
         match measured.asked {
             Asked::Elected if measured.is_stored_still() => {
-                "no type was elected: the header says standing still".into()
+                "standing still: the library elects no type on the pictures as they are".into()
             }
             _ => format!("{}: {stored}{halved}", model::words(measured.stored_type)),
         },
@@ -218,7 +225,7 @@ pub fn pair(measured: &Measured) -> String {
     measured_rows(measured, &mut row);
     stored_rows(measured, &mut row);
     for found in &measured.warnings {
-        lines.push(format!("\nwarning: {}: {}", found.name(), warning(*found, measured)));
+        lines.push(format!("\nwarning: {}: {}", found.name, found.text));
     }
     lines.join("\n") + "\n"
 }
@@ -227,11 +234,11 @@ pub fn pair(measured: &Measured) -> String {
 pub fn line(measured: &Measured) -> String {
     let (input, reference) = (&measured.input, &measured.reference);
     let mut line = format!("{input} to {reference}: {}", sentence(measured));
-    if measured.answer.status.has_motion() {
+    if measured.answer.status.is_known() {
         line += &format!("; {} agree", per_cent(measured.share()));
     }
     if let Some(first) = measured.warnings.first() {
-        line += &format!("; warning: {}: {}", first.name(), warning(*first, measured));
+        line += &format!("; warning: {}: {}", first.name, first.text);
     }
     line + "\n"
 }
@@ -277,7 +284,8 @@ mod tests {
         let wanted = [
             "a to b: 64×64 pels, 16 blocks of 16×16\nIt moved 4 pels right and 2 pels down.\n",
             "  measured   a translation\n    shift    4 pels right and 2 pels down\n",
-            " within 0.25 pel\n",
+            " of 16 blocks (",
+            ") within 0.25 pels\n",
             "  stored     a translation: moved 4 pels right and 2 pels down\n",
             " square pels over all blocks\n",
             " bits from bit 3, reference 7: ",

@@ -1,0 +1,170 @@
+//! What a motion leaves of a block: the variance of the moved second frame less the first, bilinear between pels.
+
+use crate::model::Model;
+use crate::plane::{Pair, Plane};
+use belt::{BLOCK_SIDE, MOST_EIGHTHS};
+
+/// Every other row of a block is looked at.
+const ROWS: usize = BLOCK_SIDE / 2;
+/// The pels that are looked at.
+const PELS: f32 = (BLOCK_SIDE * ROWS) as f32;
+/// Bits of fraction of a place.
+const FRACTION: u32 = 16;
+/// Bits of a bilinear weight.
+const WEIGHT: u32 = 8;
+/// A whole weight.
+const ONE: i32 = 1 << WEIGHT;
+/// Half of two whole weights' product.
+const HALF: i32 = ONE * ONE / 2;
+/// Places are held to so many pels either way before they become whole numbers.
+const FAR: f64 = 8192.0;
+/// So are the numbers of a linear part, so that sixteen steps stay within 32 bits.
+const STEEP: f64 = 64.0;
+
+/// Sums over a block of differences and of their squares, in lanes.
+#[derive(Default)]
+struct Sums {
+    plain: [i32; BLOCK_SIDE],
+    square: [f32; BLOCK_SIDE],
+}
+
+impl Sums {
+    /// Adds a row of the moved frame less one of the first.
+    fn add(&mut self, moved: &[i32; BLOCK_SIDE], own: &[u16]) {
+        for (i, &own) in own.iter().enumerate().take(BLOCK_SIDE) {
+            let difference = moved[i] - i32::from(own);
+            self.plain[i] += difference;
+            self.square[i] += difference as f32 * difference as f32;
+        }
+    }
+
+    fn variance(&self) -> f32 {
+        let mean = self.plain.iter().sum::<i32>() as f32 / PELS;
+        (self.square.iter().sum::<f32>() / PELS - mean * mean).max(0.0)
+    }
+}
+
+/// What its own motion, a word's, leaves of a block.
+pub(crate) fn by_word(pair: Pair<'_>, block: usize, word: u32) -> f32 {
+    let eighths = |stored: u32| (stored & 511) as isize - MOST_EIGHTHS as isize;
+    let weight = ONE as isize / 8;
+    by_translation(pair, block, eighths(word >> 2) * weight, eighths(word >> 11) * weight)
+}
+
+/// What one motion leaves of a block, in parts of a pel that are whole weights.
+fn by_translation(pair: Pair<'_>, block: usize, across: isize, down: isize) -> f32 {
+    let (x, y) = pair.first.corner(block);
+    let one = ONE as isize;
+    let (left, top) = (x as isize + across.div_euclid(one), y as isize + down.div_euclid(one));
+    let (fx, fy) = (across.rem_euclid(one) as i32, down.rem_euclid(one) as i32);
+    let mut sums = Sums::default();
+    for step in (0..BLOCK_SIDE).step_by(BLOCK_SIDE / ROWS) {
+        let upper = gathered(pair.second, left, top + step as isize);
+        let lower = gathered(pair.second, left, top + step as isize + 1);
+        let mut moved = [0; BLOCK_SIDE];
+        for (i, moved) in moved.iter_mut().enumerate() {
+            let column = |i: usize| i32::from(upper[i]) * (ONE - fy) + i32::from(lower[i]) * fy;
+            *moved = (column(i) * (ONE - fx) + column(i + 1) * fx + HALF) >> (2 * WEIGHT);
+        }
+        sums.add(&moved, &pair.first.row(y + step)[x..][..BLOCK_SIDE]);
+    }
+    sums.variance()
+}
+
+/// The pels of a row from a place on, edges repeated.
+fn gathered(plane: &Plane, left: isize, y: isize) -> [u16; BLOCK_SIDE + 1] {
+    let row = plane.row_near(y);
+    let mut pels = [0; BLOCK_SIDE + 1];
+    match usize::try_from(left).ok().and_then(|left| row.get(left..left + pels.len())) {
+        Some(inside) => pels.copy_from_slice(inside),
+        None => {
+            let last = row.len() as isize - 1;
+            pels.iter_mut().enumerate().for_each(|(i, pel)| *pel = row[(left + i as isize).clamp(0, last) as usize]);
+        }
+    }
+    pels
+}
+
+/// What a model leaves of each block that counts, 0 of the others.
+pub(crate) fn by_model(pair: Pair<'_>, model: &Model) -> Vec<f32> {
+    let one = |(block, &kept): (usize, &bool)| if kept { of_block(pair, model, block) } else { 0.0 };
+    pair.kept.iter().enumerate().map(one).collect()
+}
+
+fn of_block(pair: Pair<'_>, model: &Model, block: usize) -> f32 {
+    if model.linear() == 0.0 {
+        let parts = |pels: f64| (pels.clamp(-FAR, FAR) * f64::from(ONE)).round() as isize;
+        return by_translation(pair, block, parts(model.numbers[0]), parts(model.numbers[1]));
+    }
+    let (x, y) = pair.first.corner(block);
+    let mut sums = Sums::default();
+    for row in (y..y + BLOCK_SIDE).step_by(BLOCK_SIDE / ROWS) {
+        sums.add(&moved(pair.second, model, x, row), &pair.first.row(row)[x..][..BLOCK_SIDE]);
+    }
+    sums.variance()
+}
+
+/// What a plane shows where a model takes the pels of a block's row.
+pub(crate) fn moved(plane: &Plane, model: &Model, x: usize, y: usize) -> [i32; BLOCK_SIDE] {
+    let [m0, m1, m2, m3, m4, m5] = model.numbers;
+    let fixed = |place: f64| (place.clamp(-FAR, FAR) * f64::from(1 << FRACTION)) as i32;
+    let (step_x, step_y) = (fixed(m2.clamp(-STEEP, STEEP)), fixed(m4.clamp(-STEEP, STEEP)));
+    let (x, y) = (x as f64, y as f64);
+    let (place_x, place_y) = (fixed(m2 * x + m3 * y + m0), fixed(m4 * x + m5 * y + m1));
+    std::array::from_fn(|i| between(plane, (place_x + i as i32 * step_x, place_y + i as i32 * step_y)))
+}
+
+/// The value at a place, edges repeated.
+fn between(plane: &Plane, (x, y): (i32, i32)) -> i32 {
+    let fraction = |place: i32| (place >> (FRACTION - WEIGHT)) & (ONE - 1);
+    let (fx, fy) = (fraction(x), fraction(y));
+    let inside = |place: i32, side: usize| place.clamp(0, side as i32 - 1) as usize;
+    let (left, top) = (x >> FRACTION, y >> FRACTION);
+    let (x0, x1) = (inside(left, plane.width), inside(left + 1, plane.width));
+    let (y0, y1) = (inside(top, plane.height), inside(top + 1, plane.height));
+    let across = |y: usize| {
+        let row = plane.row(y);
+        i32::from(row[x0]) * (ONE - fx) + i32::from(row[x1]) * fx
+    };
+    (across(y0) * (ONE - fy) + across(y1) * fy + HALF) >> (2 * WEIGHT)
+}
+
+#[cfg(test)]
+mod tests {
+    use super::*;
+
+    /// A smooth surface seen from a place on.
+    fn plane(dx: f64, dy: f64) -> Plane {
+        let pel = |i: usize| {
+            let (x, y) = ((i % 64) as f64 + dx, (i / 64) as f64 + dy);
+            (4096.0 + 500.0 * (x / 5.0).sin() + 400.0 * (y / 6.0).cos()) as u16
+        };
+        Plane { width: 64, height: 48, pels: (0..64 * 48).map(pel).collect() }
+    }
+
+    #[test]
+    fn the_true_motion_leaves_least() {
+        let (first, second) = (plane(0.0, 0.0), plane(-2.25, 1.5));
+        let pair = Pair { first: &first, second: &second, kept: &[true; 12] };
+        let truth = by_model(pair, &Model::translation(2.25, -1.5));
+        let other = by_model(pair, &Model::translation(1.75, -1.5));
+        let word = (223 - 12) << 11 | (223 + 18) << 2;
+        for block in [5, 6] {
+            assert!(truth[block] < 16.0 && other[block] > 4.0 * truth[block], "{truth:?} {other:?}");
+            let own = by_word(pair, block, word);
+            assert!((own - truth[block]).abs() < 1.0, "{own} {}", truth[block]);
+        }
+    }
+
+    #[test]
+    fn models_far_outside_are_no_trouble() {
+        let plane = plane(0.0, 0.0);
+        let pair = Pair { first: &plane, second: &plane, kept: &[true; 12] };
+        for number in [1e300, -1e300, 1e4, -70.0] {
+            assert!(by_model(pair, &Model { gm_type: 3, numbers: [number; 6] }).iter().all(|left| left.is_finite()));
+        }
+        for word in [0, 446 << 11 | 446 << 2, 446 << 2] {
+            assert!((0..12).all(|block| by_word(pair, block, word).is_finite()));
+        }
+    }
+}

@@ -1,0 +1,177 @@
+//! Frames without their light: smoothed, their slow brightness taken away, the second brought to the first's contrast.
+
+use crate::Frame;
+use crate::plane::Plane;
+
+/// The value that stands for the brightness around.
+const MIDDLE: f64 = 4096.0;
+/// The brightest value of a frame is brought to this.
+const SCALE: f64 = 2040.0;
+/// No value is larger: what the brightest pel comes to at the most contrast. A pel over its frame's white is held to it.
+const MOST: f32 = 8191.0;
+/// The mean is of so many pels on each side of a pel.
+const REACH: usize = 15;
+/// The pels of that window.
+const WINDOW: u32 = ((2 * REACH + 1) * (2 * REACH + 1)) as u32;
+/// What the weights 1, 2, 1 across and down sum to.
+const WEIGHTS: u32 = 16;
+/// Contrast is changed by no more than this factor, either way.
+const MOST_CONTRAST: f64 = 2.0;
+
+/// Sums are made in so many lanes.
+const LANES: usize = 8;
+
+/// A frame less the brightness around each pel.
+struct Detail {
+    /// Whole numbers of a [`WINDOW`]th of a [`WEIGHTS`]th of the frame's own unit.
+    values: Vec<i32>,
+    /// What a unit of the values is, of [`SCALE`].
+    unit: f64,
+}
+
+impl Detail {
+    fn of(frame: &Frame<'_>) -> Self {
+        let values = less_around(&smoothed(frame), frame.width, frame.height);
+        Self { values, unit: SCALE / f64::from(frame.most.max(1)) / f64::from(WEIGHTS * WINDOW) }
+    }
+
+    /// The standard deviation.
+    fn deviation(&self) -> f64 {
+        let (mut plain, mut square) = ([0i64; LANES], [0f64; LANES]);
+        for values in self.values.chunks(LANES) {
+            for (lane, &value) in values.iter().enumerate() {
+                plain[lane] += i64::from(value);
+                square[lane] += f64::from(value) * f64::from(value);
+            }
+        }
+        let count = self.values.len().max(1) as f64;
+        let mean = plain.iter().sum::<i64>() as f64 / count;
+        (square.iter().sum::<f64>() / count - mean * mean).max(0.0).sqrt() * self.unit
+    }
+
+    fn plane(&self, frame: &Frame<'_>, contrast: f64) -> Plane {
+        let factor = (self.unit * contrast) as f32;
+        // the cast rounds down, and holds what is below 0
+        let pel = |&value: &i32| (value as f32 * factor + (MIDDLE + 0.5) as f32).min(MOST) as u16;
+        Plane { width: frame.width, height: frame.height, pels: self.values.iter().map(pel).collect() }
+    }
+}
+
+/// Both frames normalised: each has pels, and both have the same sides.
+pub(crate) fn normalised(first: &Frame<'_>, second: &Frame<'_>) -> (Plane, Plane) {
+    let (earlier, later) = (Detail::of(first), Detail::of(second));
+    let (wanted, own) = (earlier.deviation(), later.deviation());
+    let contrast = if own > 0.0 { (wanted / own).clamp(1.0 / MOST_CONTRAST, MOST_CONTRAST) } else { 1.0 };
+    (earlier.plane(first, 1.0), later.plane(second, contrast))
+}
+
+/// Weights 1, 2, 1 across and down, edges repeated.
+fn smoothed(frame: &Frame<'_>) -> Vec<u32> {
+    let (width, height) = (frame.width, frame.height);
+    let mut smooth = vec![0; width * height];
+    let row = |y: usize| &frame.pels[y * width..][..width];
+    let mut column = vec![0u32; width + 2];
+    for (y, out) in smooth.chunks_exact_mut(width).enumerate() {
+        let rows = row(y.saturating_sub(1)).iter().zip(row(y)).zip(row((y + 1).min(height - 1)));
+        for (sum, ((&above, &own), &below)) in column[1..=width].iter_mut().zip(rows) {
+            *sum = u32::from(above) + 2 * u32::from(own) + u32::from(below);
+        }
+        column[0] = column[1];
+        column[width + 1] = column[width];
+        for (out, near) in out.iter_mut().zip(column.windows(3)) {
+            *out = near[0] + 2 * near[1] + near[2];
+        }
+    }
+    smooth
+}
+
+/// Each value [`WINDOW`] times, less the sum over the window around it, edges repeated.
+fn less_around(values: &[u32], width: usize, height: usize) -> Vec<i32> {
+    let across = summed_across(values, width);
+    let row = |y: usize| &across[y.min(height - 1) * width..][..width];
+    // the window of the row before the first
+    let mut sums = vec![0u32; width];
+    for step in 0..=2 * REACH {
+        sums.iter_mut().zip(row(step.saturating_sub(REACH + 1))).for_each(|(sum, &value)| *sum += value);
+    }
+    let mut less = vec![0; values.len()];
+    for (y, (less, own)) in less.chunks_exact_mut(width).zip(values.chunks_exact(width)).enumerate() {
+        let changes = row(y + REACH).iter().zip(row(y.saturating_sub(REACH + 1)));
+        for (((less, &own), sum), (&enters, &leaves)) in less.iter_mut().zip(own).zip(&mut sums).zip(changes) {
+            *sum = *sum + enters - leaves;
+            // both at most 16 · 65,535 · 961 < 2^31
+            *less = (own * WINDOW) as i32 - *sum as i32;
+        }
+    }
+    less
+}
+
+/// For each value the sum over the window's width around it, edges repeated.
+fn summed_across(values: &[u32], width: usize) -> Vec<u32> {
+    let mut across = vec![0; values.len()];
+    let mut padded = vec![0u32; width + 2 * REACH + 1];
+    for (row, out) in values.chunks_exact(width).zip(across.chunks_exact_mut(width)) {
+        padded[..=REACH].fill(row[0]);
+        padded[REACH + 1..][..width].copy_from_slice(row);
+        padded[REACH + 1 + width..].fill(row[width - 1]);
+        let mut sum: u32 = padded[..=2 * REACH].iter().sum();
+        for ((out, &leaves), &enters) in out.iter_mut().zip(&padded).zip(&padded[2 * REACH + 1..]) {
+            sum = sum + enters - leaves;
+            *out = sum;
+        }
+    }
+    across
+}
+
+#[cfg(test)]
+mod tests {
+    use super::*;
+
+    /// A pel and its window, added up one by one.
+    fn plainly(frame: &Frame<'_>, x: isize, y: isize) -> f64 {
+        let pel = |x: isize, y: isize| {
+            let inside = |place: isize, side: usize| place.clamp(0, side as isize - 1) as usize;
+            f64::from(frame.pels[inside(y, frame.height) * frame.width + inside(x, frame.width)])
+        };
+        let smooth = |x: isize, y: isize| {
+            let (x, y) = (x.clamp(0, frame.width as isize - 1), y.clamp(0, frame.height as isize - 1));
+            let weight = |step: isize| if step == 0 { 2.0 } else { 1.0 };
+            let near = (-1..=1).flat_map(|dy| (-1..=1).map(move |dx| (dx, dy)));
+            near.map(|(dx, dy)| weight(dx) * weight(dy) * pel(x + dx, y + dy)).sum::<f64>() / 16.0
+        };
+        let around = (-15..=15).flat_map(|dy| (-15..=15).map(move |dx| smooth(x + dx, y + dy))).sum::<f64>() / 961.0;
+        smooth(x, y) - around
+    }
+
+    fn noise(count: usize, most: u16) -> Vec<u16> {
+        let mut state = 1u32;
+        let mut next = || {
+            state = state.wrapping_mul(1_664_525).wrapping_add(1_013_904_223);
+            (u32::from(most) * (state >> 16) / 65_535) as u16
+        };
+        (0..count).map(|_| next()).collect()
+    }
+
+    #[test]
+    fn it_is_the_smoothed_value_less_the_mean_around() {
+        for (width, height, most) in [(40, 37, 255), (1, 1, 255), (3, 50, 1023), (50, 2, 65_535)] {
+            let pels = noise(width * height, most);
+            let frame = Frame { pels: &pels, width, height, most };
+            let (plane, _) = normalised(&frame, &frame);
+            for (i, &pel) in plane.pels.iter().enumerate() {
+                let detail = plainly(&frame, (i % width) as isize, (i / width) as isize) * 2040.0 / f64::from(most);
+                assert!((f64::from(pel) - 4096.0 - detail).abs() < 0.52, "{width}×{height} at {i}: {pel}, {detail}");
+            }
+        }
+    }
+
+    #[test]
+    fn brightness_and_contrast_play_no_part() {
+        let pels: Vec<u16> = noise(64 * 64, 120).into_iter().map(|pel| pel + 10).collect();
+        let brighter: Vec<u16> = pels.iter().map(|pel| pel * 3 / 2 + 40).collect();
+        let frame = |pels| Frame { pels, width: 64, height: 64, most: 255 };
+        let (first, second) = normalised(&frame(&pels), &frame(&brighter));
+        let apart = first.pels.iter().zip(&second.pels).map(|(&a, &b)| a.abs_diff(b)).max().unwrap();
+        assert!(apart <= 8, "{apart}");
+    }
+}
