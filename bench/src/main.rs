@@ -125,6 +125,7 @@ fn head() -> String {
          An election is measured against `estimate_global_motion`, which gives no score, on a field that turns, one word in sixteen by two pels beside it. \
          A call by class names every class but film, which is one word in five: ours takes the words and their classes, \
          and the Rust makes its samples of the words that aren't film. \
+         Over samples that are ready made the Rust picks those that aren't film, and ours takes all and their classes. \
          Blocks are measured against a plain Rust writing of docs/RULES.md over lent buffers (`bench/src/frames.rs`).\n\n\
          A header has seven models of one type at high precision. A near prior is up to three steps of the grid from the models and gives short codes, \
          a far one is at the other end of the range and gives long codes; seven identities have no codes, and ours only judges their prior. \

@@ -1,4 +1,4 @@
-/* The proved library's calls (crates/belt, lent_fit, lent_trim and lent_elect), for C and C++ on x86-64 Linux.
+/* The proved library's calls (crates/belt, lent_fit, lent_trim, lent_elect and lent_sets), for C and C++ on x86-64 Linux.
    docs/RULES.md has the rules: what a plane, a sample word, a block, a model and a header are, bit by bit; names in
    quotes are its sections.
    belt_motion.h beside this file reads words and models in pels.
@@ -9,10 +9,10 @@
 
    The library allocates nothing, keeps nothing between calls and has no state of its own: any number of threads
    may call it at once, each with its own buffers. A call that trims or elects takes about 53 kB of the thread's stack
-   over words, 69 kB by a set of classes and 168 kB over samples, for what it keeps of them and for residuals; another
-   call by a set takes 18 kB, a job about 21 kB, 70 kB if it trims or elects. The library expects the floating-point
-   environment that a process begins with: rounding to nearest, traps off, subnormal numbers kept. It needs memcpy,
-   memset and no other function.
+   over words, 69 kB over words by a set of classes and 168 kB over samples, by a set or not, for what it keeps of them
+   and for residuals; another call by a set takes 18 kB over words and less than 1 kB over samples, a job about 21 kB,
+   70 kB if it trims or elects. The library expects the floating-point environment that a process begins with: rounding
+   to nearest, traps off, subnormal numbers kept. It needs memcpy, memset and no other function.
 
    A result's first field is the refusal: BELT_ACCEPTED, or the number of the row that refuses ('When a call
    says no'), and then all fields after it are 0. A refused call leaves its lent buffers as they were; belt_job
@@ -322,6 +322,29 @@ struct belt_trimmed_model belt_quantize_trimmed_by_class(
     const uint32_t *words, size_t word_count, const uint8_t *classes, size_t class_count);
 struct belt_elected belt_elect_by_class(
     uint8_t set, uint8_t flag, const uint32_t *words, size_t word_count, const uint8_t *classes, size_t class_count);
+
+/* The same six over samples instead of words: up to 4,096 of any four numbers, not-a-numbers and infinities too, and a
+   class for each. Codes and models pass as to the calls over samples without a set. Samples that are made from words have
+   the answers of those words.
+   Refuse: as the six over words. */
+struct belt_fit_answer belt_fit_samples_by_class(
+    uint8_t set, uint8_t type,
+    const struct belt_motion_sample *samples, size_t sample_count, const uint8_t *classes, size_t class_count);
+struct belt_quantized_model belt_quantize_samples_by_class(
+    uint8_t set, struct belt_to_quantize model,
+    const struct belt_motion_sample *samples, size_t sample_count, const uint8_t *classes, size_t class_count);
+struct belt_score belt_score_samples_by_class(
+    uint8_t set, struct belt_model model,
+    const struct belt_motion_sample *samples, size_t sample_count, const uint8_t *classes, size_t class_count);
+struct belt_trimmed belt_fit_trimmed_samples_by_class(
+    uint8_t set, uint8_t type,
+    const struct belt_motion_sample *samples, size_t sample_count, const uint8_t *classes, size_t class_count);
+struct belt_trimmed_model belt_quantize_trimmed_samples_by_class(
+    uint8_t set, struct belt_to_trim codes,
+    const struct belt_motion_sample *samples, size_t sample_count, const uint8_t *classes, size_t class_count);
+struct belt_elected belt_elect_samples_by_class(
+    uint8_t set, uint8_t flag,
+    const struct belt_motion_sample *samples, size_t sample_count, const uint8_t *classes, size_t class_count);
 
 /* One number on the grid ('Grid').
    In: type 0 to 3, flag, slot 0 to 5 and any number. Out: the codable number nearest to it.

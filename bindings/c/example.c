@@ -346,6 +346,31 @@ static void sets(void) {
                 elected.refusal == BELT_ACCEPTED && memcmp(elected.model.params, elections[i], sizeof elections[i]) == 0;
     }
     same(right, "fits, energies and elections by class");
+    struct belt_motion_sample eight_samples[8];
+    for (int i = 0; i < 8; i++)
+        eight_samples[i] = belt_motion_sample_of(eight[i]);
+    for (int i = 0; i < 4; i++) {
+        const struct belt_to_quantize to_quantize = {BELT_TRANSLATION, 1, {wanted[i][0], wanted[i][1]}};
+        const struct belt_to_trim codes = {BELT_TRANSLATION, 1};
+        struct belt_fit_answer fitted = belt_fit_samples_by_class(named[i], BELT_TRANSLATION, eight_samples, 8, lying, 8);
+        struct belt_quantized_model model = belt_quantize_samples_by_class(named[i], to_quantize, eight_samples, 8, lying, 8);
+        struct belt_score energy = belt_score_samples_by_class(named[i], still, eight_samples, 8, lying, 8);
+        struct belt_trimmed trimmed =
+            belt_fit_trimmed_samples_by_class(named[i], BELT_TRANSLATION, eight_samples, 8, lying, 8);
+        struct belt_trimmed_model trimmed_model =
+            belt_quantize_trimmed_samples_by_class(named[i], codes, eight_samples, 8, lying, 8);
+        struct belt_elected elected = belt_elect_samples_by_class(named[i], 1, eight_samples, 8, lying, 8);
+        right = right && fitted.refusal == BELT_ACCEPTED && memcmp(fitted.numbers, wanted[i], sizeof wanted[i]) == 0 &&
+                model.refusal == BELT_ACCEPTED && energy.refusal == BELT_ACCEPTED &&
+                memcmp(&energy.score, &energies[i], sizeof energies[i]) == 0 && trimmed.refusal == BELT_ACCEPTED &&
+                memcmp(trimmed.numbers, fitted.numbers, sizeof fitted.numbers) == 0 &&
+                trimmed_model.refusal == BELT_ACCEPTED && trimmed_model.used == trimmed.used &&
+                memcmp(&trimmed_model.model, &model.model, sizeof model.model) == 0 &&
+                elected.refusal == BELT_ACCEPTED && memcmp(elected.model.params, elections[i], sizeof elections[i]) == 0;
+    }
+    same(right, "fits, models, energies, trims and elections over samples by class");
+    wants("a set that is left 0, over samples",
+          belt_fit_samples_by_class(0, BELT_TRANSLATION, eight_samples, 8, lying, 8).refusal, BELT_NO_CLASS);
     struct belt_fit_answer none = belt_fit_by_class(1 << BELT_METAL, BELT_TRANSLATION, eight, 8, lying, 8);
     same(none.refusal == BELT_ACCEPTED && isnan(none.numbers[0]) && isnan(none.numbers[1]), "a fit of no metal");
     wants("a set that is left 0", belt_fit_by_class(0, BELT_TRANSLATION, eight, 8, lying, 8).refusal, BELT_NO_CLASS);

@@ -65,6 +65,15 @@ static void fit_trimmed_samples(void) {
     refusal = belt_fit_trimmed_samples(samples, SAMPLES, BELT_AFFINE).refusal;
 }
 static void elect_samples(void) { refusal = belt_elect_samples(samples, SAMPLES, BELT_HIGH_PRECISION).refusal; }
+static void fit_samples_by_class(void) {
+    refusal = belt_fit_samples_by_class(BELT_ALL_CLASSES, BELT_AFFINE, samples, SAMPLES, classes, SAMPLES).refusal;
+}
+static void fit_trimmed_samples_by_class(void) {
+    refusal = belt_fit_trimmed_samples_by_class(BELT_ALL_CLASSES, BELT_AFFINE, samples, SAMPLES, classes, SAMPLES).refusal;
+}
+static void elect_samples_by_class(void) {
+    refusal = belt_elect_samples_by_class(BELT_ALL_CLASSES, BELT_HIGH_PRECISION, samples, SAMPLES, classes, SAMPLES).refusal;
+}
 
 static const struct {
     const char *name;
@@ -82,6 +91,9 @@ static const struct {
     {"belt_elect_by_class", elect_by_class, 70},
     {"belt_fit_trimmed_samples", fit_trimmed_samples, 170},
     {"belt_elect_samples", elect_samples, 170},
+    {"belt_fit_samples_by_class", fit_samples_by_class, 1},
+    {"belt_fit_trimmed_samples_by_class", fit_trimmed_samples_by_class, 170},
+    {"belt_elect_samples_by_class", elect_samples_by_class, 170},
 };
 
 /* The bytes from the stack's upper end down to the last one that was written. */

@@ -114,6 +114,12 @@ impl Samples {
         Self(global_motion::samples(named.map(|(&word, _)| sample_of(word))))
     }
 
+    /// Those whose class is a bit of the set; classes are 0 to 4.
+    pub fn of_classes(&self, set: u8, classes: &[u8]) -> Self {
+        let named = self.0.iter().zip(classes).filter(|&(_, &class)| set >> class & 1 == 1);
+        Self(named.map(|(&sample, _)| sample).collect())
+    }
+
     pub fn fit(&self, kind: u8) -> Option<[f64; 6]> {
         assert_ne!(kind, 0, "IDENTITY has no fit");
         global_motion::fit(type_of(kind), &self.0).map(|m| m.map(canonical))

@@ -568,6 +568,54 @@ def mean_sq_residual_samples(model, samples):
     return _call("belt_mean_sq_residual_samples", _samples(samples), params).score
 
 
+def _lent(samples, classes):
+    """Samples and a class for each."""
+    return _samples(samples) + _list(classes, c_uint8, "classes")
+
+
+def fit_samples_by_class(classes_named, gm_type, samples, classes):
+    """As fit_by_class, over samples: four numbers x, y, u, v each, of any value. Refuses 1, 2, 4, 19, 6."""
+    codes = set_of(classes_named), _code(gm_type, "gm_type")
+    answer = _call("belt_fit_samples_by_class", *codes, _lent(samples, classes))
+    return Fitted(gm_type, tuple(answer.numbers))
+
+
+def quantize_samples_by_class(classes_named, fitted, flag, samples, classes):
+    """As quantize_by_class, over samples: four numbers x, y, u, v each, of any value. Refuses 1, 2, 4, 19."""
+    numbers = (c_double * 6)(*fitted.numbers)
+    model = _raw.ToQuantize(_code(fitted.gm_type, "gm_type"), _code(flag, "flag"), numbers)
+    return Model(_call("belt_quantize_samples_by_class", set_of(classes_named), model, _lent(samples, classes)).params)
+
+
+def score_samples_by_class(classes_named, model, samples, classes):
+    """As score_by_class, over samples: four numbers x, y, u, v each, of any value. Refuses 1, 2, 4, 19."""
+    if not isinstance(model, Model):
+        raise TypeError(f"model: Model is wanted, not {type(model).__name__}")
+    params = _raw.Params((c_int32 * 6)(*map(_signed, model)))
+    return _call("belt_score_samples_by_class", set_of(classes_named), params, _lent(samples, classes)).score
+
+
+def fit_trimmed_samples_by_class(classes_named, gm_type, samples, classes):
+    """As fit_trimmed_by_class, over samples: four numbers x, y, u, v each, of any value. Refuses 1, 2, 4, 19, 15, 6, 16, and
+    6 of the second fit."""
+    codes = set_of(classes_named), _code(gm_type, "gm_type")
+    answer = _call("belt_fit_trimmed_samples_by_class", *codes, _lent(samples, classes))
+    return Trimmed(Fitted(gm_type, tuple(answer.numbers)), answer.used)
+
+
+def quantize_trimmed_samples_by_class(classes_named, gm_type, flag, samples, classes):
+    """The same on the grid of a flag, its translation fitted again to the samples used: a TrimmedModel."""
+    codes = _raw.ToTrim(_code(gm_type, "gm_type"), _code(flag, "flag"))
+    answer = _call("belt_quantize_trimmed_samples_by_class", set_of(classes_named), codes, _lent(samples, classes))
+    return TrimmedModel(Model(answer.params), answer.used)
+
+
+def elect_samples_by_class(classes_named, flag, samples, classes):
+    """As elect_by_class, over samples: four numbers x, y, u, v each, of any value. Refuses 1, 2, 4, 19, 16."""
+    codes = set_of(classes_named), _code(flag, "flag")
+    return _elected(_call("belt_elect_samples_by_class", *codes, _lent(samples, classes)))
+
+
 def quantize_global_param(gm_type, flag, slot, value):
     """The codable number nearest to a value ('Grid'). Refuses 4, 5."""
     codes = _code(gm_type, "gm_type"), _code(flag, "flag"), _code(slot, "slot")

@@ -300,6 +300,31 @@ class Sets(unittest.TestCase):
                     self.assertEqual((elected.gm_type, elected.model[:2]), (int(any(stored)), stored))
                     self.assertEqual(elected.score, 0.0 if any(stored) else energy)
 
+    def test_samples(self):
+        """Samples that are made from words have the words' answers, whatever stands in those that aren't named."""
+        made = [belt.sample_of(word)[2:6] for word in self.WORDS]
+        strange = (math.nan, math.inf, -0.0, 1e300)
+        for named in ([belt.FIBRE], [belt.FILM], [belt.FIBRE, belt.FILM], [belt.METAL], belt.ALL_CLASSES):
+            bits = belt.set_of(named)
+            others = [x if bits >> kind & 1 else strange for x, kind in zip(made, self.CLASSES)]
+            lists, still = (self.WORDS, self.CLASSES), Model(belt.STILL)
+            for samples in (made, others):
+                lent = samples, self.CLASSES
+                with self.subTest(named=named):
+                    fitted = belt.fit_samples_by_class(named, 1, *lent)
+                    self.assertEqual(str(fitted), str(belt.fit_by_class(named, 1, *lists)))
+                    model = belt.quantize_samples_by_class(named, fitted, 1, *lent)
+                    self.assertEqual(model, belt.quantize_by_class(named, fitted, 1, *lists))
+                    score = belt.score_samples_by_class(named, still, *lent)
+                    self.assertEqual(score, belt.score_by_class(named, still, *lists))
+                    elected = belt.elect_samples_by_class(named, 1, *lent)
+                    self.assertEqual(elected, belt.elect_by_class(named, 1, *lists))
+                    if named != [belt.METAL]:
+                        trimmed = belt.fit_trimmed_samples_by_class(named, 1, *lent)
+                        self.assertEqual(trimmed, belt.fit_trimmed_by_class(named, 1, *lists))
+                        trimmed = belt.quantize_trimmed_samples_by_class(named, 1, 0, *lent)
+                        self.assertEqual(trimmed, belt.quantize_trimmed_by_class(named, 1, 0, *lists))
+
     def test_a_class_without_samples(self):
         named = [belt.METAL]
         fitted = belt.fit_by_class(named, 1, self.WORDS, self.CLASSES)
@@ -558,6 +583,39 @@ class Refusals(Refused):
                     self.refused(15, call, [belt.FIBRE], words(9), film)
                 else:
                     call([belt.FIBRE], words(9), film)
+        lent = {
+            "fit": lambda named, *lists: belt.fit_samples_by_class(named, 1, *lists),
+            "quantize": lambda named, *lists: belt.quantize_samples_by_class(named, unmoved(1), 1, *lists),
+            "score": lambda named, *lists: belt.score_samples_by_class(named, Model(belt.STILL), *lists),
+            "fit_trimmed": lambda named, *lists: belt.fit_trimmed_samples_by_class(named, 1, *lists),
+            "quantize_trimmed": lambda named, *lists: belt.quantize_trimmed_samples_by_class(named, 1, 1, *lists),
+            "elect": lambda named, *lists: belt.elect_samples_by_class(named, 1, *lists),
+        }
+        samples = [(1.0, 2.0, 3.0, 4.0)] * 4097
+        for name, call in lent.items():
+            with self.subTest(call=name, over="samples"):
+                self.refused(1, call, (), samples, film)
+                self.refused(2, call, (), samples[:9], film[1:])
+                self.refused(4, call, (), samples[:9], film[1:] + b"\x05")
+                self.refused(4, call, [belt.FILM, 5], samples[:9], film)
+                self.refused(19, call, (), samples[:9], film)
+                call([belt.FILM], samples[:9], film)
+                if "trimmed" in name:
+                    self.refused(15, call, [belt.FIBRE], samples[:9], film)
+                else:
+                    call([belt.FIBRE], samples[:9], film)
+        for named in ((), belt.ALL_CLASSES):
+            self.refused(4, belt.fit_samples_by_class, named, 0, samples[:9], film)
+            self.refused(4, belt.quantize_samples_by_class, named, unmoved(3), 2, samples[:9], film)
+            self.refused(4, belt.fit_trimmed_samples_by_class, named, 4, samples[:9], film)
+            self.refused(4, belt.quantize_trimmed_samples_by_class, named, 3, 2, samples[:9], film)
+            self.refused(4, belt.elect_samples_by_class, named, 2, samples[:9], film)
+        far = [(0.0, 0.0, 1e200, 0.0)] + samples[:4]
+        classes = bytes([belt.FILM] + [belt.FIBRE] * 4)
+        self.refused(16, belt.fit_trimmed_samples_by_class, belt.ALL_CLASSES, 1, far, classes)
+        self.assertEqual(belt.fit_trimmed_samples_by_class([belt.FIBRE], 1, far, classes).used, 4)
+        self.refused(16, belt.elect_samples_by_class, belt.ALL_CLASSES, 1, far, classes)
+        self.assertEqual(belt.elect_samples_by_class([belt.FIBRE], 1, far, classes).gm_type, 1)
         for named in ((), belt.ALL_CLASSES):
             self.refused(4, belt.fit_by_class, named, 0, words(9), film)
             self.refused(4, belt.quantize_by_class, named, unmoved(3), 2, words(9), film)

@@ -522,9 +522,9 @@ pub fn mean_sq_residual(model: &Model, words: &[u32]) -> Result<f64, Refusal> {
 }
 
 /// An answer of a call by class, where row 2 says which list is wrong.
-fn of_classes<T>(answer: Result<T, Refusal>, words: &[u32], classes: &[u8]) -> Result<T, Refusal> {
+fn of_classes<T, S>(answer: Result<T, Refusal>, samples: &[S], classes: &[u8]) -> Result<T, Refusal> {
     answer.map_err(|row| match row {
-        Refusal::WrongLength(_) => Refusal::WrongLength(Length::of("classes", classes, words.len())),
+        Refusal::WrongLength(_) => Refusal::WrongLength(Length::of("classes", classes, samples.len())),
         row => row,
     })
 }
@@ -716,6 +716,108 @@ pub fn quantize_trimmed_samples(gm_type: u8, flag: u8, samples: &[MotionSample])
 /// ```
 pub fn elect_samples(flag: u8, samples: &[MotionSample]) -> Result<Elected, Refusal> {
     elected(raw::elect_samples(samples, flag))
+}
+
+/// As [`fit_by_class`], over samples of any four numbers.
+///
+/// # Errors
+///
+/// As [`fit_by_class`].
+///
+/// ```
+/// use belt::{ClassSet, FIBRE, FILM};
+///
+/// let moving = |u| belt::MotionSample { x: 0.5, y: 0.25, u, v: 0.0 };
+/// let samples = [10.0, f64::NAN, 10.0].map(moving);
+/// let fit = |set| belt::fit_samples_by_class(set, 1, &samples, &[FIBRE, FILM, FIBRE]).map(|fitted| fitted.numbers[0]);
+/// assert_eq!(fit(ClassSet::of(&[FIBRE])), Ok(10.0));
+/// assert!(fit(ClassSet::ALL).unwrap().is_nan());
+/// assert_eq!(fit(ClassSet::of(&[])), Err(belt::Refusal::NoClass));
+/// ```
+pub fn fit_samples_by_class(
+    set: ClassSet,
+    gm_type: u8,
+    samples: &[MotionSample],
+    classes: &[u8],
+) -> Result<Fitted, Refusal> {
+    of_classes(fitted(gm_type, raw::fit_samples_by_class(set.bits(), gm_type, samples, classes)), samples, classes)
+}
+
+/// As [`quantize_by_class`], over samples of any four numbers.
+///
+/// # Errors
+///
+/// As [`quantize_by_class`].
+pub fn quantize_samples_by_class(
+    set: ClassSet,
+    fitted: &Fitted,
+    flag: u8,
+    samples: &[MotionSample],
+    classes: &[u8],
+) -> Result<Model, Refusal> {
+    let model = raw::ToQuantize { gm_type: fitted.gm_type, flag, numbers: fitted.numbers };
+    let answer = raw::quantize_samples_by_class(set.bits(), model, samples, classes);
+    of_classes(judged(answer.refusal, answer.params), samples, classes)
+}
+
+/// As [`score_by_class`], over samples of any four numbers.
+///
+/// # Errors
+///
+/// As [`score_by_class`].
+pub fn score_samples_by_class(
+    set: ClassSet,
+    model: &Model,
+    samples: &[MotionSample],
+    classes: &[u8],
+) -> Result<f64, Refusal> {
+    let answer = raw::score_samples_by_class(set.bits(), raw::Params { numbers: model.0 }, samples, classes);
+    of_classes(judged(answer.refusal, answer.score), samples, classes)
+}
+
+/// As [`fit_trimmed_by_class`], over samples of any four numbers.
+///
+/// # Errors
+///
+/// As [`fit_trimmed_by_class`]; [`Refusal::NotFinite`] as for [`fit_trimmed_samples`], by the samples named.
+pub fn fit_trimmed_samples_by_class(
+    set: ClassSet,
+    gm_type: u8,
+    samples: &[MotionSample],
+    classes: &[u8],
+) -> Result<Trimmed, Refusal> {
+    let answer = raw::fit_trimmed_samples_by_class(set.bits(), gm_type, samples, classes);
+    of_classes(trimmed(gm_type, answer), samples, classes)
+}
+
+/// The same on the grid of a flag.
+///
+/// # Errors
+///
+/// As [`fit_trimmed_samples_by_class`]; the flag is judged with the type.
+pub fn quantize_trimmed_samples_by_class(
+    set: ClassSet,
+    gm_type: u8,
+    flag: u8,
+    samples: &[MotionSample],
+    classes: &[u8],
+) -> Result<TrimmedModel, Refusal> {
+    let answer = raw::quantize_trimmed_samples_by_class(set.bits(), raw::ToTrim { gm_type, flag }, samples, classes);
+    of_classes(trimmed_model(answer), samples, classes)
+}
+
+/// As [`elect_by_class`], over samples of any four numbers.
+///
+/// # Errors
+///
+/// As [`elect_by_class`]; [`Refusal::NotFinite`] where a type's trimmed fit has it.
+pub fn elect_samples_by_class(
+    set: ClassSet,
+    flag: u8,
+    samples: &[MotionSample],
+    classes: &[u8],
+) -> Result<Elected, Refusal> {
+    of_classes(elected(raw::elect_samples_by_class(set.bits(), flag, samples, classes)), samples, classes)
 }
 
 /// The codable number nearest to a value ('Grid'), for type 0 to 3 and slot 0 to 5.

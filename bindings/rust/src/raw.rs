@@ -262,6 +262,54 @@ unsafe extern "C" {
     fn belt_fit_trimmed_samples(samples: *const MotionSample, count: usize, gm_type: u8) -> Trimmed;
     fn belt_quantize_trimmed_samples(samples: *const MotionSample, count: usize, codes: ToTrim) -> TrimmedModel;
     fn belt_elect_samples(samples: *const MotionSample, count: usize, flag: u8) -> Elected;
+    fn belt_fit_samples_by_class(
+        set: u8,
+        gm_type: u8,
+        samples: *const MotionSample,
+        count: usize,
+        classes: *const u8,
+        class_count: usize,
+    ) -> FitAnswer;
+    fn belt_quantize_samples_by_class(
+        set: u8,
+        model: ToQuantize,
+        samples: *const MotionSample,
+        count: usize,
+        classes: *const u8,
+        class_count: usize,
+    ) -> QuantizedModel;
+    fn belt_score_samples_by_class(
+        set: u8,
+        model: Params,
+        samples: *const MotionSample,
+        count: usize,
+        classes: *const u8,
+        class_count: usize,
+    ) -> Score;
+    fn belt_fit_trimmed_samples_by_class(
+        set: u8,
+        gm_type: u8,
+        samples: *const MotionSample,
+        count: usize,
+        classes: *const u8,
+        class_count: usize,
+    ) -> Trimmed;
+    fn belt_quantize_trimmed_samples_by_class(
+        set: u8,
+        codes: ToTrim,
+        samples: *const MotionSample,
+        count: usize,
+        classes: *const u8,
+        class_count: usize,
+    ) -> TrimmedModel;
+    fn belt_elect_samples_by_class(
+        set: u8,
+        flag: u8,
+        samples: *const MotionSample,
+        count: usize,
+        classes: *const u8,
+        class_count: usize,
+    ) -> Elected;
     fn belt_quantize_global_param(gm_type: u8, flag: u8, slot: u8, value: i32) -> QuantizedParam;
     fn belt_write_frame(
         frame: u16,
@@ -537,6 +585,54 @@ pub fn elect_samples(samples: &[MotionSample], flag: u8) -> Elected {
 pub fn mean_sq_residual_samples(samples: &[MotionSample], model: Params) -> Score {
     // SAFETY: numbers, and one slice is read.
     unsafe { belt_mean_sq_residual_samples(samples.as_ptr(), samples.len(), model) }
+}
+
+pub fn fit_samples_by_class(set: u8, gm_type: u8, samples: &[MotionSample], classes: &[u8]) -> FitAnswer {
+    let (count, class_count) = (samples.len(), classes.len());
+    // SAFETY: two slices are read, and neither where their lengths differ.
+    unsafe { belt_fit_samples_by_class(set, gm_type, samples.as_ptr(), count, classes.as_ptr(), class_count) }
+}
+
+pub fn quantize_samples_by_class(
+    set: u8,
+    model: ToQuantize,
+    samples: &[MotionSample],
+    classes: &[u8],
+) -> QuantizedModel {
+    let (count, class_count) = (samples.len(), classes.len());
+    // SAFETY: two slices are read, and neither where their lengths differ.
+    unsafe { belt_quantize_samples_by_class(set, model, samples.as_ptr(), count, classes.as_ptr(), class_count) }
+}
+
+pub fn score_samples_by_class(set: u8, model: Params, samples: &[MotionSample], classes: &[u8]) -> Score {
+    let (count, class_count) = (samples.len(), classes.len());
+    // SAFETY: two slices are read, and neither where their lengths differ.
+    unsafe { belt_score_samples_by_class(set, model, samples.as_ptr(), count, classes.as_ptr(), class_count) }
+}
+
+pub fn fit_trimmed_samples_by_class(set: u8, gm_type: u8, samples: &[MotionSample], classes: &[u8]) -> Trimmed {
+    let (count, class_count) = (samples.len(), classes.len());
+    // SAFETY: two slices are read, and neither where their lengths differ.
+    unsafe { belt_fit_trimmed_samples_by_class(set, gm_type, samples.as_ptr(), count, classes.as_ptr(), class_count) }
+}
+
+pub fn quantize_trimmed_samples_by_class(
+    set: u8,
+    codes: ToTrim,
+    samples: &[MotionSample],
+    classes: &[u8],
+) -> TrimmedModel {
+    let (count, class_count) = (samples.len(), classes.len());
+    // SAFETY: two slices are read, and neither where their lengths differ.
+    unsafe {
+        belt_quantize_trimmed_samples_by_class(set, codes, samples.as_ptr(), count, classes.as_ptr(), class_count)
+    }
+}
+
+pub fn elect_samples_by_class(set: u8, flag: u8, samples: &[MotionSample], classes: &[u8]) -> Elected {
+    let (count, class_count) = (samples.len(), classes.len());
+    // SAFETY: two slices are read, and neither where their lengths differ.
+    unsafe { belt_elect_samples_by_class(set, flag, samples.as_ptr(), count, classes.as_ptr(), class_count) }
 }
 
 pub fn quantize_global_param(gm_type: u8, flag: u8, slot: u8, value: i32) -> QuantizedParam {

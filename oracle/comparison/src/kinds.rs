@@ -30,7 +30,7 @@ pub struct Kind {
     pub compare: fn(&mut Case) -> Result<(), String>,
 }
 
-pub const KINDS: [Kind; 38] = [
+pub const KINDS: [Kind; 39] = [
     Kind { name: "search", share: 4, compare: search },
     Kind { name: "fit translation", share: 4, compare: |case| fit(case, 1) },
     Kind { name: "fit rotation-zoom", share: 4, compare: |case| fit(case, 2) },
@@ -54,6 +54,7 @@ pub const KINDS: [Kind; 38] = [
     Kind { name: "samples, trimmed fit", share: 8, compare: trimmed_fit_samples },
     Kind { name: "samples, trimmed model", share: 8, compare: trimmed_model_samples },
     Kind { name: "samples, election", share: 8, compare: election_samples },
+    Kind { name: "samples, the six calls by class", share: 10, compare: samples_by_class },
     Kind { name: "quantize_global_param", share: 8, compare: grid },
     Kind { name: "header written", share: 8, compare: header_written },
     Kind { name: "header read", share: 6, compare: header_read },
@@ -304,21 +305,26 @@ fn classed(case: &mut Case, mut words: Vec<u32>) -> Classed {
         }
         *word |= random.below(4) as u32;
     }
+    spoil(random, &mut words, &mut classes, inputs::STILL);
+    case.note("set", set);
+    case.note("classes", &classes);
+    case.note("words", &words);
+    Classed { set, words, classes }
+}
+
+/// At times the list becomes too long, a class one that there isn't, or the classes too many or too few.
+fn spoil<T: Clone>(random: &mut Random, list: &mut Vec<T>, classes: &mut Vec<u8>, more: T) {
     if random.one_in(60) {
-        words.resize(inputs::MOST_SAMPLES + 1, inputs::STILL);
-        classes.resize(words.len(), 0);
+        list.resize(inputs::MOST_SAMPLES + 1, more);
+        classes.resize(list.len(), 0);
     }
     if random.one_in(30) && !classes.is_empty() {
         let place = random.below(classes.len());
         classes[place] = inputs::LAST_CLASS + 1 + random.below(251) as u8;
     }
     if random.one_in(30) {
-        classes.resize(random.below(words.len() + 3), 0);
+        classes.resize(random.below(list.len() + 3), 0);
     }
-    case.note("set", set);
-    case.note("classes", &classes);
-    case.note("words", &words);
-    Classed { set, words, classes }
 }
 
 /// Whether a set names one of the five classes.
@@ -332,6 +338,21 @@ fn named_samples(set: u8, words: &[u32], classes: &[u8]) -> Vec<[f64; 4]> {
     pairs.map(|(&word, _)| oracle::sample_of(word)).collect()
 }
 
+/// The row of the rules that a set, so many samples and their classes have, where the call's own codes are right or not.
+fn row_by_class(set: u8, samples: usize, classes: &[u8], codes_are_right: bool) -> Result<(), u32> {
+    if samples > inputs::MOST_SAMPLES {
+        return Err(TOO_LARGE);
+    }
+    if samples != classes.len() {
+        return Err(WRONG_LENGTH);
+    }
+    let no_such_class = classes.iter().any(|&class| class > inputs::LAST_CLASS);
+    if !codes_are_right || no_such_class || set > inputs::ALL_CLASSES {
+        return Err(NO_SUCH_CODE);
+    }
+    if set == 0 { Err(NO_CLASS) } else { Ok(()) }
+}
+
 impl Classed {
     fn set(&self) -> ClassSet {
         ClassSet::from_bits(self.set)
@@ -339,19 +360,7 @@ impl Classed {
 
     /// The samples that the Rust is handed, or the row of the rules before it, where the call's own codes are these.
     fn samples(&self, codes_are_right: bool) -> Result<Vec<[f64; 4]>, u32> {
-        if self.words.len() > inputs::MOST_SAMPLES {
-            return Err(TOO_LARGE);
-        }
-        if self.words.len() != self.classes.len() {
-            return Err(WRONG_LENGTH);
-        }
-        let no_such_class = self.classes.iter().any(|&class| class > inputs::LAST_CLASS);
-        if !codes_are_right || no_such_class || self.set > inputs::ALL_CLASSES {
-            return Err(NO_SUCH_CODE);
-        }
-        if self.set == 0 {
-            return Err(NO_CLASS);
-        }
+        row_by_class(self.set, self.words.len(), &self.classes, codes_are_right)?;
         Ok(named_samples(self.set, &self.words, &self.classes))
     }
 }
@@ -524,6 +533,49 @@ fn trimmed_model_samples(case: &mut Case) -> Result<(), String> {
     case.note("samples", &samples);
     let ours = row(belt::quantize_trimmed_samples(kind, flag, &lent(&samples)));
     same_trimmed_model(case, ours, oracle::trimmed_or_row(kind, flag == 1, &samples))
+}
+
+/// All six calls by a set over one list of samples; some that the set doesn't name become any others.
+fn samples_by_class(case: &mut Case) -> Result<(), String> {
+    let mut samples = inputs::samples_to_elect(&mut case.random);
+    let random = &mut case.random;
+    let bits_named = inputs::any_class_set(random);
+    let mut classes = inputs::classes(random, samples.len());
+    for (sample, &class) in samples.iter_mut().zip(&classes) {
+        if !named(bits_named, class) && random.one_in(2) {
+            *sample = std::array::from_fn(|_| float(random));
+        }
+    }
+    spoil(random, &mut samples, &mut classes, [0.5; 4]);
+    case.note("set", bits_named);
+    case.note("classes", &classes);
+    case.note("samples", &samples);
+    let (kind, flag, right) = codes(case);
+    let params = to_score(case);
+    let pairs = samples.iter().zip(&classes).filter(|&(_, &class)| named(bits_named, class));
+    let own: Vec<[f64; 4]> = pairs.map(|(&sample, _)| sample).collect();
+    let numbers =
+        oracle::fit(kind.clamp(1, 3), &own).unwrap_or_else(|| std::array::from_fn(|_| float(&mut case.random)));
+    case.note("numbers", numbers);
+
+    let (set, list) = (ClassSet::from_bits(bits_named), lent(&samples));
+    let theirs = |right| row_by_class(bits_named, samples.len(), &classes, right);
+    let a_type = (1..=3).contains(&kind);
+    let ours = row(belt::fit_samples_by_class(set, kind, &list, &classes));
+    let rust = theirs(a_type).and_then(|()| oracle::fit(kind, &own).ok_or(SINGULAR));
+    let ours = ours.map(|fitted| (fitted.gm_type, fitted.numbers.map(bits)));
+    same("bits of the numbers", ours, rust.map(|numbers| (kind, carried(kind, numbers))))?;
+    let ours = row(belt::quantize_samples_by_class(set, &Fitted { gm_type: kind, numbers }, flag, &list, &classes));
+    same("model", ours, theirs(right).map(|()| rust_quantized(kind, flag, numbers, &own)))?;
+    let ours = row(belt::score_samples_by_class(set, &Model(params), &list, &classes)).map(bits);
+    same("bits of the score", ours, theirs(true).map(|()| bits(oracle::score(&params, &own))))?;
+    let ours = row(belt::fit_trimmed_samples_by_class(set, kind, &list, &classes));
+    same_trimmed(case, ours, kind, theirs(a_type).and_then(|()| oracle::trimmed_or_row(kind, false, &own)))?;
+    let ours = row(belt::quantize_trimmed_samples_by_class(set, kind, flag, &list, &classes));
+    same_trimmed_model(case, ours, theirs(right).and_then(|()| oracle::trimmed_or_row(kind, flag == 1, &own)))?;
+    let ours = row(belt::elect_samples_by_class(set, flag, &list, &classes));
+    case.accepted = ours.is_ok();
+    same("type, model, bits of the score", ours.map(elected), theirs(flag < 2).and_then(|()| rust_elected(flag, &own)))
 }
 
 fn score(case: &mut Case) -> Result<(), String> {
