@@ -1,6 +1,7 @@
 //! Measures the proved library against the Rust that it ports, and writes the ratios.
 //!
 //!     bench FILE                  every case: a table on standard output, and a page in FILE
+//!     bench run                   the cases in a run alone: their lines on standard output
 //!     bench list                  the cases and their numbers
 //!     bench repeat CASE SIDE N    one side ('ours', 'rust' or 'ready') of a case N times, for a profiler
 
@@ -10,6 +11,7 @@ mod header;
 mod inputs;
 mod job;
 mod placing;
+mod run;
 mod timing;
 
 use std::time::Instant;
@@ -22,9 +24,10 @@ fn main() {
     let words: Vec<&str> = words.iter().map(String::as_str).collect();
     match words[..] {
         ["list"] => list(),
+        ["run"] => print!("{}", in_a_run()),
         ["repeat", case, side, times] => repeat(case, side, times),
         [file] => measure(file),
-        _ => panic!("usage: bench FILE | bench list | bench repeat CASE SIDE N"),
+        _ => panic!("usage: bench FILE | bench run | bench list | bench repeat CASE SIDE N"),
     }
 }
 
@@ -72,10 +75,18 @@ fn measure(file: &str) {
             absolute += &format!("| {case} | {:.2} | {:.2} |\n", 1000.0 * best[0], 1000.0 * best[1]);
         }
     }
+    let in_a_run = in_a_run();
+    print!("{in_a_run}");
     let times = "## Times of a job\n\nIn milliseconds, on the machine above, one thread.\n\n\
                  | call | input | ours | Rust |\n|---|---|---|---|\n";
-    let page = format!("{}\n{table}\n{times}{absolute}", head());
+    let page = format!("{}\n{table}\n{in_a_run}\n{times}{absolute}", head());
     fs::write(file, page).expect("the page's folder is there");
+}
+
+/// What a run costs, as a part of the page.
+fn in_a_run() -> String {
+    let line = |case: run::Case| case.line(&timing::best(&mut case.sides()));
+    run::all().into_iter().map(line).fold(run::head().into(), |page: String, line| page + &line)
 }
 
 /// The calls that aren't measured give the Rust's answers too, and both writers of a field the same bytes.

@@ -8,6 +8,7 @@ pub mod list;
 mod ported;
 pub mod practice;
 pub mod rows;
+pub mod run;
 pub mod shear_files;
 mod stand_ins;
 
@@ -212,6 +213,20 @@ pub fn elect_or_row(high: bool, samples: &[[f64; 4]]) -> Result<Elected, u32> {
         return Err(NOT_FINITE);
     }
     Ok(Samples::new(samples).elect(high))
+}
+
+/// The fit of a job that doesn't elect, on the grid and as stored, after trimming or of all samples.
+pub fn own_model(kind: u8, high: bool, trims: bool, samples: &[[f64; 4]]) -> Result<Elected, u32> {
+    let model = match trims {
+        true => trimmed(kind, high, samples).map(|trimmed| trimmed.params),
+        false => fit(kind, samples).map(|fitted| quantize_model(&fitted, kind, high, samples)),
+    };
+    let mut params = model.ok_or(SINGULAR)?;
+    let score = score(&params, samples);
+    if kind == 1 {
+        params.swap(0, 1);
+    }
+    Ok(Elected { kind, params, score })
 }
 
 /// A TRANSLATION is stored row first.

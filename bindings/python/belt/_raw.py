@@ -125,6 +125,26 @@ class Report(ctypes.Structure):
     ]
 
 
+class Run(ctypes.Structure):
+    _fields_ = [("prior", c_int32 * 42), ("flag", c_uint8), ("form", c_uint32)]
+
+
+class Moved(ctypes.Structure):
+    _fields_ = [("refusal", c_uint32), ("run", Run)]
+
+
+class Framed(ctypes.Structure):
+    _fields_ = [("written", Written), ("run", Run)]
+
+
+class FrameModels(ctypes.Structure):
+    _fields_ = [("models", Models), ("run", Run)]
+
+
+class JobDone(ctypes.Structure):
+    _fields_ = [("report", Report), ("run", Run)]
+
+
 def _list(element):
     """A list passes as a pointer and a count."""
     return [POINTER(element), c_size_t]
@@ -201,6 +221,26 @@ CALLS = {
         + _BYTES
         + _BYTES,
         Report,
+    ),
+    "belt_run_start": ([c_uint8, c_uint32], Moved),
+    "belt_run_switch": ([Run, c_uint8], Moved),
+    "belt_run_frame": ([Run, c_bool] + _BYTES + _NUMBERS + [c_size_t] + _BYTES, Framed),
+    "belt_run_read": ([Run, c_bool] + _BYTES + [c_size_t], FrameModels),
+    "belt_run_store": ([Run, c_uint16] + _WORDS + _BYTES + _BYTES, Stored),
+    "belt_run_job": (
+        [Run]
+        + _PELS
+        + _PELS
+        + [c_size_t, c_size_t, Settings]
+        + _BYTES
+        + _BYTES
+        + _NUMBERS
+        + _PELS
+        + _PELS
+        + _WORDS
+        + _BYTES
+        + _BYTES,
+        JobDone,
     ),
 }
 

@@ -1,0 +1,4 @@
+pub mod Run
+pub mod Frame
+pub mod Recovery
+pub mod Priors
