@@ -13,9 +13,11 @@ mod lists;
 mod measure;
 mod memory;
 mod model;
+mod ordered;
 mod output;
 mod picture;
 mod report;
+mod tracked;
 mod way;
 
 use std::io::{self, Write};
