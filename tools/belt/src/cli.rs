@@ -70,8 +70,28 @@ pub enum Command {
     #[command(after_long_help = "Examples:
   ffmpeg -i clip.mp4 -pix_fmt gray -f yuv4mpegpipe - | belt track - --csv out.csv --plot out.svg --mm-per-pel 0.4
   belt track frames/ --fps 50 --crop 0,120,640,240 --json
-  belt track clip.y4m --from 100 --to 200 --strict --quiet")]
+  belt track clip.y4m --from 100 --to 200 --strict --quiet
+  belt track clip.y4m --blocks clip.blocks --headers clip.headers --key 250")]
     Track(Track),
+    /// A recording of 'belt track', read back
+    ///
+    /// Reads the file of headers that 'belt track --headers' wrote, and with --blocks the samples too, and says for each
+    /// frame what was stored: key frame or pair, the pair's frames in the clip, its status, the model, the bits. Each
+    /// model is written again and must give the same header, each frame's samples the same blocks. The first that
+    /// is damaged, cut or doesn't belong to the other file is named with its byte, and ends it.
+    #[command(after_long_help = "Examples:
+  belt replay clip.headers --blocks clip.blocks
+  belt replay clip.headers --json")]
+    Replay {
+        /// The headers; - is standard input
+        headers: PathBuf,
+        /// The sample blocks of the same recording; - is standard input
+        #[arg(long, value_name = "FILE")]
+        blocks: Option<PathBuf>,
+        /// One JSON object in one line for each record, for programs
+        #[arg(long)]
+        json: bool,
+    },
     /// A short clip of a belt, drawn, measured and told
     ///
     /// Draws a belt that pans and creeps, with a piece that rolls on its own and film that flutters, measures each pair of
@@ -251,6 +271,17 @@ pub struct Track {
     /// A plot of speed and path over time, as SVG
     #[arg(long, value_name = "FILE")]
     pub plot: Option<PathBuf>,
+    /// Store the samples of each pair as blocks of 512 bytes; their frame numbers go from 1 to 65535 and begin again
+    #[arg(long, value_name = "FILE")]
+    pub blocks: Option<PathBuf>,
+    /// Store the elected model of each pair as a header of a run of frames, which takes its prior from the pair before; a
+    /// bad pair is stored as such. 'belt replay' reads it
+    #[arg(long, value_name = "FILE")]
+    pub headers: Option<PathBuf>,
+    /// A key frame ahead of every N pairs sets the prior back, so that headers can be read from there on; 0: ahead of the
+    /// first pair alone
+    #[arg(long, value_name = "N", default_value_t = 0, requires = "headers")]
+    pub key: u64,
     /// One JSON object in one line for each pair, for programs, in the place of words
     #[arg(long)]
     pub json: bool,

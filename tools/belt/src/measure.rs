@@ -86,7 +86,8 @@ pub struct Measured {
     pub report: Report,
     pub blocks: Vec<Block>,
     pub warnings: Vec<Warning>,
-    /// The frame's sample blocks.
+    /// The samples' words, and the blocks that they are stored in.
+    pub samples: Vec<u32>,
     pub sample_blocks: Vec<u8>,
     /// The header's bytes, from the start's byte on.
     pub header: Vec<u8>,
@@ -184,6 +185,7 @@ pub fn measure_planes(
         report,
         blocks,
         warnings: Vec::new(),
+        samples: buffers.words,
         sample_blocks: buffers.blocks,
         header: buffers.header,
     };

@@ -386,7 +386,8 @@ fn a_long_clip_takes_no_more_memory() {
     };
     let some: Vec<u8> = (0..50).flat_map(frame).collect();
     let peak = |times: usize| {
-        let mut command = folder.command(&["track", "-", "--fast", "--quiet", "--plot", "p.svg", "--csv", "t.csv"]);
+        let stores = ["--plot", "p.svg", "--csv", "t.csv", "--blocks", "b", "--headers", "h", "--key", "100"];
+        let mut command = folder.command(&[&["track", "-", "--fast", "--quiet"][..], &stores].concat());
         let mut child = command.stdin(Stdio::piped()).stdout(Stdio::piped()).spawn().unwrap();
         let mut pipe = child.stdin.take().unwrap();
         pipe.write_all(b"YUV4MPEG2 W64 H32 F25:1 Cmono\n").unwrap();

@@ -7,6 +7,7 @@ mod measure;
 mod practice;
 mod price;
 mod read_header;
+mod replay;
 mod track;
 
 use crate::cli::{self, Command, Header, Seen};
@@ -23,6 +24,7 @@ pub fn run(command: Option<Command>) -> Result<(), Failure> {
         None => Ok(()),
         Some(Command::Measure(words)) => measure::run(&words),
         Some(Command::Track(words)) => track::run(&words),
+        Some(Command::Replay { headers, blocks, json }) => replay::run(&headers, blocks.as_ref(), json),
         Some(Command::Demo { folder }) => demo::run(&folder),
         Some(Command::List { file, csv }) => list::run(&file, csv),
         Some(Command::Convert { file, out, to }) => convert::run(&file, &out, &to),

@@ -6,6 +6,7 @@ use crate::frames::{self, Chosen, Clip, Turn};
 use crate::measure::{Job, measure_planes};
 use crate::ordered;
 use crate::output::{self, At, Files};
+use crate::recorded::Recorder;
 use crate::report::json;
 use crate::tracked::plot::Plot;
 use crate::tracked::{Pair, Row, Scale, Summary};
@@ -32,7 +33,7 @@ pub fn run(words: &Track) -> Result<(), Failure> {
     for pair in answers {
         bar.inc(1);
         bar.suspend(|| told.pair(&pair?, words, &mut files))?;
-        if output::is_closed() && words.csv.is_none() && words.plot.is_none() {
+        if output::is_closed() && outputs(words).next().is_none() {
             return Ok(());
         }
     }
@@ -48,7 +49,12 @@ fn places(words: &Track) -> Result<Vec<PathBuf>, Failure> {
 /// Inputs and outputs, before anything is read.
 fn judge(words: &Track, places: &[PathBuf]) -> Result<Files, Failure> {
     let inputs = places.iter().map(|place| frames::named(place).0).chain(words.seen.mask.as_deref());
-    super::judge(inputs, [&words.csv, &words.plot].into_iter().flatten().map(PathBuf::as_path))
+    super::judge(inputs, outputs(words))
+}
+
+fn outputs(words: &Track) -> impl Iterator<Item = &Path> {
+    let files = [&words.csv, &words.plot, &words.blocks, &words.headers];
+    files.into_iter().flatten().map(PathBuf::as_path)
 }
 
 fn chosen(words: &Track) -> Result<Chosen, Failure> {
@@ -140,6 +146,9 @@ fn measured(two: Two, job: &Job, rate: Option<f64>, millimetres: Option<f64>) ->
 /// What is told of the pairs, and where.
 struct Told {
     table: Option<At>,
+    recorder: Recorder,
+    blocks: Option<At>,
+    headers: Option<At>,
     plot: Plot,
     summary: Summary,
     /// Why the first pair that is bad is.
@@ -148,8 +157,13 @@ struct Told {
 
 impl Told {
     fn of(words: &Track, files: &mut Files) -> Result<Told, Failure> {
-        let table = words.csv.as_deref().map(|path| files.create(path)).transpose()?;
-        Ok(Told { table, plot: Plot::new(), summary: Summary::default(), bad: None })
+        let mut created = |path: &Option<PathBuf>| path.as_deref().map(|path| files.create(path)).transpose();
+        let [table, blocks, headers] = [created(&words.csv)?, created(&words.blocks)?, created(&words.headers)?];
+        let recorder = Recorder::begin(words.key).map_err(|refusal| Failure::refused("--headers", refusal))?;
+        if let Some(headers) = headers {
+            files.append(headers, &recorder.head())?;
+        }
+        Ok(Told { table, recorder, blocks, headers, plot: Plot::new(), summary: Summary::default(), bad: None })
     }
 
     fn pair(&mut self, pair: &Pair, words: &Track, files: &mut Files) -> Result<(), Failure> {
@@ -161,6 +175,7 @@ impl Told {
             }
             files.append(table, &row.values().map_err(unmade)?)?;
         }
+        self.record(pair, files)?;
         self.plot.add(pair);
         self.summary.add(pair);
         if let (None, Err(reason)) = (&self.bad, &pair.found) {
@@ -173,6 +188,17 @@ impl Told {
         }
     }
 
+    /// Stores it in the run, if it is recorded.
+    fn record(&mut self, pair: &Pair, files: &mut Files) -> Result<(), Failure> {
+        if self.blocks.is_none() && self.headers.is_none() {
+            return Ok(());
+        }
+        let refused = |refusal| Failure::refused(format!("{} to {}", pair.first, pair.second), refusal);
+        let stored = self.recorder.pair(pair).map_err(refused)?;
+        self.blocks.map_or(Ok(()), |blocks| files.append(blocks, &stored.blocks))?;
+        self.headers.map_or(Ok(()), |headers| files.append(headers, &stored.headers))
+    }
+
     fn end(self, words: &Track, mut files: Files) -> Result<(), Failure> {
         let name = words.places.first().map(output::shown).unwrap_or_default();
         if let Some(reason) = self.bad.filter(|_| self.summary.is_all_bad()) {
@@ -180,6 +206,9 @@ impl Told {
         }
         if self.summary.pairs == 0 {
             return Err(Failure::bad(name, "it takes two frames or more"));
+        }
+        if let Some(headers) = self.headers {
+            files.append(headers, &self.recorder.end())?;
         }
         if let Some(path) = &words.plot {
             let svg = self.plot.svg(&title(&words.places), &[]);
