@@ -6,23 +6,27 @@ use mathlib.Core.List.{List, [], _∷_}
 use mathlib.Core.Logic.{⊎-elim}
 use mathlib.Core.Path.{_≡_, refl, sym, ap, _∙_}
 use native.Mathlib.Omega.{arith}
+use lib.Dec.{ltb}
 use lib.IntN.{ℤ}
 use lib.ListN.{length}
 use Rattle.laws.specs.Call.{answered, left}
 use Rattle.laws.specs.Refusal.{row, choose, judge, orElse}
 use Rattle.laws.proofs.Call.{answered-accepted, answered-refused, left-accepted, left-refused}
-use Rattle.laws.proofs.Cases.{eq-or-ne}
-use Rattle.laws.proofs.Refusal.{or-else-refused, or-else-none}
+use Rattle.laws.proofs.Cases.{eq-or-ne, outcome}
+use Rattle.laws.proofs.Refusal.{or-else-refused, or-else-none, quiet, neither}
 use Rattle.models.specs.Models.{priorsOut}
 use Rattle.header.specs.declared.Written.{Written}
 use Rattle.header.specs.Writing.{notWritten}
 use Rattle.header.proofs.Accepted as writing
 use Rattle.header_read.specs.declared.Models.{Models}
+use Rattle.header_read.specs.Called.{readRefusal}
+use Rattle.forms.specs.Forms.{noForm}
 use Rattle.frame_motion.specs.Frame.{frameBits, frameRefusal, framePlaced, frameWritten, frameAfter, frameModels}
 use Rattle.frame_motion.proofs.Intra.{key-after}
 use Rattle.run.specs.declared.Run.{Run}
 use Rattle.run.specs.declared.Framed.{Framed}
 use Rattle.run.specs.Run.{runOf, codesWrong, runRefusal, moved, fresh, noRun, started, switchRefusal, switchedTo, switched}
+use Rattle.run.specs.Inner.{readerRows}
 use Rattle.run.specs.Frame.{firstRows, framedRefusal, runAfter, notFramed, framed, framedLeft, readOn, notRead, readIn}
 use Rattle.run.proofs.Accepted.{prior-after, answer-accepted, answer-refused}
 
@@ -49,28 +53,58 @@ module _ (run : Run) (code r : ℕ) (e : r ≡ switchRefusal run code) where
 
 -- ---- a frame read
 
-module _ (run : Run) (intra : Bool) (header : List ℕ) (at : ℕ) where
-  pub read-refused : (r : ℕ) → r ≡ runRefusal run → (r ≡ 0 → ⊥) → notRead run r ≡ readIn run intra header at
-  unfolding readIn
-  read-refused r e h = ap (notRead run) e ∙ sym (answered-refused (notRead run) (runRefusal run) _ (λ z. h (e ∙ z)))
+-- a run that isn't refused reads as the plain call does
+pub read-plain : (run : Run) (intra : Bool) (header : List ℕ) (at : ℕ) → runRefusal run ≡ 0
+    → readIn run intra header at ≡ readOn run (frameModels intra header at (run .flag) (run .prior))
+unfolding readIn
+read-plain run intra header at e = answered-accepted (notRead run) (runRefusal run) (readOn run (frameModels intra header at (run .flag) (run .prior))) e
 
-  -- a run that isn't refused reads as the plain call does
-  pub read-plain : runRefusal run ≡ 0 → readIn run intra header at ≡ readOn run (frameModels intra header at (run .flag) (run .prior))
-  unfolding readIn
-  read-plain e = answered-accepted (notRead run) (runRefusal run) (readOn run (frameModels intra header at (run .flag) (run .prior))) e
+-- an inter frame's prior out of range is refused by the plain call
+inter-out : (run : Run) (header : List ℕ) (at : ℕ) → length (run .prior) ≡ 42 → codesWrong (run .flag) (run .form) ≡ false → priorsOut (run .prior) ≡ true
+    → readOn run (frameModels false header at (run .flag) (run .prior)) ≡ readIn run false header at
+unfolding readIn frameModels readRefusal
+inter-out run header at long codes out = rw (codes, long, neither (ltb 1 (run .flag)) (noForm (run .form)) codes .0, out)
 
-  module _ (right : runRefusal run ≡ 0) (m : Models) (e : m ≡ frameModels intra header at (run .flag) (run .prior)) where
-    pub plain-refused : (m .refusal ≡ 0 → ⊥) → record { models = m; run = run } ≡ readIn run intra header at
-    plain-refused h =
-        ap (λ (r : Run). record { models = m; run = r }) (sym (left-refused (m .refusal) (runOf (m .params) (run .flag) (run .form)) run h))
-        ∙ ap (readOn run) e
-        ∙ sym (read-plain right)
+module _ (run : Run) (header : List ℕ) (at : ℕ) where
+  -- what the reader judges ahead is the run's own refusal, where it is one
+  reader-stops : (intra : Bool) → (judge (readerRows run intra) ≡ 0 → ⊥) → judge (readerRows run intra) ≡ runRefusal run
+  reader-stops true h = refl
+  reader-stops false h =
+      ⊎-elim
+      (λ (codes : codesWrong (run .flag) (run .form) ≡ true). rw codes)
+      (λ (codes : codesWrong (run .flag) (run .form) ≡ false). absurd (h (rw codes)))
+      (outcome (codesWrong (run .flag) (run .form)))
 
-    pub plain-read : m .refusal ≡ 0 → (next : Run) → next ≡ runOf (m .params) (run .flag) (run .form) → record { models = m; run = next } ≡ readIn run intra header at
-    plain-read z next n =
-        ap (λ (r : Run). record { models = m; run = r }) (n ∙ sym (left-accepted (m .refusal) (runOf (m .params) (run .flag) (run .form)) run z))
-        ∙ ap (readOn run) e
-        ∙ sym (read-plain right)
+  -- where it is none, the plain call says the rest
+  reader-passes : (intra : Bool) → length (run .prior) ≡ 42 → judge (readerRows run intra) ≡ 0
+      → readOn run (frameModels intra header at (run .flag) (run .prior)) ≡ readIn run intra header at
+  reader-passes true long e = sym (read-plain run true header at e)
+  reader-passes false long e =
+      let codes : codesWrong (run .flag) (run .form) ≡ false = quiet (readerRows run false) tt e .0 in
+      ⊎-elim
+      (λ (out : priorsOut (run .prior) ≡ true). inter-out run header at long codes out)
+      (λ (out : priorsOut (run .prior) ≡ false). sym (read-plain run false header at (rw (codes, out))))
+      (outcome (priorsOut (run .prior)))
+
+  module _ (intra : Bool) where
+    pub read-refused : (r : ℕ) → r ≡ judge (readerRows run intra) → (r ≡ 0 → ⊥) → notRead run r ≡ readIn run intra header at
+    unfolding readIn
+    read-refused r e h =
+        let s : r ≡ runRefusal run = e ∙ reader-stops intra (λ z. h (e ∙ z)) in
+        ap (notRead run) s ∙ sym (answered-refused (notRead run) (runRefusal run) _ (λ z. h (s ∙ z)))
+
+    module _ (long : length (run .prior) ≡ 42) (right : judge (readerRows run intra) ≡ 0) (m : Models) (e : m ≡ frameModels intra header at (run .flag) (run .prior)) where
+      pub plain-refused : (m .refusal ≡ 0 → ⊥) → record { models = m; run = run } ≡ readIn run intra header at
+      plain-refused h =
+          ap (λ (r : Run). record { models = m; run = r }) (sym (left-refused (m .refusal) (runOf (m .params) (run .flag) (run .form)) run h))
+          ∙ ap (readOn run) e
+          ∙ reader-passes intra long right
+
+      pub plain-read : m .refusal ≡ 0 → (next : Run) → next ≡ runOf (m .params) (run .flag) (run .form) → record { models = m; run = next } ≡ readIn run intra header at
+      plain-read z next n =
+          ap (λ (r : Run). record { models = m; run = r }) (n ∙ sym (left-accepted (m .refusal) (runOf (m .params) (run .flag) (run .form)) run z))
+          ∙ ap (readOn run) e
+          ∙ reader-passes intra long right
 
 -- ---- a frame written
 

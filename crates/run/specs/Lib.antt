@@ -2,3 +2,4 @@ pub mod Run
 pub mod Frame
 pub mod Recovery
 pub mod Priors
+pub mod Inner

@@ -6,6 +6,7 @@ ghost use mathlib.Core.Path.{_≡_};
 ghost use lib.ListN.{length};
 ghost use Rattle.laws.specs.Refusal.{judge};
 ghost use Rattle.run.specs.Run.{runOf, codesWrong, runRefusal, noRun, started, switchRefusal, switchedTo, switched};
+ghost use Rattle.run.specs.Inner.{readerRows};
 ghost use Rattle.run.specs.Frame.{firstRows, notFramed, framed, framedLeft, readIn};
 use forms::FORM2;
 use header::Written;
@@ -225,11 +226,25 @@ pub fn frame(
     Framed { written, run: next }
 }
 
+// Of a run handed to a reader: its flag and form, and the prior where the plain call won't judge it, at a
+// key frame.
+fn read_refusal(run: Run, intra: bool) -> u32
+    ensures { λ r. ⌜ r ≡ judge (readerRows run intra) ⌝ }
+{
+    if codes_wrong(run.flag, run.form) {
+        return NO_SUCH_CODE;
+    }
+    if intra {
+        return refusal_of(run);
+    }
+    0
+}
+
 // The models of a frame that was written in a run, read with a run begun alike: they are its next prior.
 pub fn read(run: Run, intra: bool, header: &[u8], at: usize) -> FrameModels
     ensures { λ r. ⌜ r ≡ readIn run intra (now (header .entry)) at ⌝ }
 {
-    let refusal = refusal_of(run);
+    let refusal = read_refusal(run, intra);
     if refusal != 0 {
         let models = header_read::no_models(refusal);
         return FrameModels { models, run };
