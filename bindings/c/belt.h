@@ -28,9 +28,11 @@
 #include <stdint.h>
 
 #define BELT_VERSION_MAJOR 0
-#define BELT_VERSION_MINOR 1
+#define BELT_VERSION_MINOR 14
 #define BELT_VERSION_PATCH 0
-#define BELT_VERSION "0.1.0"
+#define BELT_VERSION "0.14.0"
+/* The three in one number, as belt_version answers them. */
+#define BELT_VERSION_NUMBER (BELT_VERSION_MAJOR * 1000000u + BELT_VERSION_MINOR * 1000u + BELT_VERSION_PATCH)
 
 /* Sizes. */
 #define BELT_MOST_SIDE 1024       /* the longest side of a plane, in pels */
@@ -232,6 +234,15 @@ struct belt_moved { uint32_t refusal; struct belt_run run; };
 struct belt_framed { struct belt_written written; struct belt_run run; };
 struct belt_frame_models { struct belt_models models; struct belt_run run; };
 struct belt_job_done { struct belt_report report; struct belt_run run; };
+
+/* The library's own version, as BELT_VERSION_NUMBER is this header's. */
+uint32_t belt_version(void);
+/* The same, by a name that has the major number: what names it doesn't link with a library of another major version. */
+uint32_t belt_abi_0(void);
+/* Whether the library that runs has what this header promises: the major version is the header's, the minor at least. */
+static inline bool belt_library_fits(void) {
+    return belt_version() / 1000000 == BELT_VERSION_MAJOR && belt_version() / 1000 >= BELT_VERSION_NUMBER / 1000;
+}
 
 /* Motion search ('Search').
    In: two planes of width x height pels, row by row, and a class for each whole 16x16 block.
