@@ -16,7 +16,7 @@
 
    The library allocates nothing, keeps nothing between calls and has no state of its own: any number of threads
    may call it at once, each with its own buffers. BELT_STACK_BYTES and its kin say how much of the thread's stack a job
-   takes. Another call that trims or elects takes about 57 kB over words, 74 kB over words by a set of classes and 167 kB
+   takes. Another call that trims or elects takes about 57 kB over words, 74 kB over words by a set of classes and 168 kB
    over samples, by a set or not, for what it keeps of them and for residuals; another call by a set takes 22 kB over
    words and about 1 kB over samples. The library expects the floating-point environment that a
    process begins with: rounding to nearest, traps off, subnormal numbers kept. It needs memcpy, memset and no other
