@@ -18,16 +18,14 @@
    may call it at once, each with its own buffers. BELT_STACK_BYTES and its kin say how much of the thread's stack a job
    takes. Another call that trims or elects takes about 57 kB over words, 74 kB over words by a set of classes and 168 kB
    over samples, by a set or not, for what it keeps of them and for residuals; another call by a set takes 22 kB over
-   words and about 1 kB over samples. The library expects the floating-point environment that a
-   process begins with: rounding to nearest, traps off, subnormal numbers kept. It needs memcpy, memset and no other
-   function.
+   words and about 1 kB over samples. The library expects the floating-point environment that a process begins with:
+   rounding to nearest, traps off, subnormal numbers kept. It needs memcpy, memset and no other function.
 
    A result's first field is the refusal: BELT_ACCEPTED, or the number of the row that refuses ('When a call
    says no'), and then all fields after it are 0, but for a run, which comes back as it was handed in. A refused call
    leaves its lent buffers as they were; belt_job and belt_run_job have one exception. An accepted call writes only the
-   part of a buffer that it uses. Rows are judged in the
-   order of enum belt_refusal, over the whole input; blocks go one by one, and a call that reads a frame judges
-   BELT_TOO_SHORT last. 'Refuses' at a call lists its rows in that order. */
+   part of a buffer that it uses. Rows are judged in the order of enum belt_refusal, over the whole input; blocks go one
+   by one, and a call that reads a frame judges BELT_TOO_SHORT last. 'Refuses' at a call lists its rows in that order. */
 #ifndef BELT_H
 #define BELT_H
 
