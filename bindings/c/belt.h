@@ -8,7 +8,8 @@
    means a new struct and a new call. So a program runs, without being compiled again, with every library whose major
    version is the header's and whose minor version isn't lower: belt_library_fits says whether that is so. The shared
    library's soname is libbelt.so and the major number. Layouts are asserted at the end of this file, and
-   bindings/c/abi.txt is the list that is kept. Sizes of stack below aren't part of the promise.
+   bindings/c/abi.txt is the list that is kept. Sizes of stack below aren't part of the promise. What was compiled before
+   0.14.0 is to be compiled again: structs changed then, and the soname didn't.
 
    A list is a pointer and a count of elements; each pointer is aligned for its elements. Where the count is 0 the pointer
    is not read and may be NULL; no other pointer is NULL. Lent buffers (pointers that aren't const) overlap nothing
