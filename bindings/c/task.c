@@ -87,7 +87,8 @@ static void tasks_are_jobs(void) {
     memcpy(models, belt_identities, sizeof models);
     memcpy(prior, belt_identities, sizeof prior);
     models[0].params[0] = 8192;
-    prior[2].params[1] = 4096;
+    for (int r = 0; r < BELT_REFERENCES; r++)
+        prior[r].params[0] = 8192 * 9;
     size_t bytes = belt_room_bytes(WIDTH, HEIGHT, BELT_FORM_2);
     void *memory = malloc(bytes);
     struct belt_room room = belt_room_in(memory, bytes, WIDTH, HEIGHT);
@@ -146,6 +147,9 @@ static void rooms(void) {
                 uint8_t *begin = memory + GUARD + shift;
                 struct belt_run run = belt_run_start(BELT_HIGH_PRECISION, (uint32_t)form).run;
                 struct belt_room room = belt_room_in(begin, bytes, task.width, task.height);
+                holds((uintptr_t)room.words % sizeof(uint32_t) == 0 && (uintptr_t)room.input_half % sizeof(uint16_t) == 0 &&
+                          (uintptr_t)room.ref_half % sizeof(uint16_t) == 0,
+                      "buffers that are aligned");
                 wants(belt_run_job_with(run, &task, &room).report.refusal, BELT_ACCEPTED, "a job in the exact room");
                 for (size_t i = 0; i < all; i++)
                     holds((memory + i >= begin && memory + i < begin + bytes) || memory[i] == FILL, "guards of a room");
