@@ -26,7 +26,7 @@ from typing import Iterable, NamedTuple, Tuple, Union
 
 from . import _raw
 
-__version__ = "0.1.0"
+__version__ = "0.14.0"
 
 MOST_SIDE = 1024
 BLOCK_SIDE = 16

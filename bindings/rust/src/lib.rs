@@ -285,6 +285,16 @@ impl Buffers {
     }
 }
 
+/// The version of the library that is linked: MAJOR * 1,000,000 + MINOR * 1,000 + PATCH. A library of another major version
+/// than this crate's doesn't link.
+///
+/// ```
+/// assert_eq!(belt::library_version() / 1_000_000, 0);
+/// ```
+pub fn library_version() -> u32 {
+    raw::version()
+}
+
 /// How many whole 16×16 blocks a plane has: the samples of a search.
 ///
 /// ```

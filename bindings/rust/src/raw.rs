@@ -509,6 +509,15 @@ unsafe extern "C" {
         header: *mut u8,
         header_room: usize,
     ) -> JobDone;
+    fn belt_version() -> u32;
+    fn belt_abi_0() -> u32;
+}
+
+/// The library's version, MAJOR * 1,000,000 + MINOR * 1,000 + PATCH. The name of `belt_abi_0` has the major number, so that
+/// a library of another one doesn't link.
+pub fn version() -> u32 {
+    // SAFETY: neither call takes anything or touches memory.
+    unsafe { belt_version().min(belt_abi_0()) }
 }
 
 /// The numbers of some models, one after the other.
