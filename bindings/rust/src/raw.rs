@@ -524,7 +524,7 @@ pub fn version() -> u32 {
 pub fn numbers(models: &[StoredModel]) -> &[i32] {
     let count = size_of_val(models) / size_of::<i32>();
     // SAFETY: a model is transparent over six i32, so the same memory is that many of them, for the same lifetime.
-    unsafe { std::slice::from_raw_parts(models.as_ptr().cast(), count) }
+    unsafe { core::slice::from_raw_parts(models.as_ptr().cast(), count) }
 }
 
 #[allow(clippy::too_many_arguments)]
