@@ -145,3 +145,8 @@ pub const CLASSES: &[&str] = &["unsorted", "fibre", "rigid plastic", "metal", "f
 pub fn library_version() -> u32 {
     raw::version()
 }
+
+/// The page for Rust programmers, whose snippets run as these do.
+#[cfg(all(doctest, belt_repository))]
+#[doc = include_str!("../../../docs/RUST.md")]
+mod page {}
