@@ -2,7 +2,7 @@
 
 use crate::codes::byte;
 use crate::refusal::{judged, judged_lists};
-use crate::{Code, GmType, HEADER_BYTES, Length, Model, Precision, Refusal, StoredModel, raw};
+use crate::{Code, GmType, HEADER_BYTES, IDENTITIES, Length, Model, Precision, Refusal, StoredModel, raw};
 
 /// What a header holds.
 #[derive(Clone, Copy, Debug, PartialEq, Eq)]
@@ -37,6 +37,19 @@ impl Models {
     pub(crate) fn of_raw(read: raw::Models) -> (u32, Self) {
         let raw::Models { refusal, types, params, bits } = read;
         (refusal, Self { types, models: params, bits })
+    }
+}
+
+/// Seven identities and no bits, as of a key frame.
+///
+/// ```
+/// use belt::{Kind, Models, Precision};
+///
+/// assert_eq!(belt::read_global_motion(Kind::Key, &[], 0, Precision::High, &[]), Ok(Models::default()));
+/// ```
+impl Default for Models {
+    fn default() -> Self {
+        Self { types: [0; 7], models: IDENTITIES, bits: 0 }
     }
 }
 

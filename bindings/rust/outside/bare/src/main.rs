@@ -4,11 +4,11 @@
 
 extern crate alloc;
 
-use alloc::format;
 use alloc::vec;
 use belt::{Buffers, GmType, Refusal, Settings, Task};
 use core::alloc::{GlobalAlloc, Layout};
 use core::ffi::{c_char, c_int, c_void};
+use core::fmt::{self, Write};
 use core::panic::PanicInfo;
 
 #[link(name = "c")]
@@ -42,6 +42,27 @@ fn panicked(_: &PanicInfo<'_>) -> ! {
     unsafe { abort() }
 }
 
+/// The compiled `alloc` names it; where a panic aborts nothing calls it.
+#[unsafe(no_mangle)]
+extern "C" fn rust_eh_personality() {}
+
+/// A line of text that C can print: what stands behind it is zeros.
+struct Line {
+    text: [u8; 128],
+    length: usize,
+}
+
+impl Write for Line {
+    fn write_str(&mut self, more: &str) -> fmt::Result {
+        let end = self.length + more.len();
+        let room = self.text[..127].get_mut(self.length..end).ok_or(fmt::Error)?;
+        room.copy_from_slice(more.as_bytes());
+        self.length = end;
+        Ok(())
+    }
+}
+
+/// Measures a belt to practise on, and says what it found; whether most blocks agree.
 fn measured() -> Result<bool, Refusal> {
     let (mut earlier, mut later) = (vec![0; 96 * 80], vec![0; 96 * 80]);
     belt::make_practice_planes(1, 96, 80, -2, 4, &mut earlier, &mut later)?;
@@ -49,10 +70,11 @@ fn measured() -> Result<bool, Refusal> {
     let mut buffers = Buffers::new(96, 80);
     let report = belt::job(&task, &mut buffers.lend())?;
     let (model, agreeing) = (report.model(), report.model().agreeing(&buffers.words, 0.25));
-    let line = format!("{:?}, zoom {:.3}, {agreeing} agree\0", model.motion_at(40.0, 40.0), model.zoom());
+    let mut line = Line { text: [0; 128], length: 0 };
+    let said = write!(line, "{:?}, zoom {:.3}, {agreeing} agree", model.motion_at(40.0, 40.0), model.zoom());
     // SAFETY: the text ends with a zero.
-    unsafe { puts(line.as_ptr().cast()) };
-    Ok(agreeing > report.samples / 2)
+    unsafe { puts(line.text.as_ptr().cast()) };
+    Ok(said.is_ok() && agreeing > report.samples / 2)
 }
 
 #[unsafe(no_mangle)]
