@@ -44,9 +44,9 @@
 //! further isn't refused: [`Model::agreeing`] shows it.
 //!
 //! **Threads and memory.** The library keeps nothing between calls, so any number of threads may call it at once, and it
-//! allocates nothing; of this crate [`Buffers`] alone does. A call that trims or elects takes about 53 kB of the thread's
-//! stack over words, 69 kB by a set of classes and 168 kB over samples; a job about 21 kB, 70 kB if it trims or elects, in
-//! a run 23 and 72 kB. It expects the floating-point environment that a process begins with: rounding to nearest, traps
+//! allocates nothing; of this crate [`Buffers`] alone does. A call that trims or elects takes about 57 kB of the thread's
+//! stack over words, 74 kB by a set of classes and 168 kB over samples; a job about 24 kB, 75 kB if it trims or elects, in
+//! a run 25 and 77 kB. It expects the floating-point environment that a process begins with: rounding to nearest, traps
 //! off.
 //!
 //! **Without `std`.** `default-features = false` leaves `core` and `alloc`, and all but `Model::degrees`.
