@@ -513,18 +513,21 @@ unsafe extern "C" {
     fn belt_abi_0() -> u32;
 }
 
-/// The library's version, MAJOR * 1,000,000 + MINOR * 1,000 + PATCH. The name of `belt_abi_0` has the major number, so that
-/// a library of another one doesn't link.
+/// The name of this call has the major number, so that a library of another one doesn't link.
+#[used]
+static SAME_MAJOR: unsafe extern "C" fn() -> u32 = belt_abi_0;
+
+/// The library's version, MAJOR * 1,000,000 + MINOR * 1,000 + PATCH.
 pub fn version() -> u32 {
-    // SAFETY: neither call takes anything or touches memory.
-    unsafe { belt_version().min(belt_abi_0()) }
+    // SAFETY: the call takes nothing and touches no memory.
+    unsafe { belt_version() }
 }
 
 /// The numbers of some models, one after the other.
 pub fn numbers(models: &[StoredModel]) -> &[i32] {
     let count = size_of_val(models) / size_of::<i32>();
     // SAFETY: a model is transparent over six i32, so the same memory is that many of them, for the same lifetime.
-    unsafe { std::slice::from_raw_parts(models.as_ptr().cast(), count) }
+    unsafe { core::slice::from_raw_parts(models.as_ptr().cast(), count) }
 }
 
 #[allow(clippy::too_many_arguments)]
