@@ -136,9 +136,10 @@ fn with_inside(byte: u8, n: u32, behind: u32, value: u32) -> u8
 {
     let whole = wide(byte);
     let below = power(behind);
-    let mask = power(behind + n) - below;
+    let size = power(n);
+    let mask = (size - 1) * below;
     let kept = whole - (whole & mask);
-    (kept + value % power(n) * below) as u8
+    (kept + value % size * below) as u8
 }
 
 // A field that lies in one byte, behind so many of its bits.

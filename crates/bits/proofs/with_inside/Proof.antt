@@ -8,45 +8,43 @@ use native.Mathlib.Nat.{mod-lt}
 use native.Mathlib.Omega.{arith}
 use lib.Arith.{digits-lt}
 use lib.Bits.{bitAnd, and-le-l}
-use lib.Pow.{pow-pos, pow-add, pow-mono, shr-lt}
+use lib.Pow.{pow-pos, pow-add, pow-mono, shr-lt, high-ones}
 use Rattle.bits.proofs.Words.{kept-outside}
 
-record Steps (y n s v below above size : ℕ) : Type 0 where
-  order : below ≤ above
-  some : 0 < size
-  is : y - bitAnd y (above - below) + v % size * below ≡ y / 2 ^ (s + n) * 2 ^ (s + n) + (v % 2 ^ n * 2 ^ s + y % 2 ^ s)
-  whole : y - bitAnd y (above - below) + v % size * below < 256
+record Steps (y n s v below size : ℕ) : Type 0 where
+  some : 1 ≤ size
+  mask : (size - 1) * below < 256
+  is : y - bitAnd y ((size - 1) * below) + v % size * below ≡ y / 2 ^ (s + n) * 2 ^ (s + n) + (v % 2 ^ n * 2 ^ s + y % 2 ^ s)
+  whole : y - bitAnd y ((size - 1) * below) + v % size * below < 256
 
-steps : (y n s v below above size : ℕ) → s + n ≤ 8 → y < 2 ^ 8 → below ≡ 2 ^ s → above ≡ 2 ^ (s + n) → size ≡ 2 ^ n → Steps y n s v below above size
-steps y n s v below above size h b eb ea es =
-    let kept = kept-outside y s n in
-    let sum : 8 - (s + n) + (s + n) ≡ 8 = omega arith in
+steps : (y n s v below size : ℕ) → s + n ≤ 8 → y < 2 ^ 8 → below ≡ 2 ^ s → size ≡ 2 ^ n → Steps y n s v below size
+steps y n s v below size h b eb es =
     let turned : n + s ≡ s + n = omega arith in
+    let sum : 8 - (s + n) + (s + n) ≡ 8 = omega arith in
+    let ones : (2 ^ n - 1) * 2 ^ s ≡ 2 ^ (s + n) - 2 ^ s = sym (high-ones n s) ∙ ap (λ (m : ℕ). 2 ^ m - 2 ^ s) turned in
+    let kept = kept-outside y s n in
     let field : v % 2 ^ n * 2 ^ s + y % 2 ^ s < 2 ^ (s + n) =
     subst (λ (m : ℕ). v % 2 ^ n * 2 ^ s + y % 2 ^ s < m) (sym (pow-add 2 n s) ∙ ap (λ (m : ℕ). 2 ^ m) turned) (digits-lt (mod-lt v (pow-pos n)) (mod-lt y (pow-pos s))) in
     let front : y / 2 ^ (s + n) < 2 ^ (8 - (s + n)) = shr-lt (8 - (s + n)) (s + n) (subst (λ (m : ℕ). y < 2 ^ m) (sym sum) b) in
     let byte : y / 2 ^ (s + n) * 2 ^ (s + n) + (v % 2 ^ n * 2 ^ s + y % 2 ^ s) < 256 =
     subst (λ (m : ℕ). y / 2 ^ (s + n) * 2 ^ (s + n) + (v % 2 ^ n * 2 ^ s + y % 2 ^ s) < m) (sym (pow-add 2 (8 - (s + n)) (s + n)) ∙ ap (λ (m : ℕ). 2 ^ m) sum)
     (digits-lt front field) in
-    rw (eb, ea, es)
-    (record {
-      order = pow-mono (let o : s ≤ s + n = omega arith in o);
-      some = pow-pos n;
-      is = omega (arith, kept);
-      whole = omega (arith, kept, byte);
-    })
+    let most : 2 ^ (s + n) ≤ 256 = pow-mono h in
+    rw (eb, es)
+    (record { some = pow-pos n; mask = omega (arith, ones, most, pow-pos s); is = omega (arith, kept); whole = omega (arith, kept, byte) })
 
-at : (c : tie.After-power3) → Steps (c .before .before .before .wide .result) (c .before .before .before .before .args .n) (c .before .before .before .before .args .behind)
-    (c .before .before .before .before .args .value) (c .before .before .power .result) (c .before .power2 .result) (c .power3 .result)
+at : (c : tie.After-power2) → Steps (c .before .before .wide .result) (c .before .before .before .args .n) (c .before .before .before .args .behind)
+    (c .before .before .before .args .value) (c .before .power .result) (c .power2 .result)
 at c =
-    let a = c .before .before .before .before .args in
-    steps (c .before .before .before .wide .result) (a .n) (a .behind) (a .value) (c .before .before .power .result) (c .before .power2 .result) (c .power3 .result)
-    (c .before .before .before .before .pre) (omega (arith, c .before .before .before .wide .ensures)) (c .before .before .power .ensures) (c .before .power2 .ensures) (c .power3 .ensures)
+    let a = c .before .before .before .args in
+    steps (c .before .before .wide .result) (a .n) (a .behind) (a .value) (c .before .power .result) (c .power2 .result)
+    (c .before .before .before .pre) (omega (arith, c .before .before .wide .ensures)) (c .before .power .ensures) (c .power2 .ensures)
 
 sub-mask : tie.Need-sub-mask
-sub-mask c =
-    let h = pow-mono {i = c .before .before .before .args .behind} {j = c .before .before .before .args .behind + c .before .before .before .args .n} (omega arith) in
-    omega (arith, h, c .power2 .ensures, c .before .power .ensures)
+sub-mask c = at c .some
+
+mul-mask : tie.Need-mul-mask
+mul-mask c = omega (arith, at c .mask)
 
 sub-kept : tie.Need-sub-kept
 sub-kept c = and-le-l _ _
@@ -64,9 +62,9 @@ cast-result : tie.Need-cast-result
 cast-result c = omega (arith, at c .whole)
 
 returns : tie.Need-returns
-returns c = rw (← c .before .before .before .wide .ensures) (at c .is)
+returns c = rw (← c .before .before .wide .ensures) (at c .is)
 
 pub with-inside-spec : {M : Type 1} → statement M
 with-inside-spec =
     tie.close
-    (tie.spec (search needs) (search needs) (search needs) (search needs) sub-mask sub-kept (search needs) rem-result mul-result add-result cast-result returns)
+    (tie.spec (search needs) (search needs) (search needs) sub-mask mul-mask sub-kept rem-result mul-result add-result cast-result returns)
