@@ -8,7 +8,7 @@ use native.Mathlib.Omega.{arith}
 use Rattle.plane.specs.declared.Offset.{Offset}
 use Rattle.cost.specs.Inner.{windowCosts, bilinearWindowCosts, Reached}
 use Rattle.stage.specs.declared.Best.{Best}
-use Rattle.stage.specs.Inner.{startOf, at, magnitudesOf, coarseMotion, coarseIn, fullMotion, fullPelIn, stepMotion, stepIn, refinedIn, eightfold, fineIn, Lies, Roomy, Around, Steady}
+use Rattle.stage.specs.Inner.{startOf, at, magnitudesOf, coarseMotion, coarseIn, fullMotion, fullPelIn, stepMotion, stepIn, stepsIn, refinedIn, eightfold, fineIn, Lies, Roomy, Around, Steady}
 use Rattle.stage.proofs.Turns.{run-lies}
 
 -- a motion of a step: at most two steps are added before one is taken back
@@ -118,16 +118,20 @@ lies-after a b y x y1 x1 y2 x2 l m =
     let w : x2 ≤ x1 + b = m .x-high in
     record { y-low = omega arith; y-high = omega arith; x-low = omega arith; x-high = omega arith }
 
+-- three steps on a window that was taken apart and is whole again
+pub steps-are : (corner : Offset) (block window : List ℕ) (first : Best) {again : List ℕ} {by-4 by-2 by-1 : Best} → again ≡ window → by-4 ≡ stepIn corner 4 block again first →
+    by-2 ≡ stepIn corner 2 block again by-4 → by-1 ≡ stepIn corner 1 block again by-2 → by-1 ≡ stepsIn corner block window first
+steps-are corner block window first e p q d = rw (d, q, p, e)
+
 -- the start, and three steps
-pub refinedIn-is : (corner start : Offset) (block window : List ℕ) {first by-4 by-2 by-1 : Best} →
-    first ≡ startOf (bilinearWindowCosts block window corner start) (start .y) (start .x) → by-4 ≡ stepIn corner 4 block window first →
-    by-2 ≡ stepIn corner 2 block window by-4 → by-1 ≡ stepIn corner 1 block window by-2 → by-1 ≡ refinedIn corner start block window
+pub refinedIn-is : (corner start : Offset) (block window : List ℕ) {first last : Best} → first ≡ startOf (bilinearWindowCosts block window corner start) (start .y) (start .x) →
+    last ≡ stepsIn corner block window first → last ≡ refinedIn corner start block window
 unfolding refinedIn
-refinedIn-is corner start block window e p q d = rw (d, q, p, e)
+refinedIn-is corner start block window e p = rw (p, e)
 
 -- both stages on planes
 pub fineIn-is : (centre : Offset) (block window : List ℕ) {full last : Best} → full ≡ fullPelIn centre block window →
-    last ≡ refinedIn centre (eightfold full) block window →
+    last ≡ refinedIn centre (eightfold (at (full .y) (full .x))) block window →
     record { cost = last .cost; y = last .y; x = last .x; rows = full .rows + last .rows } ≡ fineIn centre block window
 unfolding fineIn
 fineIn-is centre block window e q = rw (q, e) refl

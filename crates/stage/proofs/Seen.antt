@@ -169,10 +169,10 @@ module _ (input ref : List ℕ) (place : Place) (none : Offset) (zy : none .y �
         let window = windowOf ref place by 31 24 in
         let full = fullPelIn by block window in
         let e = fullPel-seen in
-        let r = refined-seen (eightfold full) (steady-start by (full .y) (full .x) (fullPelIn-lies by block window room)) in
+        let r = refined-seen (eightfold (at (full .y) (full .x))) (steady-start by (full .y) (full .x) (fullPelIn-lies by block window room)) in
         let ty = eightfold-stored (full .y) (ap (λ (t : Tally). t .best .dy) e) in
         let tx = eightfold-stored (full .x) (ap (λ (t : Tally). t .best .dx) e) in
-        both-seen (full .rows) (refinedIn by (eightfold full) block window) (ap (λ (t : Tally). t .rows) e) (r ∙ rw (ty, tx) refl)
+        both-seen (full .rows) (refinedIn by (eightfold (at (full .y) (full .x))) block window) (ap (λ (t : Tally). t .rows) e) (r ∙ rw (ty, tx) refl)
 
 -- what the code of a stage finds in its copies
 pub coarse-leads : (input ref : List ℕ) (place : Place) (none : Offset) → none .y ≡ 0 → none .x ≡ 0 → Block 8 place → {block window : List ℕ} {best : Best} →
