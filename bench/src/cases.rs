@@ -51,10 +51,13 @@ pub enum Case {
     QuantizeTrimmedSamples(u8, usize),
     Elect(usize),
     ElectSamples(usize),
-    /// Without the film, which is a fifth of so many words.
+    /// Without the film, which is a fifth of so many words or samples.
     FitByClass(u8, usize),
     QuantizeTrimmedByClass(u8, usize),
     ElectByClass(usize),
+    FitSamplesByClass(u8, usize),
+    QuantizeTrimmedSamplesByClass(u8, usize),
+    ElectSamplesByClass(usize),
     WriteFrame(usize),
     ReadFrame(u8, usize),
     WriteHeader(u8, Distance),
@@ -101,6 +104,9 @@ pub fn all() -> Vec<Case> {
     cases.extend(kinds.iter().flat_map(|&kind| [16, 4096].map(|n| FitByClass(kind, n))));
     cases.extend(kinds.iter().flat_map(|&kind| [16, 4096].map(|n| QuantizeTrimmedByClass(kind, n))));
     cases.extend([16, 4096].map(ElectByClass));
+    cases.extend(kinds.iter().flat_map(|&kind| [16, 4096].map(|n| FitSamplesByClass(kind, n))));
+    cases.extend(kinds.iter().flat_map(|&kind| [16, 4096].map(|n| QuantizeTrimmedSamplesByClass(kind, n))));
+    cases.extend([16, 4096].map(ElectSamplesByClass));
     cases.extend(counts.map(WriteFrame));
     cases.extend([2, 1].iter().flat_map(|&form| counts.map(|n| ReadFrame(form, n))));
     cases.extend(header_kinds.iter().flat_map(|&kind| Distance::ALL.map(|prior| WriteHeader(kind, prior))));
@@ -128,7 +134,7 @@ pub fn few() -> Vec<Case> {
     cases
 }
 
-/// How many of so many words aren't film.
+/// How many of so many words or samples aren't film.
 fn not_film(n: usize) -> usize {
     inputs::classes(n).iter().filter(|&&class| WITHOUT_FILM.names(class)).count()
 }
@@ -158,6 +164,13 @@ impl fmt::Display for Case {
                 write!(f, "quantize_trimmed_by_class | {}, {} of {n} words", type_name(kind), not_film(n))
             }
             ElectByClass(n) => write!(f, "elect_by_class | {} of {n} words", not_film(n)),
+            FitSamplesByClass(kind, n) => {
+                write!(f, "fit_by_class | {}, {} of {n} samples", type_name(kind), not_film(n))
+            }
+            QuantizeTrimmedSamplesByClass(kind, n) => {
+                write!(f, "quantize_trimmed_by_class | {}, {} of {n} samples", type_name(kind), not_film(n))
+            }
+            ElectSamplesByClass(n) => write!(f, "elect_by_class | {} of {n} samples", not_film(n)),
             WriteFrame(n) => write!(f, "write_frame | form 2, {n} samples"),
             ReadFrame(form, n) => write!(f, "read_both | form {form}, {n} samples"),
             WriteHeader(kind, prior) => write!(f, "header write | seven {}, prior {}", type_name(kind), prior.name()),
@@ -235,6 +248,9 @@ impl Case {
             FitByClass(kind, n) => fit_by_class(kind, n),
             QuantizeTrimmedByClass(kind, n) => quantize_trimmed_by_class(kind, n),
             ElectByClass(n) => elect_by_class(n),
+            FitSamplesByClass(kind, n) => fit_samples_by_class(kind, n),
+            QuantizeTrimmedSamplesByClass(kind, n) => quantize_trimmed_samples_by_class(kind, n),
+            ElectSamplesByClass(n) => elect_samples_by_class(n),
             WriteFrame(n) => write_frame(n),
             ReadFrame(form, n) => read_frame(form, n),
             WriteHeader(kind, prior) => write_header(kind, prior),
@@ -663,6 +679,77 @@ fn elect_by_class(n: usize) -> Sides {
         words,
         |words, classes| {
             black_box(belt::elect_by_class(WITHOUT_FILM, HIGH_PRECISION, words, classes).ok());
+        },
+        |samples| {
+            black_box(samples.estimate(true));
+        },
+    )
+}
+
+/// The sides of a call by class over samples that are ready made: the Rust picks those that aren't film.
+fn on_classed_samples(
+    words: &[u32],
+    ours: impl Fn(&[MotionSample], &[u8]) + 'static,
+    rust: impl Fn(&Samples) + 'static,
+) -> Sides {
+    let classes = inputs::classes(words.len());
+    let (lent, samples, rust_classes) = (lent_samples(words), Samples::of_words(words), classes.clone());
+    Sides {
+        ours: Box::new(move || ours(black_box(&lent), black_box(&classes))),
+        rust: Box::new(move || rust(&black_box(&samples).of_classes(WITHOUT_FILM.bits(), black_box(&rust_classes)))),
+        ready: None,
+    }
+}
+
+fn fit_samples_by_class(kind: u8, n: usize) -> Sides {
+    let words = oracle::blocks::words(n as u32, n);
+    let classes = inputs::classes(n);
+    let ours = belt::fit_samples_by_class(WITHOUT_FILM, kind, &lent_samples(&words), &classes);
+    let ours = ours.expect("this elimination doesn't refuse");
+    let rust = without_film(&words, &classes).fit(kind).expect("this elimination doesn't refuse");
+    assert!((0..carried(kind)).all(|i| same(ours.numbers[i], rust[i])), "{ours:?} {rust:?}");
+    on_classed_samples(
+        &words,
+        move |samples, classes| {
+            black_box(belt::fit_samples_by_class(WITHOUT_FILM, kind, samples, classes).ok());
+        },
+        move |samples| {
+            black_box(samples.fit(kind));
+        },
+    )
+}
+
+fn quantize_trimmed_samples_by_class(kind: u8, n: usize) -> Sides {
+    let words = loose_words(n);
+    let classes = inputs::classes(n);
+    let call = belt::quantize_trimmed_samples_by_class;
+    let ours = call(WITHOUT_FILM, kind, HIGH_PRECISION, &lent_samples(&words), &classes);
+    let ours = ours.expect("neither fit is refused");
+    let rust = without_film(&words, &classes).trimmed(kind, true).expect("neither fit is refused");
+    assert_eq!((ours.model, ours.used), (Model(rust.params), rust.used));
+    on_classed_samples(
+        &words,
+        move |samples, classes| {
+            black_box(call(WITHOUT_FILM, kind, HIGH_PRECISION, samples, classes).ok());
+        },
+        move |samples| {
+            black_box(samples.trimmed(kind, true));
+        },
+    )
+}
+
+fn elect_samples_by_class(n: usize) -> Sides {
+    let words = turning_words(n);
+    let classes = inputs::classes(n);
+    let ours = belt::elect_samples_by_class(WITHOUT_FILM, HIGH_PRECISION, &lent_samples(&words), &classes);
+    let ours = ours.expect("it isn't refused");
+    let rust = without_film(&words, &classes).elect(true);
+    assert_eq!((ours.gm_type, ours.model), (rust.kind, StoredModel(rust.params)));
+    assert!(ours.gm_type != IDENTITY && same(ours.score, rust.score), "{ours:?}");
+    on_classed_samples(
+        &words,
+        |samples, classes| {
+            black_box(belt::elect_samples_by_class(WITHOUT_FILM, HIGH_PRECISION, samples, classes).ok());
         },
         |samples| {
             black_box(samples.estimate(true));

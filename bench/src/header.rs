@@ -61,6 +61,11 @@ impl Header {
         Self { types: [kind; 7], models, prior: priors, stored, stored_prior }
     }
 
+    /// The same models with themselves as prior: a frame that follows its like in a run.
+    pub fn again(self) -> Self {
+        Self { prior: self.models, stored_prior: self.stored, ..self }
+    }
+
     pub fn write(&self, room: &mut [u8]) -> Result<usize, Refusal> {
         belt::encode_inter_global_motion(&self.types, &self.stored, HIGH_PRECISION, &self.stored_prior, 0, room)
     }

@@ -1,6 +1,6 @@
 //! A whole job: by the proved library, and composed of the Rust's parts with the blocks of `frames`.
 
-use belt::{Buffers, ClassSet, Model, Refusal, Report, Settings, StoredModel, Task};
+use belt::{Buffers, ClassSet, Model, Refusal, Report, Run, Settings, StoredModel, Task};
 use oracle::Samples;
 
 use crate::frames;
@@ -61,8 +61,8 @@ impl Job {
         self
     }
 
-    pub fn run(&self, lent: &mut Buffers) -> Result<Report, Refusal> {
-        let task = Task {
+    fn with_task<T>(&self, work: impl FnOnce(&Task<'_>) -> T) -> T {
+        work(&Task {
             input: &self.input,
             reference: &self.reference,
             width: self.width,
@@ -72,8 +72,17 @@ impl Job {
             types: &self.header.types[1..],
             models: &self.header.models.map(StoredModel)[1..],
             prior: &self.header.prior.map(StoredModel),
-        };
-        belt::job(&task, &mut lent.lend())
+        })
+    }
+
+    pub fn run(&self, lent: &mut Buffers) -> Result<Report, Refusal> {
+        self.with_task(|task| belt::job(task, &mut lent.lend()))
+    }
+
+    /// The same in a run that holds the job's prior and flag, and a form.
+    pub fn run_in(&self, form: u32, lent: &mut Buffers) -> Result<Report, Refusal> {
+        let mut run = Run::of_parts(self.header.prior.map(StoredModel), self.settings.flag, form);
+        self.with_task(|task| run.job(task, &mut lent.lend()))
     }
 
     /// Words, blocks and header go to the buffers.

@@ -2,6 +2,7 @@
 //!
 //!     bench FILE PICTURE          every case: a table on standard output, a page in FILE, and the growth of the search in PICTURE
 //!     bench quick                 a few cases, a table on standard output
+//!     bench run                   the cases in a run alone: their lines on standard output
 //!     bench list                  the cases and their numbers
 //!     bench repeat CASE SIDE N    one side ('ours', 'rust' or 'ready') of a case N times, for a profiler
 
@@ -12,6 +13,7 @@ mod header;
 mod inputs;
 mod job;
 mod placing;
+mod run;
 mod timing;
 
 use std::time::Instant;
@@ -27,10 +29,11 @@ fn main() {
     let words: Vec<&str> = words.iter().map(String::as_str).collect();
     match words[..] {
         ["list"] => list(),
+        ["run"] => print!("{}", in_a_run()),
         ["repeat", case, side, times] => repeat(case, side, times),
         ["quick"] => drop(measure(cases::few(), timing::QUICK)),
         [file, picture] => page(file, picture),
-        _ => panic!("usage: bench FILE PICTURE | bench quick | bench list | bench repeat CASE SIDE N"),
+        _ => panic!("usage: bench FILE PICTURE | bench quick | bench run | bench list | bench repeat CASE SIDE N"),
     }
 }
 
@@ -58,11 +61,13 @@ fn repeat(case: &str, side: &str, times: &str) {
 fn page(file: &str, picture: &str) {
     compare_the_rest();
     let (table, absolute) = measure(cases::all(), timing::WHOLE);
+    let in_a_run = in_a_run();
+    print!("{in_a_run}");
     let growth = growth::measure();
     fs::write(picture, growth::drawn(&growth)).expect("the picture's folder is there");
     let times = "## Times of a job\n\nIn milliseconds, on the machine above, one thread.\n\n\
                  | call | input | ours | Rust |\n|---|---|---|---|\n";
-    let page = format!("{}\n{table}\n{times}{absolute}\n{}", head(), growth::told(&growth));
+    let page = format!("{}\n{table}\n{in_a_run}\n{times}{absolute}\n{}", head(), growth::told(&growth));
     fs::write(file, page).expect("the page's folder is there");
 }
 
@@ -103,6 +108,12 @@ fn said(ratio: f64) -> String {
 fn wanted(most: f64) -> String {
     let figures = if (100.0 * most).fract() > 0.01 { 3 } else { 2 };
     format!("{most:.figures$}")
+}
+
+/// What a run costs, as a part of the page.
+fn in_a_run() -> String {
+    let line = |case: run::Case| case.line(&timing::in_turns(&mut case.sides(), timing::WHOLE));
+    run::all().into_iter().map(line).fold(run::head().into(), |page: String, line| page + &line)
 }
 
 /// The calls that aren't measured give the Rust's answers too, and both writers of a field the same bytes.
@@ -155,6 +166,7 @@ fn head() -> String {
          An election is measured against `estimate_global_motion`, which gives no score, on a field that turns, one word in sixteen by two pels beside it. \
          A call by class names every class but film, which is one word in five: ours takes the words and their classes, \
          and the Rust makes its samples of the words that aren't film. \
+         Over samples that are ready made the Rust picks those that aren't film, and ours takes all and their classes. \
          Blocks are measured against a plain Rust writing of docs/RULES.md over lent buffers (`bench/src/frames.rs`).\n\n\
          A header has seven models of one type at high precision. A near prior is up to three steps of the grid from the models and gives short codes, \
          a far one is at the other end of the range and gives long codes; seven identities have no codes, and ours only judges their prior. \

@@ -1,4 +1,4 @@
-/* The proved library's calls (crates/belt, lent_fit, lent_trim and lent_elect), for C and C++ on x86-64 Linux.
+/* The proved library's calls (crates/belt, lent_fit, lent_trim, lent_elect and lent_sets), for C and C++ on x86-64 Linux.
    docs/RULES.md has the rules: what a plane, a sample word, a block, a model and a header are, bit by bit; names in
    quotes are its sections.
    belt_motion.h beside this file reads words and models in pels.
@@ -9,14 +9,15 @@
 
    The library allocates nothing, keeps nothing between calls and has no state of its own: any number of threads
    may call it at once, each with its own buffers. A call that trims or elects takes about 53 kB of the thread's stack
-   over words, 69 kB by a set of classes and 168 kB over samples, for what it keeps of them and for residuals; another
-   call by a set takes 18 kB, a job about 21 kB, 70 kB if it trims or elects. The library expects the floating-point
-   environment that a process begins with: rounding to nearest, traps off, subnormal numbers kept. It needs memcpy,
-   memset and no other function.
+   over words, 69 kB over words by a set of classes and 168 kB over samples, by a set or not, for what it keeps of them
+   and for residuals; another call by a set takes 18 kB over words and less than 1 kB over samples, a job about 21 kB,
+   70 kB if it trims or elects, in a run 23 and 72 kB. The library expects the floating-point environment that a
+   process begins with: rounding to nearest, traps off, subnormal numbers kept. It needs memcpy, memset and no other
+   function.
 
    A result's first field is the refusal: BELT_ACCEPTED, or the number of the row that refuses ('When a call
-   says no'), and then all fields after it are 0. A refused call leaves its lent buffers as they were; belt_job
-   has one exception. An accepted call writes only the part of a buffer that it uses. Rows are judged in the
+   says no'), and then all fields after it are 0, but for a run, which comes back as it was handed in. A refused call
+   leaves its lent buffers as they were; belt_job and belt_run_job have one exception. An accepted call writes only the part of a buffer that it uses. Rows are judged in the
    order of enum belt_refusal, over the whole input; blocks go one by one, and a call that reads a frame judges
    BELT_TOO_SHORT last. 'Refuses' at a call lists its rows in that order. */
 #ifndef BELT_H
@@ -61,6 +62,7 @@ enum belt_form { BELT_FORM_1 = 1, BELT_FORM_2 = 2 };
 enum belt_flag { BELT_LOW_PRECISION = 0, BELT_HIGH_PRECISION = 1 };
 enum belt_trim { BELT_ALL_SAMPLES = 0, BELT_TRIM = 1 };
 enum belt_election { BELT_ASKED_TYPE = 0, BELT_ELECT = 1 };
+enum belt_switch { BELT_TO_LOW_PRECISION = 0, BELT_TO_HIGH_PRECISION = 1, BELT_TO_FORM_2 = 2 };
 
 /* The rows, in the order in which they are judged. */
 enum belt_refusal {
@@ -94,7 +96,7 @@ static inline const char *belt_refusal_text(uint32_t refusal) {
     case BELT_TOO_FAR: return "motion of a practice belt beyond 24 pels";
     case BELT_WRONG_LENGTH: return "plane, class, type, model or prior list of wrong length";
     case BELT_NO_SUCH_CODE:
-        return "type, class, flag, trim or elect code out of range; set that names a class over 4; type 0 for a fit";
+        return "type, class, flag, form, trim, elect or switch code out of range; class over 4 in a set; type 0 to fit";
     case BELT_NO_CLASS: return "empty set of classes";
     case BELT_NO_SUCH_SLOT: return "slot over 5, or to price one that the type doesn't carry; reference outside 1 to 7";
     case BELT_START_OVER: return "start of a header to write over 7";
@@ -127,7 +129,7 @@ static inline const char *belt_class_text(uint8_t class_code) {
 }
 
 /* How many samples a plane has, how many values each of its half planes, and how many blocks and bytes so many samples
-   take in a form: the room that a call asks for. A job stores BELT_FORM_2. */
+   take in a form: the room that a call asks for. A job stores BELT_FORM_2, a job in a run the form held. */
 static inline size_t belt_sample_count(size_t width, size_t height) {
     return (width / BELT_BLOCK_SIDE) * (height / BELT_BLOCK_SIDE);
 }
@@ -221,6 +223,15 @@ struct belt_price { uint32_t refusal; size_t bits; };
 
 /* How many pels each plane has. */
 struct belt_made { uint32_t refusal; size_t pels; };
+
+/* A run of frames: the prior of the next inter frame, the flag, and the form that frames are stored in, BELT_FORM_1 or
+   BELT_FORM_2. It goes by value; the run to go on with comes back with each answer. */
+struct belt_run { struct belt_stored_model prior[BELT_REFERENCES]; uint8_t flag; uint32_t form; };
+struct belt_moved { uint32_t refusal; struct belt_run run; };
+/* What the calls without a run answer, and the run; the refusal is the first field of that answer. */
+struct belt_framed { struct belt_written written; struct belt_run run; };
+struct belt_frame_models { struct belt_models models; struct belt_run run; };
+struct belt_job_done { struct belt_report report; struct belt_run run; };
 
 /* Motion search ('Search').
    In: two planes of width x height pels, row by row, and a class for each whole 16x16 block.
@@ -322,6 +333,29 @@ struct belt_trimmed_model belt_quantize_trimmed_by_class(
     const uint32_t *words, size_t word_count, const uint8_t *classes, size_t class_count);
 struct belt_elected belt_elect_by_class(
     uint8_t set, uint8_t flag, const uint32_t *words, size_t word_count, const uint8_t *classes, size_t class_count);
+
+/* The same six over samples instead of words: up to 4,096 of any four numbers, not-a-numbers and infinities too, and a
+   class for each. Codes and models pass as to the calls over samples without a set. Samples that are made from words have
+   the answers of those words.
+   Refuse: as the six over words. */
+struct belt_fit_answer belt_fit_samples_by_class(
+    uint8_t set, uint8_t type,
+    const struct belt_motion_sample *samples, size_t sample_count, const uint8_t *classes, size_t class_count);
+struct belt_quantized_model belt_quantize_samples_by_class(
+    uint8_t set, struct belt_to_quantize model,
+    const struct belt_motion_sample *samples, size_t sample_count, const uint8_t *classes, size_t class_count);
+struct belt_score belt_score_samples_by_class(
+    uint8_t set, struct belt_model model,
+    const struct belt_motion_sample *samples, size_t sample_count, const uint8_t *classes, size_t class_count);
+struct belt_trimmed belt_fit_trimmed_samples_by_class(
+    uint8_t set, uint8_t type,
+    const struct belt_motion_sample *samples, size_t sample_count, const uint8_t *classes, size_t class_count);
+struct belt_trimmed_model belt_quantize_trimmed_samples_by_class(
+    uint8_t set, struct belt_to_trim codes,
+    const struct belt_motion_sample *samples, size_t sample_count, const uint8_t *classes, size_t class_count);
+struct belt_elected belt_elect_samples_by_class(
+    uint8_t set, uint8_t flag,
+    const struct belt_motion_sample *samples, size_t sample_count, const uint8_t *classes, size_t class_count);
 
 /* One number on the grid ('Grid').
    In: type 0 to 3, flag, slot 0 to 5 and any number. Out: the codable number nearest to it.
@@ -446,6 +480,63 @@ struct belt_report belt_job(
     const uint8_t *types, size_t type_count,
     const struct belt_stored_model *models, size_t number_count,
     const struct belt_stored_model *prior, size_t prior_number_count,
+    uint16_t *input_half, size_t input_half_pels,
+    uint16_t *ref_half, size_t ref_half_pels,
+    uint32_t *words, size_t word_room,
+    uint8_t *blocks, size_t blocks_room,
+    uint8_t *header, size_t header_room);
+
+/* A run of frames ('A run of frames'): the prior of each inter frame is the models of the frame before it, identity at
+   first and after a key frame. The run holds that prior, and the flag and the form given at its start. Each call takes
+   the run by value and answers the run to go on with: keep that, whatever the refusal. A refused call answers the run
+   that it was handed, good or bad; a refused start answers zeros, which every call refuses with 4.
+   A reader that is begun alike and handed, in the same order, the switches that were accepted and each accepted frame's
+   kind, start and header recovers the frame's models and ends with the same run.
+   A run with a bad flag or form is refused with 4, one whose prior is out of range with 8, at every call, of key frames
+   and switches too. A run that begins by belt_run_start and goes from answer to answer never meets either. */
+
+/* In: the flag, and the form, BELT_FORM_1 or BELT_FORM_2. Refuses: 4. */
+struct belt_moved belt_run_start(uint8_t flag, uint32_t form);
+
+/* Between two frames: BELT_TO_LOW_PRECISION and BELT_TO_HIGH_PRECISION set the flag, BELT_TO_FORM_2 goes over to form 2,
+   from which there is no way back; again is no fault. The prior stays. Refuses: 4, 8. */
+struct belt_moved belt_run_switch(struct belt_run run, uint8_t code);
+
+/* A frame of either kind, written as belt_encode_global_motion writes it, with the run's flag and prior; its models are
+   the next prior. Refuses: 2, 4, 14, 7, 8, 3; of a key frame 2, 4, 14, 7, 8. */
+struct belt_framed belt_run_frame(
+    struct belt_run run,
+    bool intra,
+    const uint8_t *types, size_t type_count,
+    const struct belt_stored_model *models, size_t number_count,
+    size_t start,
+    uint8_t *header, size_t header_room);
+
+/* Such a frame, read as belt_read_global_motion reads it, with the flag and prior of a run begun alike; the models read
+   are its next prior. Refuses: 4, 8, 9; of a key frame 4, 8. */
+struct belt_frame_models belt_run_read(
+    struct belt_run run, bool intra, const uint8_t *header, size_t header_bytes, size_t at);
+
+/* A frame's samples as blocks of the form held, else as by belt_write_frame; nothing in the run moves.
+   Refuses: 1, 2, 4, 8, 12, 13 (BELT_FILM in form 1), 3, 17 (also without words). */
+struct belt_stored belt_run_store(
+    struct belt_run run, uint16_t frame, const uint32_t *words, size_t word_count,
+    const uint8_t *classes, size_t class_count, uint8_t *blocks, size_t blocks_room);
+
+/* A whole job as an inter frame of the run: as belt_job, with the run's prior, flag and form. The flag of the settings
+   isn't looked at; the blocks' buffer needs belt_block_bytes of the samples in the form held. The seven models reported
+   are the next prior; what is refused, with 6 and 16 too, leaves the run as it was. A header is read back with the run
+   before the job.
+   Refuses: as belt_job, and 13 behind 8: a class that is BELT_FILM in form 1, whether it is named or not. */
+struct belt_job_done belt_run_job(
+    struct belt_run run,
+    const uint16_t *input, size_t input_pels,
+    const uint16_t *reference, size_t reference_pels,
+    size_t width, size_t height,
+    struct belt_settings settings,
+    const uint8_t *classes, size_t class_count,
+    const uint8_t *types, size_t type_count,
+    const struct belt_stored_model *models, size_t number_count,
     uint16_t *input_half, size_t input_half_pels,
     uint16_t *ref_half, size_t ref_half_pels,
     uint32_t *words, size_t word_room,

@@ -1,8 +1,8 @@
 /* Jobs of the three types on frames that this program computes: it prints each report and the header in
    hexadecimal, reads header and blocks back and compares, does the same work by the single calls, says what the
    motion is in pels, and prints the text of a block. Then it trims loose film away, has types elected, fits the belt
-   without the film, shows a pan beyond the search's range, and tries a refusal of each call. Ends with 1 where a call
-   refuses or something differs. It is C99, and C++11. */
+   without the film, records a run of frames and reads it back, shows a pan beyond the search's range, and tries a refusal
+   of each call. Ends with 1 where a call refuses or something differs. It is C99, and C++11. */
 #include <stdio.h>
 #include <stdlib.h>
 #include <string.h>
@@ -346,6 +346,31 @@ static void sets(void) {
                 elected.refusal == BELT_ACCEPTED && memcmp(elected.model.params, elections[i], sizeof elections[i]) == 0;
     }
     same(right, "fits, energies and elections by class");
+    struct belt_motion_sample eight_samples[8];
+    for (int i = 0; i < 8; i++)
+        eight_samples[i] = belt_motion_sample_of(eight[i]);
+    for (int i = 0; i < 4; i++) {
+        const struct belt_to_quantize to_quantize = {BELT_TRANSLATION, 1, {wanted[i][0], wanted[i][1]}};
+        const struct belt_to_trim codes = {BELT_TRANSLATION, 1};
+        struct belt_fit_answer fitted = belt_fit_samples_by_class(named[i], BELT_TRANSLATION, eight_samples, 8, lying, 8);
+        struct belt_quantized_model model = belt_quantize_samples_by_class(named[i], to_quantize, eight_samples, 8, lying, 8);
+        struct belt_score energy = belt_score_samples_by_class(named[i], still, eight_samples, 8, lying, 8);
+        struct belt_trimmed trimmed =
+            belt_fit_trimmed_samples_by_class(named[i], BELT_TRANSLATION, eight_samples, 8, lying, 8);
+        struct belt_trimmed_model trimmed_model =
+            belt_quantize_trimmed_samples_by_class(named[i], codes, eight_samples, 8, lying, 8);
+        struct belt_elected elected = belt_elect_samples_by_class(named[i], 1, eight_samples, 8, lying, 8);
+        right = right && fitted.refusal == BELT_ACCEPTED && memcmp(fitted.numbers, wanted[i], sizeof wanted[i]) == 0 &&
+                model.refusal == BELT_ACCEPTED && energy.refusal == BELT_ACCEPTED &&
+                memcmp(&energy.score, &energies[i], sizeof energies[i]) == 0 && trimmed.refusal == BELT_ACCEPTED &&
+                memcmp(trimmed.numbers, fitted.numbers, sizeof fitted.numbers) == 0 &&
+                trimmed_model.refusal == BELT_ACCEPTED && trimmed_model.used == trimmed.used &&
+                memcmp(&trimmed_model.model, &model.model, sizeof model.model) == 0 &&
+                elected.refusal == BELT_ACCEPTED && memcmp(elected.model.params, elections[i], sizeof elections[i]) == 0;
+    }
+    same(right, "fits, models, energies, trims and elections over samples by class");
+    wants("a set that is left 0, over samples",
+          belt_fit_samples_by_class(0, BELT_TRANSLATION, eight_samples, 8, lying, 8).refusal, BELT_NO_CLASS);
     struct belt_fit_answer none = belt_fit_by_class(1 << BELT_METAL, BELT_TRANSLATION, eight, 8, lying, 8);
     same(none.refusal == BELT_ACCEPTED && isnan(none.numbers[0]) && isnan(none.numbers[1]), "a fit of no metal");
     wants("a set that is left 0", belt_fit_by_class(0, BELT_TRANSLATION, eight, 8, lying, 8).refusal, BELT_NO_CLASS);
@@ -356,6 +381,96 @@ static void sets(void) {
           belt_fit_trimmed_by_class(1 << BELT_FIBRE, BELT_ROTZOOM, eight, 8, lying, 8).refusal, BELT_TOO_FEW);
     wants("a rotation-zoom of no metal", belt_fit_by_class(1 << BELT_METAL, BELT_ROTZOOM, eight, 8, lying, 8).refusal,
           BELT_SINGULAR);
+}
+
+/* Field by field: between them there may be bytes of no meaning. */
+static int same_run(struct belt_run a, struct belt_run b) {
+    return memcmp(a.prior, b.prior, sizeof a.prior) == 0 && a.flag == b.flag && a.form == b.form;
+}
+
+/* An inter frame with one translation at reference 1, written in the run and read by the reader; its bytes. */
+static void record(struct belt_run *writer, struct belt_run *reader, int32_t row, int32_t column) {
+    static const uint8_t types[BELT_REFERENCES] = {BELT_TRANSLATION};
+    struct belt_stored_model models[BELT_REFERENCES];
+    memcpy(models, prior, sizeof models);
+    models[0].params[0] = row;
+    models[0].params[1] = column;
+    uint8_t bytes[6];
+    memset(bytes, 0xff, sizeof bytes);
+    const struct belt_run before = *writer;
+    struct belt_framed framed =
+        belt_run_frame(*writer, false, types, BELT_REFERENCES, models, BELT_NUMBERS, 0, bytes, sizeof bytes);
+    *writer = framed.run;
+    printf("a frame of %ld, %ld:", (long)row, (long)column);
+    if (framed.written.refusal != BELT_ACCEPTED) {
+        printf(" refused %u, %s\n", (unsigned)framed.written.refusal, belt_refusal_text(framed.written.refusal));
+        same(same_run(*writer, before) && bytes[0] == 0xff, "the run and the bytes after a refusal");
+        return;
+    }
+    printf(" %u bits, %02X %02X %02X\n", (unsigned)framed.written.bits, bytes[0], bytes[1], bytes[2]);
+    struct belt_frame_models read = belt_run_read(*reader, false, bytes, sizeof bytes, 0);
+    *reader = read.run;
+    same(read.models.refusal == BELT_ACCEPTED && read.models.bits == framed.written.bits &&
+             memcmp(read.models.models, models, sizeof models) == 0 && same_run(*reader, *writer),
+         "its models read back");
+}
+
+static void go_over(struct belt_run *writer, struct belt_run *reader, uint8_t code) {
+    struct belt_moved moved = belt_run_switch(*writer, code);
+    refused("belt_run_switch", moved.refusal);
+    *writer = moved.run;
+    *reader = belt_run_switch(*reader, code).run;
+}
+
+static struct belt_job_done job_in(struct belt_run held, struct belt_settings settings) {
+    return belt_run_job(held, input, PELS, reference, PELS, WIDTH, HEIGHT, settings, classes, SAMPLES, other_types,
+                        BELT_OTHER_TYPES, prior, BELT_OTHER_NUMBERS, input_half, HALF, ref_half, HALF, words, SAMPLES,
+                        blocks, BLOCKS, header, BELT_HEADER_BYTES);
+}
+
+/* A run of frames ('A run of frames'), and a reader beside it: frames, switches and a key frame; then film, which form 1
+   can't hold, is stored and measured after going over to form 2. */
+static void recording(struct belt_settings settings) {
+    static const uint8_t still[BELT_REFERENCES] = {0}, film[1] = {BELT_FILM}, metal[1] = {BELT_METAL};
+    static const uint32_t word[1] = {0x0006FB7C};
+    uint8_t block[BELT_BLOCK_BYTES];
+    struct belt_moved begun = belt_run_start(BELT_HIGH_PRECISION, BELT_FORM_1);
+    refused("belt_run_start", begun.refusal);
+    struct belt_run run = begun.run, reader = begun.run;
+    record(&run, &reader, 8192, -8192);
+    record(&run, &reader, 8192, -8192);
+    go_over(&run, &reader, BELT_TO_LOW_PRECISION);
+    record(&run, &reader, 24576, -8192);
+    record(&run, &reader, 16384, -16384);
+    struct belt_framed key = belt_run_frame(run, true, still, BELT_REFERENCES, prior, BELT_NUMBERS, 2, header, 0);
+    refused("belt_run_frame", key.written.refusal);
+    run = key.run;
+    reader = belt_run_read(reader, true, header, 0, 2).run;
+    same(key.written.bits == 0 && same_run(run, reader) && memcmp(run.prior, prior, sizeof run.prior) == 0,
+         "a key frame's prior, identity");
+
+    wants("film in a run of form 1", belt_run_store(run, 5, word, 1, film, 1, block, sizeof block).refusal, BELT_NOT_HELD);
+    refused("belt_run_store", belt_run_store(run, 5, word, 1, metal, 1, block, sizeof block).refusal);
+    same(block[2] == BELT_FORM_1 && block[11] == 0x7f && block[511] == 0x81, "metal in form 1");
+    struct belt_job_done done = job_in(run, settings);
+    wants("a job with film in a run of form 1", done.report.refusal, BELT_NOT_HELD);
+    same(same_run(done.run, run), "the run after a refused job");
+    go_over(&run, &reader, BELT_TO_FORM_2);
+    done = job_in(run, settings);
+    refused("belt_run_job", done.report.refusal);
+    struct belt_frame_models read = belt_run_read(reader, false, header, sizeof header, settings.start);
+    same(read.models.refusal == BELT_ACCEPTED && same_run(read.run, done.run) && blocks[2] == BELT_FORM_2 &&
+             memcmp(read.models.models, done.report.models, sizeof read.models.models) == 0 &&
+             memcmp(done.run.prior, done.report.models, sizeof done.run.prior) == 0,
+         "a job in a run, and the run after it");
+
+    wants("a run of form 3", belt_run_start(BELT_HIGH_PRECISION, 3).refusal, BELT_NO_SUCH_CODE);
+    wants("a switch by code 3", belt_run_switch(run, 3).refusal, BELT_NO_SUCH_CODE);
+    run.prior[0].params[0] = 4194305;
+    wants("a switch of a run whose prior is out of range", belt_run_switch(run, BELT_TO_FORM_2).refusal, BELT_PRIOR_OUT);
+    wants("a key frame of it", belt_run_frame(run, true, still, 7, prior, 42, 0, header, 0).written.refusal,
+          BELT_PRIOR_OUT);
+    wants("a key frame read with it", belt_run_read(run, true, header, 0, 0).models.refusal, BELT_PRIOR_OUT);
 }
 
 /* A pan by 40 columns is beyond the range: no row refuses it, but few samples agree. */
@@ -498,6 +613,7 @@ int main(void) {
     electing(settings);
     without_film(settings);
     sets();
+    recording(settings);
     too_far(settings);
     refusals(settings);
     roots();

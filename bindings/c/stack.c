@@ -23,12 +23,13 @@ enum {
 };
 
 static const struct belt_stored_model identity = {BELT_IDENTITY_PARAMS};
-static const uint8_t other_types[BELT_OTHER_TYPES] = {0};
+static const uint8_t other_types[BELT_REFERENCES] = {0};
 static struct belt_stored_model prior[BELT_REFERENCES];
 static uint16_t input[PELS], reference[PELS], input_half[HALF], ref_half[HALF];
 static uint32_t words[SAMPLES];
 static uint8_t classes[SAMPLES], blocks[BLOCKS], header[BELT_HEADER_BYTES];
 static struct belt_motion_sample samples[SAMPLES];
+static struct belt_run run;
 
 static uint8_t stack[STACK];
 static ucontext_t own, painted;
@@ -44,9 +45,25 @@ static void job(uint8_t trim, uint8_t elect) {
                   .refusal;
 }
 
+static void job_in_run(uint8_t trim, uint8_t elect) {
+    struct belt_settings settings = {1, BELT_AFFINE, 1, BELT_HIGH_PRECISION, trim, elect, BELT_ALL_CLASSES, 0};
+    refusal = belt_run_job(run, input, PELS, reference, PELS, WIDTH, HEIGHT, settings, classes, SAMPLES, other_types,
+                           BELT_OTHER_TYPES, prior, BELT_OTHER_NUMBERS, input_half, HALF, ref_half, HALF, words,
+                           SAMPLES, blocks, BLOCKS, header, BELT_HEADER_BYTES)
+                  .report.refusal;
+}
+
 static void plain_job(void) { job(BELT_ALL_SAMPLES, BELT_ASKED_TYPE); }
 static void trimming_job(void) { job(BELT_TRIM, BELT_ASKED_TYPE); }
 static void electing_job(void) { job(BELT_ALL_SAMPLES, BELT_ELECT); }
+static void plain_job_in_run(void) { job_in_run(BELT_ALL_SAMPLES, BELT_ASKED_TYPE); }
+static void trimming_job_in_run(void) { job_in_run(BELT_TRIM, BELT_ASKED_TYPE); }
+static void electing_job_in_run(void) { job_in_run(BELT_ALL_SAMPLES, BELT_ELECT); }
+static void frame_in_run(void) {
+    refusal = belt_run_frame(run, false, other_types, BELT_REFERENCES, prior, BELT_NUMBERS, 0, header,
+                             BELT_HEADER_BYTES)
+                  .written.refusal;
+}
 static void fit_trimmed(void) { refusal = belt_fit_trimmed(BELT_AFFINE, words, SAMPLES).refusal; }
 static void quantize_trimmed(void) {
     refusal = belt_quantize_trimmed(BELT_AFFINE, BELT_HIGH_PRECISION, words, SAMPLES).refusal;
@@ -65,6 +82,15 @@ static void fit_trimmed_samples(void) {
     refusal = belt_fit_trimmed_samples(samples, SAMPLES, BELT_AFFINE).refusal;
 }
 static void elect_samples(void) { refusal = belt_elect_samples(samples, SAMPLES, BELT_HIGH_PRECISION).refusal; }
+static void fit_samples_by_class(void) {
+    refusal = belt_fit_samples_by_class(BELT_ALL_CLASSES, BELT_AFFINE, samples, SAMPLES, classes, SAMPLES).refusal;
+}
+static void fit_trimmed_samples_by_class(void) {
+    refusal = belt_fit_trimmed_samples_by_class(BELT_ALL_CLASSES, BELT_AFFINE, samples, SAMPLES, classes, SAMPLES).refusal;
+}
+static void elect_samples_by_class(void) {
+    refusal = belt_elect_samples_by_class(BELT_ALL_CLASSES, BELT_HIGH_PRECISION, samples, SAMPLES, classes, SAMPLES).refusal;
+}
 
 static const struct {
     const char *name;
@@ -74,6 +100,10 @@ static const struct {
     {"a job", plain_job, 40},
     {"a job that trims", trimming_job, 70},
     {"a job that elects", electing_job, 90},
+    {"a job in a run", plain_job_in_run, 40},
+    {"a job in a run that trims", trimming_job_in_run, 75},
+    {"a job in a run that elects", electing_job_in_run, 90},
+    {"belt_run_frame", frame_in_run, 5},
     {"belt_fit_trimmed", fit_trimmed, 60},
     {"belt_quantize_trimmed", quantize_trimmed, 60},
     {"belt_elect", elect, 60},
@@ -82,6 +112,9 @@ static const struct {
     {"belt_elect_by_class", elect_by_class, 70},
     {"belt_fit_trimmed_samples", fit_trimmed_samples, 170},
     {"belt_elect_samples", elect_samples, 170},
+    {"belt_fit_samples_by_class", fit_samples_by_class, 1},
+    {"belt_fit_trimmed_samples_by_class", fit_trimmed_samples_by_class, 170},
+    {"belt_elect_samples_by_class", elect_samples_by_class, 170},
 };
 
 /* The bytes from the stack's upper end down to the last one that was written. */
@@ -109,6 +142,7 @@ int main(void) {
         prior[r] = identity;
     if (belt_make_practice_planes(1, WIDTH, HEIGHT, 2, 3, input, PELS, reference, PELS).refusal != BELT_ACCEPTED)
         return 1;
+    run = belt_run_start(BELT_HIGH_PRECISION, BELT_FORM_1).run;
     plain_job();
     for (size_t i = 0; i < SAMPLES; i++)
         samples[i] = belt_motion_sample_of(words[i]);

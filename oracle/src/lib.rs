@@ -8,6 +8,7 @@ pub mod list;
 mod ported;
 pub mod practice;
 pub mod rows;
+pub mod run;
 pub mod shear_files;
 mod stand_ins;
 
@@ -114,6 +115,12 @@ impl Samples {
         Self(global_motion::samples(named.map(|(&word, _)| sample_of(word))))
     }
 
+    /// Those whose class is a bit of the set; classes are 0 to 4.
+    pub fn of_classes(&self, set: u8, classes: &[u8]) -> Self {
+        let named = self.0.iter().zip(classes).filter(|&(_, &class)| set >> class & 1 == 1);
+        Self(named.map(|(&sample, _)| sample).collect())
+    }
+
     pub fn fit(&self, kind: u8) -> Option<[f64; 6]> {
         assert_ne!(kind, 0, "IDENTITY has no fit");
         global_motion::fit(type_of(kind), &self.0).map(|m| m.map(canonical))
@@ -206,6 +213,20 @@ pub fn elect_or_row(high: bool, samples: &[[f64; 4]]) -> Result<Elected, u32> {
         return Err(NOT_FINITE);
     }
     Ok(Samples::new(samples).elect(high))
+}
+
+/// The fit of a job that doesn't elect, on the grid and as stored, after trimming or of all samples.
+pub fn own_model(kind: u8, high: bool, trims: bool, samples: &[[f64; 4]]) -> Result<Elected, u32> {
+    let model = match trims {
+        true => trimmed(kind, high, samples).map(|trimmed| trimmed.params),
+        false => fit(kind, samples).map(|fitted| quantize_model(&fitted, kind, high, samples)),
+    };
+    let mut params = model.ok_or(SINGULAR)?;
+    let score = score(&params, samples);
+    if kind == 1 {
+        params.swap(0, 1);
+    }
+    Ok(Elected { kind, params, score })
 }
 
 /// A TRANSLATION is stored row first.

@@ -1,5 +1,6 @@
 //! What the list makers share: the generator of inputs and the binary form of a list.
 
+use crate::{IDENTITY, Models, quantize_global_param};
 use std::{fs, io, path::Path};
 
 /// The samples of the longest list.
@@ -37,6 +38,17 @@ pub fn loose_words(lcg: &mut Lcg, count: usize, loose: u16) -> Vec<u32> {
     (0..count).map(word).collect()
 }
 
+/// Smooth, and nowhere the same along a line, so that every block's place can be found; each pel is the bowl's at the
+/// place that is given for its row and column, clamped.
+pub fn bowl(width: usize, height: usize, place: impl Fn(i32, i32) -> (i32, i32)) -> Vec<u16> {
+    let pel = |i: usize| {
+        let (r, c) = place((i / width) as i32, (i % width) as i32);
+        let (r, c) = (r.clamp(0, height as i32 - 1), c.clamp(0, width as i32 - 1));
+        ((r - 31).pow(2) + 2 * (c - 29).pow(2)) as u16
+    };
+    (0..width * height).map(pel).collect()
+}
+
 /// The generator of inputs, which a replay program can run too.
 pub struct Lcg(pub u32);
 
@@ -66,6 +78,47 @@ impl Lcg {
     pub fn plane(&mut self, width: usize, height: usize, mask: u16) -> Vec<u16> {
         (0..width * height).map(|_| self.step() & mask).collect()
     }
+
+    /// Seven models on the grid, of types drawn at random.
+    pub fn models(&mut self, high: bool) -> ([u8; 7], Models) {
+        let types = std::array::from_fn(|_| self.below(4) as u8);
+        let params = std::array::from_fn(|i| {
+            let mut model = IDENTITY;
+            let slots: &[usize] = match types[i] {
+                0 => &[],
+                1 => &[0, 1],
+                2 => &[0, 1, 2, 3],
+                _ => &[0, 1, 2, 3, 4, 5],
+            };
+            for &slot in slots {
+                let reach = if slot < 2 { 4_300_000 } else { 8_400 };
+                let value = IDENTITY[slot] + self.word() as i32 % reach;
+                model[slot] = quantize_global_param(types[i], high, slot, value);
+            }
+            if types[i] == 2 {
+                model[4] = -model[3];
+                model[5] = model[2];
+            }
+            model
+        });
+        (types, params)
+    }
+
+    /// A prior anywhere in range, its ends now and then.
+    pub fn prior(&mut self) -> Models {
+        std::array::from_fn(|_| {
+            std::array::from_fn(|slot| {
+                let reach: i32 = if slot < 2 { 4_194_304 } else { 8_192 };
+                let offset = match self.below(8) {
+                    0 => reach,
+                    1 => -reach,
+                    2 => 0,
+                    _ => self.word() as i32 % (reach + 1),
+                };
+                IDENTITY[slot] + offset
+            })
+        })
+    }
 }
 
 /// A sum of pels that depends on their order.
@@ -93,6 +146,20 @@ impl List {
     /// Two words, the high one first; a not-a-number as `canonical` gives it.
     pub fn push_float(&mut self, value: f64) {
         self.0.extend(crate::canonical(value).to_bits().to_be_bytes());
+    }
+
+    /// Bytes as words, zeros up to a whole one.
+    pub fn push_bytes(&mut self, bytes: &[u8]) {
+        for part in bytes.chunks(4) {
+            let mut word = [0; 4];
+            word[..part.len()].copy_from_slice(part);
+            self.push(u32::from_be_bytes(word));
+        }
+    }
+
+    /// Bytes as they are.
+    pub fn push_raw(&mut self, bytes: &[u8]) {
+        self.0.extend(bytes);
     }
 
     /// Writes the list to a file, in a folder that is made if need be.

@@ -43,6 +43,8 @@ IDENTITY, TRANSLATION, ROTZOOM, AFFINE = range(4)
 UNSORTED, FIBRE, RIGID_PLASTIC, METAL, FILM = range(5)
 CLASSES = ("unsorted", "fibre", "rigid plastic", "metal", "film")
 ALL_CLASSES = 31
+# The switch codes of a run.
+TO_LOW_PRECISION, TO_HIGH_PRECISION, TO_FORM_2 = range(3)
 
 _ONE = 65536
 
@@ -51,7 +53,7 @@ REFUSALS = {
     1: "side over 1,024, or over 4,096 samples",
     18: "motion of a practice belt beyond 24 pels",
     2: "plane, class, type, model or prior list of wrong length",
-    4: "type, class, flag, trim or elect code out of range; set that names a class over 4; type 0 for a fit",
+    4: "type, class, flag, form, trim, elect or switch code out of range; class over 4 in a set; type 0 to fit",
     19: "empty set of classes",
     5: "slot over 5, or to price one that the type doesn't carry; reference outside 1 to 7",
     14: "start of a header to write over 7",
@@ -376,12 +378,19 @@ def _models(numbers):
     return tuple(StoredModel(numbers[i : i + 6]) for i in range(0, 42, 6))
 
 
-def _call(name, *arguments):
+def _answer(name, *arguments):
     flat = [part for argument in arguments for part in (argument if isinstance(argument, list) else [argument])]
-    answer = getattr(_raw.library, name)(*flat)
+    return getattr(_raw.library, name)(*flat)
+
+
+def _accepted(answer):
     if answer.refusal:
         raise Refusal(answer.refusal)
     return answer
+
+
+def _call(name, *arguments):
+    return _accepted(_answer(name, *arguments))
 
 
 def collect_motion_samples(input_y, ref_y, width, height, classes, input_half, ref_half, words):
@@ -568,6 +577,54 @@ def mean_sq_residual_samples(model, samples):
     return _call("belt_mean_sq_residual_samples", _samples(samples), params).score
 
 
+def _lent(samples, classes):
+    """Samples and a class for each."""
+    return _samples(samples) + _list(classes, c_uint8, "classes")
+
+
+def fit_samples_by_class(classes_named, gm_type, samples, classes):
+    """As fit_by_class, over samples: four numbers x, y, u, v each, of any value. Refuses 1, 2, 4, 19, 6."""
+    codes = set_of(classes_named), _code(gm_type, "gm_type")
+    answer = _call("belt_fit_samples_by_class", *codes, _lent(samples, classes))
+    return Fitted(gm_type, tuple(answer.numbers))
+
+
+def quantize_samples_by_class(classes_named, fitted, flag, samples, classes):
+    """As quantize_by_class, over samples: four numbers x, y, u, v each, of any value. Refuses 1, 2, 4, 19."""
+    numbers = (c_double * 6)(*fitted.numbers)
+    model = _raw.ToQuantize(_code(fitted.gm_type, "gm_type"), _code(flag, "flag"), numbers)
+    return Model(_call("belt_quantize_samples_by_class", set_of(classes_named), model, _lent(samples, classes)).params)
+
+
+def score_samples_by_class(classes_named, model, samples, classes):
+    """As score_by_class, over samples: four numbers x, y, u, v each, of any value. Refuses 1, 2, 4, 19."""
+    if not isinstance(model, Model):
+        raise TypeError(f"model: Model is wanted, not {type(model).__name__}")
+    params = _raw.Params((c_int32 * 6)(*map(_signed, model)))
+    return _call("belt_score_samples_by_class", set_of(classes_named), params, _lent(samples, classes)).score
+
+
+def fit_trimmed_samples_by_class(classes_named, gm_type, samples, classes):
+    """As fit_trimmed_by_class, over samples: four numbers x, y, u, v each, of any value. Refuses 1, 2, 4, 19, 15, 6, 16, and
+    6 of the second fit."""
+    codes = set_of(classes_named), _code(gm_type, "gm_type")
+    answer = _call("belt_fit_trimmed_samples_by_class", *codes, _lent(samples, classes))
+    return Trimmed(Fitted(gm_type, tuple(answer.numbers)), answer.used)
+
+
+def quantize_trimmed_samples_by_class(classes_named, gm_type, flag, samples, classes):
+    """The same on the grid of a flag, its translation fitted again to the samples used: a TrimmedModel."""
+    codes = _raw.ToTrim(_code(gm_type, "gm_type"), _code(flag, "flag"))
+    answer = _call("belt_quantize_trimmed_samples_by_class", set_of(classes_named), codes, _lent(samples, classes))
+    return TrimmedModel(Model(answer.params), answer.used)
+
+
+def elect_samples_by_class(classes_named, flag, samples, classes):
+    """As elect_by_class, over samples: four numbers x, y, u, v each, of any value. Refuses 1, 2, 4, 19, 16."""
+    codes = set_of(classes_named), _code(flag, "flag")
+    return _elected(_call("belt_elect_samples_by_class", *codes, _lent(samples, classes)))
+
+
 def quantize_global_param(gm_type, flag, slot, value):
     """The codable number nearest to a value ('Grid'). Refuses 4, 5."""
     codes = _code(gm_type, "gm_type"), _code(flag, "flag"), _code(slot, "slot")
@@ -705,12 +762,22 @@ def job(input_y, reference, width, height, settings, classes, buffers, types=(0,
     are in their buffers; blocks and header are as they were. A job that elects has type, model and score of elect_by_class
     over its words, and isn't refused with 15 or 6.
     """
+    report = _call(
+        "belt_job",
+        *_asked(input_y, reference, width, height, settings, classes, types, models),
+        _numbers(prior, "prior"),
+        *_lent_buffers(buffers),
+    )
+    return _report(report)
+
+
+def _asked(input_y, reference, width, height, settings, classes, types, models):
+    """What a job is handed but for its prior."""
     frame = _code(settings.frame, "frame", 65535)
     codes = [_code(code, name) for code, name in zip(settings[1:4], ("gm_type", "reference", "flag"))]
     trim, elected = _code(settings.trim, "trim"), _code(settings.elect, "elect")
     start = _code(settings.start, "start", 2**64 - 1)
-    report = _call(
-        "belt_job",
+    return (
         _list(input_y, c_uint16, "input_y"),
         _list(reference, c_uint16, "reference"),
         width,
@@ -719,14 +786,130 @@ def job(input_y, reference, width, height, settings, classes, buffers, types=(0,
         _list(classes, c_uint8, "classes"),
         _list(types, c_uint8, "types"),
         _numbers(IDENTITIES[:6] if models is None else models, "models"),
-        _numbers(prior, "prior"),
+    )
+
+
+def _lent_buffers(buffers):
+    """What a job is lent."""
+    return (
         _list(buffers.input_half, c_uint16, "input_half", True),
         _list(buffers.ref_half, c_uint16, "ref_half", True),
         _list(buffers.words, c_uint32, "words", True),
         _list(buffers.blocks, c_uint8, "blocks", True),
         _list(buffers.header, c_uint8, "header", True),
     )
+
+
+def _report(report):
     return Report(tuple(report.types), _models(report.models), report.score, report.bits, report.samples)
+
+
+class _Held:
+    """The prior of the next inter frame, the flag and the form: what a run and its reader have alike."""
+
+    def __init__(self, flag, form):
+        """Begins with a flag, 0 or 1, and a form, 1 or 2; the first prior is identity. Refuses 4."""
+        codes = _code(flag, "flag"), _code(form, "form", 2**32 - 1)
+        self._run = _call("belt_run_start", *codes).run
+
+    @classmethod
+    def of_parts(cls, prior, flag, form):
+        """One that was kept elsewhere; each call judges it (4, 8)."""
+        numbers, count = _numbers(prior, "prior")
+        if count != 42:
+            raise ValueError(f"prior: 7 models are wanted, not {count // 6}")
+        held = cls.__new__(cls)
+        held._run = _raw.Run(numbers, _code(flag, "flag"), _code(form, "form", 2**32 - 1))
+        return held
+
+    @property
+    def prior(self):
+        """Seven StoredModels."""
+        return _models(self._run.prior)
+
+    @property
+    def flag(self):
+        return self._run.flag
+
+    @property
+    def form(self):
+        return self._run.form
+
+    def _parts(self):
+        return tuple(self._run.prior), self.flag, self.form
+
+    def __eq__(self, other):
+        return type(self) is type(other) and self._parts() == other._parts()
+
+    __hash__ = None
+
+    def __repr__(self):
+        return f"{type(self).__name__}.of_parts({self.prior}, {self.flag}, {self.form})"
+
+    def _step(self, answer, judged):
+        """Takes the answer's run, which is this one where the call refused."""
+        self._run = answer.run
+        return _accepted(judged)
+
+    def switch(self, code):
+        """Between two frames: TO_LOW_PRECISION, TO_HIGH_PRECISION or TO_FORM_2, from which there is no way back; the prior
+        stays. Refuses 4, 8."""
+        moved = _answer("belt_run_switch", self._run, _code(code, "code"))
+        self._step(moved, moved)
+
+
+class Run(_Held):
+    """A run of frames that is recorded ('A run of frames'): Run(flag, form) holds the prior of the next inter frame, the
+    flag and the form. An accepted frame's or job's models become the prior; a refused call leaves the run as it was."""
+
+    def frame(self, intra, types, models, start, header):
+        """Writes a frame of either kind, as encode_global_motion does with the run's flag and prior; answers how many bits.
+        Refuses 2, 4, 14, 7, 8, 3; of a key frame 2, 4, 14, 7, 8."""
+        framed = _answer(
+            "belt_run_frame",
+            self._run,
+            bool(intra),
+            _list(types, c_uint8, "types"),
+            _numbers(models, "models"),
+            _code(start, "start", 2**64 - 1),
+            _list(header, c_uint8, "header", True),
+        )
+        return self._step(framed, framed.written).bits
+
+    def store(self, frame, words, classes, blocks):
+        """Stores a frame's words and classes in the form held, as write_frame does in form 2; answers how many blocks. The
+        run stays. Refuses 1, 2, 4, 8, 12, 13, 3, 17."""
+        return _call(
+            "belt_run_store",
+            self._run,
+            _code(frame, "frame", 65535),
+            _list(words, c_uint32, "words"),
+            _list(classes, c_uint8, "classes"),
+            _list(blocks, c_uint8, "blocks", True),
+        ).blocks
+
+    def job(self, input_y, reference, width, height, settings, classes, buffers, types=(0,) * 6, models=None):
+        """Runs a whole job as an inter frame, with the run's prior, flag and form; the flag of the settings isn't looked
+        at. Refuses as job does, and 13 behind 8: a class 4 in form 1."""
+        done = _answer(
+            "belt_run_job",
+            self._run,
+            *_asked(input_y, reference, width, height, settings, classes, types, models),
+            *_lent_buffers(buffers),
+        )
+        return _report(self._step(done, done.report))
+
+
+class RunReader(_Held):
+    """The reader of a Run: begun alike, and given in the same order the switches and the frames that were accepted, it gives
+    each frame's models; a refused call leaves it as it was."""
+
+    def read(self, intra, header, at):
+        """Reads a frame of either kind from a bit of its header on, Models. Refuses 4, 8, 9; of a key frame 4, 8."""
+        header = _list(header, c_uint8, "header")
+        read = _answer("belt_run_read", self._run, bool(intra), header, _code(at, "at", 2**64 - 1))
+        models = self._step(read, read.models)
+        return Models(tuple(models.types), _models(models.params), models.bits)
 
 
 def setup_shear(gm_type, params):

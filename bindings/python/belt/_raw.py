@@ -125,6 +125,26 @@ class Report(ctypes.Structure):
     ]
 
 
+class Run(ctypes.Structure):
+    _fields_ = [("prior", c_int32 * 42), ("flag", c_uint8), ("form", c_uint32)]
+
+
+class Moved(ctypes.Structure):
+    _fields_ = [("refusal", c_uint32), ("run", Run)]
+
+
+class Framed(ctypes.Structure):
+    _fields_ = [("written", Written), ("run", Run)]
+
+
+class FrameModels(ctypes.Structure):
+    _fields_ = [("models", Models), ("run", Run)]
+
+
+class JobDone(ctypes.Structure):
+    _fields_ = [("report", Report), ("run", Run)]
+
+
 def _list(element):
     """A list passes as a pointer and a count."""
     return [POINTER(element), c_size_t]
@@ -164,6 +184,12 @@ CALLS = {
     "belt_fit_trimmed_samples": (_SAMPLES + [c_uint8], Trimmed),
     "belt_quantize_trimmed_samples": (_SAMPLES + [ToTrim], TrimmedModel),
     "belt_elect_samples": (_SAMPLES + [c_uint8], Elected),
+    "belt_fit_samples_by_class": ([c_uint8, c_uint8] + _SAMPLES + _BYTES, FitAnswer),
+    "belt_quantize_samples_by_class": ([c_uint8, ToQuantize] + _SAMPLES + _BYTES, QuantizedModel),
+    "belt_score_samples_by_class": ([c_uint8, Params] + _SAMPLES + _BYTES, Score),
+    "belt_fit_trimmed_samples_by_class": ([c_uint8, c_uint8] + _SAMPLES + _BYTES, Trimmed),
+    "belt_quantize_trimmed_samples_by_class": ([c_uint8, ToTrim] + _SAMPLES + _BYTES, TrimmedModel),
+    "belt_elect_samples_by_class": ([c_uint8, c_uint8] + _SAMPLES + _BYTES, Elected),
     "belt_quantize_global_param": ([c_uint8, c_uint8, c_uint8, c_int32], QuantizedParam),
     "belt_write_frame": ([c_uint16] + _WORDS + _BYTES + _BYTES, Stored),
     "belt_read_both": (_BYTES + _WORDS + _BYTES, FrameRead),
@@ -195,6 +221,26 @@ CALLS = {
         + _BYTES
         + _BYTES,
         Report,
+    ),
+    "belt_run_start": ([c_uint8, c_uint32], Moved),
+    "belt_run_switch": ([Run, c_uint8], Moved),
+    "belt_run_frame": ([Run, c_bool] + _BYTES + _NUMBERS + [c_size_t] + _BYTES, Framed),
+    "belt_run_read": ([Run, c_bool] + _BYTES + [c_size_t], FrameModels),
+    "belt_run_store": ([Run, c_uint16] + _WORDS + _BYTES + _BYTES, Stored),
+    "belt_run_job": (
+        [Run]
+        + _PELS
+        + _PELS
+        + [c_size_t, c_size_t, Settings]
+        + _BYTES
+        + _BYTES
+        + _NUMBERS
+        + _PELS
+        + _PELS
+        + _WORDS
+        + _BYTES
+        + _BYTES,
+        JobDone,
     ),
 }
 

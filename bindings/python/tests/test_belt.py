@@ -300,6 +300,31 @@ class Sets(unittest.TestCase):
                     self.assertEqual((elected.gm_type, elected.model[:2]), (int(any(stored)), stored))
                     self.assertEqual(elected.score, 0.0 if any(stored) else energy)
 
+    def test_samples(self):
+        """Samples that are made from words have the words' answers, whatever stands in those that aren't named."""
+        made = [belt.sample_of(word)[2:6] for word in self.WORDS]
+        strange = (math.nan, math.inf, -0.0, 1e300)
+        for named in ([belt.FIBRE], [belt.FILM], [belt.FIBRE, belt.FILM], [belt.METAL], belt.ALL_CLASSES):
+            bits = belt.set_of(named)
+            others = [x if bits >> kind & 1 else strange for x, kind in zip(made, self.CLASSES)]
+            lists, still = (self.WORDS, self.CLASSES), Model(belt.STILL)
+            for samples in (made, others):
+                lent = samples, self.CLASSES
+                with self.subTest(named=named):
+                    fitted = belt.fit_samples_by_class(named, 1, *lent)
+                    self.assertEqual(str(fitted), str(belt.fit_by_class(named, 1, *lists)))
+                    model = belt.quantize_samples_by_class(named, fitted, 1, *lent)
+                    self.assertEqual(model, belt.quantize_by_class(named, fitted, 1, *lists))
+                    score = belt.score_samples_by_class(named, still, *lent)
+                    self.assertEqual(score, belt.score_by_class(named, still, *lists))
+                    elected = belt.elect_samples_by_class(named, 1, *lent)
+                    self.assertEqual(elected, belt.elect_by_class(named, 1, *lists))
+                    if named != [belt.METAL]:
+                        trimmed = belt.fit_trimmed_samples_by_class(named, 1, *lent)
+                        self.assertEqual(trimmed, belt.fit_trimmed_by_class(named, 1, *lists))
+                        trimmed = belt.quantize_trimmed_samples_by_class(named, 1, 0, *lent)
+                        self.assertEqual(trimmed, belt.quantize_trimmed_by_class(named, 1, 0, *lists))
+
     def test_a_class_without_samples(self):
         named = [belt.METAL]
         fitted = belt.fit_by_class(named, 1, self.WORDS, self.CLASSES)
@@ -558,6 +583,39 @@ class Refusals(Refused):
                     self.refused(15, call, [belt.FIBRE], words(9), film)
                 else:
                     call([belt.FIBRE], words(9), film)
+        lent = {
+            "fit": lambda named, *lists: belt.fit_samples_by_class(named, 1, *lists),
+            "quantize": lambda named, *lists: belt.quantize_samples_by_class(named, unmoved(1), 1, *lists),
+            "score": lambda named, *lists: belt.score_samples_by_class(named, Model(belt.STILL), *lists),
+            "fit_trimmed": lambda named, *lists: belt.fit_trimmed_samples_by_class(named, 1, *lists),
+            "quantize_trimmed": lambda named, *lists: belt.quantize_trimmed_samples_by_class(named, 1, 1, *lists),
+            "elect": lambda named, *lists: belt.elect_samples_by_class(named, 1, *lists),
+        }
+        samples = [(1.0, 2.0, 3.0, 4.0)] * 4097
+        for name, call in lent.items():
+            with self.subTest(call=name, over="samples"):
+                self.refused(1, call, (), samples, film)
+                self.refused(2, call, (), samples[:9], film[1:])
+                self.refused(4, call, (), samples[:9], film[1:] + b"\x05")
+                self.refused(4, call, [belt.FILM, 5], samples[:9], film)
+                self.refused(19, call, (), samples[:9], film)
+                call([belt.FILM], samples[:9], film)
+                if "trimmed" in name:
+                    self.refused(15, call, [belt.FIBRE], samples[:9], film)
+                else:
+                    call([belt.FIBRE], samples[:9], film)
+        for named in ((), belt.ALL_CLASSES):
+            self.refused(4, belt.fit_samples_by_class, named, 0, samples[:9], film)
+            self.refused(4, belt.quantize_samples_by_class, named, unmoved(3), 2, samples[:9], film)
+            self.refused(4, belt.fit_trimmed_samples_by_class, named, 4, samples[:9], film)
+            self.refused(4, belt.quantize_trimmed_samples_by_class, named, 3, 2, samples[:9], film)
+            self.refused(4, belt.elect_samples_by_class, named, 2, samples[:9], film)
+        far = [(0.0, 0.0, 1e200, 0.0)] + samples[:4]
+        classes = bytes([belt.FILM] + [belt.FIBRE] * 4)
+        self.refused(16, belt.fit_trimmed_samples_by_class, belt.ALL_CLASSES, 1, far, classes)
+        self.assertEqual(belt.fit_trimmed_samples_by_class([belt.FIBRE], 1, far, classes).used, 4)
+        self.refused(16, belt.elect_samples_by_class, belt.ALL_CLASSES, 1, far, classes)
+        self.assertEqual(belt.elect_samples_by_class([belt.FIBRE], 1, far, classes).gm_type, 1)
         for named in ((), belt.ALL_CLASSES):
             self.refused(4, belt.fit_by_class, named, 0, words(9), film)
             self.refused(4, belt.quantize_by_class, named, unmoved(3), 2, words(9), film)
@@ -761,6 +819,117 @@ class Refusals(Refused):
         self.refused(8, belt.read_global_motion_params, header, 0, 1, out)
         self.refused(9, belt.read_global_motion_params, b"", 0, 1, IDENTITIES)
         self.refused(9, belt.read_global_motion_params, header, 2**64 - 1, 1, IDENTITIES)
+
+
+class Runs(Refused):
+    """Runs of frames ('A run of frames'): the values of docs/RULES.md, the rows, and a reader begun alike."""
+
+    TYPES = bytes([1, 0, 0, 0, 0, 0, 0])
+
+    @staticmethod
+    def moving(row, column):
+        return (StoredModel((row, column, 65536, 0, 0, 65536)),) + IDENTITIES[1:]
+
+    def same(self, run, reader):
+        self.assertEqual((run.prior, run.flag, run.form), (reader.prior, reader.flag, reader.form))
+
+    def frame(self, run, reader, models, types=TYPES, intra=False, start=0):
+        header = bytearray(b"\xff" * 6)
+        bits = run.frame(intra, types, models, start, header)
+        read = reader.read(intra, header, start)
+        self.assertEqual((read.types, read.models, read.bits), (tuple(types), tuple(models), bits))
+        self.assertEqual(run.prior, tuple(models))
+        self.same(run, reader)
+        self.assertEqual(header[3:], b"\xff" * 3)
+        return header[:3].hex().upper()
+
+    def test_a_recording(self):
+        run, reader = belt.Run(1, 1), belt.RunReader(1, 1)
+        p, q = self.moving(8192, -8192), self.moving(16384, -16384)
+        turned = (IDENTITIES[0], StoredModel((1024, 0, 65538, 2, -2, 65538))) + IDENTITIES[2:]
+        self.assertEqual(self.frame(run, reader, p), "A42000")
+        self.assertEqual(self.frame(run, reader, p), "A00000")
+        self.assertEqual(self.frame(run, reader, turned, bytes([0, 2, 0, 0, 0, 0, 0])), "644400")
+        self.assertEqual(self.frame(run, reader, p), "A42000")
+        for each in (run, reader):
+            each.switch(belt.TO_LOW_PRECISION)
+        before, header = belt.Run.of_parts(run.prior, run.flag, run.form), bytearray(b"\xff" * 6)
+        self.assertEqual(run, before)
+        self.refused(7, run.frame, False, self.TYPES, self.moving(24576, -8192), 0, header)
+        self.refused(4, run.switch, 3)
+        self.assertEqual((run, header), (before, bytearray(b"\xff" * 6)))
+        self.assertEqual(self.frame(run, reader, q), "A40000")
+        for each in (run, reader):
+            each.switch(belt.TO_FORM_2)
+        self.assertEqual((run.flag, run.form), (0, 2))
+        self.assertEqual(self.frame(run, reader, IDENTITIES, bytes(7), True, 2), "FFFFFF")
+        self.assertEqual(self.frame(run, reader, q), "A42000")
+        self.assertEqual(self.frame(run, reader, q), "A00000")
+
+    def test_bad_runs(self):
+        for flag, form in ((2, 1), (1, 0), (0, 3)):
+            self.refused(4, belt.Run, flag, form)
+            self.refused(4, belt.RunReader, flag, form)
+        out = (StoredModel((4194305, 0, 65536, 0, 0, 65536)),) + IDENTITIES[1:]
+        for parts, row in (((out, 1, 1), 8), ((out, 2, 1), 4), ((IDENTITIES, 1, 0), 4)):
+            run, reader = belt.Run.of_parts(*parts), belt.RunReader.of_parts(*parts)
+            self.refused(row, run.switch, 1)
+            self.refused(4, run.switch, 3)
+            self.refused(row, run.frame, True, bytes(7), IDENTITIES, 0, bytearray(1))
+            self.refused(row, run.frame, False, bytes(7), IDENTITIES, 0, bytearray(1))
+            self.refused(min(row, 7), run.frame, True, self.TYPES, IDENTITIES, 0, bytearray(1))
+            self.refused(row, run.store, 5, array("I", [0x0006FB7C]), bytes(1), bytearray(512))
+            buffers = Guarded(48, 32)
+            state = buffers.state()
+            arguments = task()
+            del arguments["prior"]
+            self.refused(row, run.job, buffers=buffers, **arguments)
+            self.assertEqual(buffers.state(), state)
+            self.refused(row, reader.read, True, b"", 99)
+            self.refused(row, reader.read, False, b"", 0)
+            self.assertEqual((run, reader), (belt.Run.of_parts(*parts), belt.RunReader.of_parts(*parts)))
+        self.refused(9, belt.RunReader(1, 1).read, False, bytes([0xA4, 0x20]), 0)
+        with self.assertRaises(ValueError):
+            belt.Run.of_parts(IDENTITIES[:6], 1, 1)
+
+    def test_stores(self):
+        run, word, block = belt.Run(1, 1), array("I", [0x0006FB7C]), bytearray(512)
+        self.refused(2, run.store, 5, word, bytes(2), block)
+        self.refused(4, run.store, 5, word, bytes([5]), block)
+        self.refused(12, run.store, 5, array("I", [0x0006FB7D]), bytes([belt.FILM]), block)
+        self.refused(13, run.store, 0, word, bytes([belt.FILM]), bytearray(511))
+        self.refused(3, run.store, 0, word, bytes([belt.METAL]), bytearray(511))
+        self.refused(17, run.store, 0, word, bytes([belt.METAL]), block)
+        self.assertEqual(run.store(5, word, bytes([belt.METAL]), block), 1)
+        self.assertEqual((block[2], block[508:].hex()), (1, "000cfc81"))
+        run.switch(belt.TO_FORM_2)
+        self.assertEqual(run.store(5, word, bytes([belt.FILM]), block), 1)
+        self.assertEqual((block[2], block[508:].hex()), (2, "040cfd7e"))
+
+    def test_bowls(self):
+        run, reader = belt.Run(1, 1), belt.RunReader(1, 1)
+
+        def job(classes, frame=5):
+            buffers = Guarded(64, 64)
+            settings = Settings(frame, 0, 1, 2, elect=1)
+            lying = bytes(q % classes for q in range(16))
+            planes = bowl(lambda r, c: (r + 2, c - 3)), bowl()
+            return run.job(*planes, 64, 64, settings, lying, buffers), buffers
+
+        self.refused(13, job, 5)
+        self.refused(13, job, 5, 0)
+        for classes, check in ((4, "620caae9"), (5, "5bafd427")):
+            report, buffers = job(classes)
+            self.assertEqual((report.types[0], report.models[0][:2]), (1, (131072, -196608)))
+            self.assertEqual((buffers.blocks[2], bytes(buffers.blocks[508:512]).hex()), (run.form, check))
+            read = reader.read(False, buffers.header, 0)
+            self.assertEqual((read.types, read.models, read.bits), (report.types, report.models, report.bits))
+            self.assertEqual(run.prior, report.models)
+            self.same(run, reader)
+            self.refused(17, job, classes, 0)
+            self.same(run, reader)
+            for each in (run, reader):
+                each.switch(belt.TO_FORM_2)
 
 
 class Shears(Refused):

@@ -10,7 +10,7 @@
 //! exception is [`job`] with [`Refusal::Singular`] or [`Refusal::NotFinite`]. An accepted call writes only the part that
 //! it uses. The library keeps nothing between calls, so any number of threads may call it at once. A call that trims or
 //! elects takes about 53 kB of the thread's stack over words, 69 kB by a set of classes and 168 kB over samples; a job
-//! about 21 kB, 70 kB if it trims or elects. It expects the floating-point environment that a process begins with: rounding to nearest, traps off.
+//! about 21 kB, 70 kB if it trims or elects, in a run 23 and 72 kB. It expects the floating-point environment that a process begins with: rounding to nearest, traps off.
 //!
 //! Types are 0 identity, 1 translation, 2 rotation-zoom, 3 affine; classes are [`UNSORTED`], [`FIBRE`],
 //! [`RIGID_PLASTIC`], [`METAL`] and [`FILM`]; a flag is 1 for high precision, else 0. Codes are plain numbers, so that
@@ -18,6 +18,9 @@
 //! search, a job and [`read_both`] have class bits zero. A [`ClassSet`] says which classes a fit takes. A model has one
 //! of two orders, each a type of its own: [`Model`], x first, is what fits, grid and score have; [`StoredModel`] is what
 //! headers, priors and reports have.
+//!
+//! Frames that follow each other are recorded in a [`Run`], which carries the prior from each to the next, and read back
+//! by a [`RunReader`].
 //!
 //! A plane is at most 1,024 pels wide and high, and the search finds motion of at most 27.875 pels. What moved
 //! further isn't refused: [`Model::agreeing`] shows it.
@@ -58,11 +61,13 @@ mod model;
 #[allow(unsafe_code)]
 mod raw;
 mod refusal;
+mod run;
 
 pub use class_set::ClassSet;
 pub use model::{IDENTITIES, Model, Motion, MotionSample, Sample, StoredModel};
 pub use raw::TEXT_BYTES;
 pub use refusal::{Length, Refusal};
+pub use run::{Run, RunReader, TO_FORM_2, TO_HIGH_PRECISION, TO_LOW_PRECISION};
 
 use refusal::{judged, judged_lists};
 
@@ -91,7 +96,8 @@ pub const FILM: u8 = 4;
 /// The classes' words, by their codes.
 pub const CLASSES: [&str; 5] = ["unsorted", "fibre", "rigid plastic", "metal", "film"];
 
-/// The forms of a sample block. Frames are stored in form 2; form 1 is read and converted.
+/// The forms of a sample block. Frames are stored in form 2, in a [`Run`] in the form that it holds; form 1 is read and
+/// converted.
 #[derive(Clone, Copy, Debug, PartialEq, Eq, Hash)]
 pub enum Form {
     /// 125 samples a block, a sample one word with its class in the two low bits.
@@ -164,7 +170,7 @@ pub struct Settings {
     pub gm_type: u8,
     /// The reference that the model is for, 1 to 7.
     pub reference: u8,
-    /// 1 for high precision, else 0.
+    /// 1 for high precision, else 0; in a run its own is taken, and this isn't looked at.
     pub flag: u8,
     /// 1 for a fit after trimming, else 0.
     pub trim: u8,
@@ -174,6 +180,14 @@ pub struct Settings {
     pub set: ClassSet,
     /// The bit of the header's first byte at which writing begins, 0 to 7.
     pub start: usize,
+}
+
+impl Settings {
+    /// As the library has them.
+    fn raw(self) -> raw::Settings {
+        let Settings { frame, gm_type, reference, flag, trim, elect, set, start } = self;
+        raw::Settings { frame, gm_type, reference, flag, trim, elect, set: set.bits(), start }
+    }
 }
 
 /// What a job is handed.
@@ -195,7 +209,7 @@ pub struct Task<'a> {
     pub types: &'a [u8],
     /// Their six models.
     pub models: &'a [StoredModel],
-    /// The seven models of the prior.
+    /// The seven models of the prior; in a run its own is taken, and this isn't looked at.
     pub prior: &'a [StoredModel],
 }
 
@@ -208,7 +222,7 @@ pub struct Lent<'a> {
     pub ref_half: &'a mut [u16],
     /// Room for a word for each sample.
     pub words: &'a mut [u32],
-    /// Room for the frame's blocks, of [`Form::Two`]: [`block_bytes`].
+    /// Room for the frame's blocks, of [`Form::Two`] or, in a run, of the form that it holds: [`block_bytes`].
     pub blocks: &'a mut [u8],
     /// Room for [`HEADER_BYTES`].
     pub header: &'a mut [u8],
@@ -522,9 +536,9 @@ pub fn mean_sq_residual(model: &Model, words: &[u32]) -> Result<f64, Refusal> {
 }
 
 /// An answer of a call by class, where row 2 says which list is wrong.
-fn of_classes<T>(answer: Result<T, Refusal>, words: &[u32], classes: &[u8]) -> Result<T, Refusal> {
+fn of_classes<T, S>(answer: Result<T, Refusal>, samples: &[S], classes: &[u8]) -> Result<T, Refusal> {
     answer.map_err(|row| match row {
-        Refusal::WrongLength(_) => Refusal::WrongLength(Length::of("classes", classes, words.len())),
+        Refusal::WrongLength(_) => Refusal::WrongLength(Length::of("classes", classes, samples.len())),
         row => row,
     })
 }
@@ -716,6 +730,108 @@ pub fn quantize_trimmed_samples(gm_type: u8, flag: u8, samples: &[MotionSample])
 /// ```
 pub fn elect_samples(flag: u8, samples: &[MotionSample]) -> Result<Elected, Refusal> {
     elected(raw::elect_samples(samples, flag))
+}
+
+/// As [`fit_by_class`], over samples of any four numbers.
+///
+/// # Errors
+///
+/// As [`fit_by_class`].
+///
+/// ```
+/// use belt::{ClassSet, FIBRE, FILM};
+///
+/// let moving = |u| belt::MotionSample { x: 0.5, y: 0.25, u, v: 0.0 };
+/// let samples = [10.0, f64::NAN, 10.0].map(moving);
+/// let fit = |set| belt::fit_samples_by_class(set, 1, &samples, &[FIBRE, FILM, FIBRE]).map(|fitted| fitted.numbers[0]);
+/// assert_eq!(fit(ClassSet::of(&[FIBRE])), Ok(10.0));
+/// assert!(fit(ClassSet::ALL).unwrap().is_nan());
+/// assert_eq!(fit(ClassSet::of(&[])), Err(belt::Refusal::NoClass));
+/// ```
+pub fn fit_samples_by_class(
+    set: ClassSet,
+    gm_type: u8,
+    samples: &[MotionSample],
+    classes: &[u8],
+) -> Result<Fitted, Refusal> {
+    of_classes(fitted(gm_type, raw::fit_samples_by_class(set.bits(), gm_type, samples, classes)), samples, classes)
+}
+
+/// As [`quantize_by_class`], over samples of any four numbers.
+///
+/// # Errors
+///
+/// As [`quantize_by_class`].
+pub fn quantize_samples_by_class(
+    set: ClassSet,
+    fitted: &Fitted,
+    flag: u8,
+    samples: &[MotionSample],
+    classes: &[u8],
+) -> Result<Model, Refusal> {
+    let model = raw::ToQuantize { gm_type: fitted.gm_type, flag, numbers: fitted.numbers };
+    let answer = raw::quantize_samples_by_class(set.bits(), model, samples, classes);
+    of_classes(judged(answer.refusal, answer.params), samples, classes)
+}
+
+/// As [`score_by_class`], over samples of any four numbers.
+///
+/// # Errors
+///
+/// As [`score_by_class`].
+pub fn score_samples_by_class(
+    set: ClassSet,
+    model: &Model,
+    samples: &[MotionSample],
+    classes: &[u8],
+) -> Result<f64, Refusal> {
+    let answer = raw::score_samples_by_class(set.bits(), raw::Params { numbers: model.0 }, samples, classes);
+    of_classes(judged(answer.refusal, answer.score), samples, classes)
+}
+
+/// As [`fit_trimmed_by_class`], over samples of any four numbers.
+///
+/// # Errors
+///
+/// As [`fit_trimmed_by_class`]; [`Refusal::NotFinite`] as for [`fit_trimmed_samples`], by the samples named.
+pub fn fit_trimmed_samples_by_class(
+    set: ClassSet,
+    gm_type: u8,
+    samples: &[MotionSample],
+    classes: &[u8],
+) -> Result<Trimmed, Refusal> {
+    let answer = raw::fit_trimmed_samples_by_class(set.bits(), gm_type, samples, classes);
+    of_classes(trimmed(gm_type, answer), samples, classes)
+}
+
+/// The same on the grid of a flag.
+///
+/// # Errors
+///
+/// As [`fit_trimmed_samples_by_class`]; the flag is judged with the type.
+pub fn quantize_trimmed_samples_by_class(
+    set: ClassSet,
+    gm_type: u8,
+    flag: u8,
+    samples: &[MotionSample],
+    classes: &[u8],
+) -> Result<TrimmedModel, Refusal> {
+    let answer = raw::quantize_trimmed_samples_by_class(set.bits(), raw::ToTrim { gm_type, flag }, samples, classes);
+    of_classes(trimmed_model(answer), samples, classes)
+}
+
+/// As [`elect_by_class`], over samples of any four numbers.
+///
+/// # Errors
+///
+/// As [`elect_by_class`]; [`Refusal::NotFinite`] where a type's trimmed fit has it.
+pub fn elect_samples_by_class(
+    set: ClassSet,
+    flag: u8,
+    samples: &[MotionSample],
+    classes: &[u8],
+) -> Result<Elected, Refusal> {
+    of_classes(elected(raw::elect_samples_by_class(set.bits(), flag, samples, classes)), samples, classes)
 }
 
 /// The codable number nearest to a value ('Grid'), for type 0 to 3 and slot 0 to 5.
@@ -1071,13 +1187,12 @@ pub fn frame_price(
 /// words are in their buffers; blocks and header are as they were. A job that elects isn't refused with
 /// [`Refusal::TooFew`] or [`Refusal::Singular`].
 pub fn job(task: &Task<'_>, lent: &mut Lent<'_>) -> Result<Report, Refusal> {
-    let Settings { frame, gm_type, reference, flag, trim, elect, set, start } = task.settings;
     let report = raw::job(
         task.input,
         task.reference,
         task.width,
         task.height,
-        raw::Settings { frame, gm_type, reference, flag, trim, elect, set: set.bits(), start },
+        task.settings.raw(),
         task.classes,
         task.types,
         raw::numbers(task.models),
@@ -1098,12 +1213,7 @@ pub fn job(task: &Task<'_>, lent: &mut Lent<'_>) -> Result<Report, Refusal> {
             let models = Length::of("models", task.models, 6);
             [input, reference, classes, types, models, Length::of("prior", task.prior, 7)]
         },
-        || {
-            let [input_half, ref_half, words] =
-                rooms(lent.input_half, lent.ref_half, lent.words, task.width, task.height);
-            let blocks = Length::of("blocks", lent.blocks, block_bytes(words.wanted, Form::Two));
-            [input_half, ref_half, words, blocks, Length::of("header", lent.header, HEADER_BYTES)]
-        },
+        || run::job_rooms(task, lent, Form::Two),
     )
 }
 

@@ -172,6 +172,39 @@ pub struct Report {
     pub samples: usize,
 }
 
+/// Its own models, whatever they are: the library judges them.
+#[repr(C)]
+#[derive(Clone, Copy, Debug, PartialEq, Eq)]
+pub struct Run {
+    pub prior: [StoredModel; 7],
+    pub flag: u8,
+    pub form: u32,
+}
+
+#[repr(C)]
+pub struct Moved {
+    pub refusal: u32,
+    pub run: Run,
+}
+
+#[repr(C)]
+pub struct Framed {
+    pub written: Written,
+    pub run: Run,
+}
+
+#[repr(C)]
+pub struct FrameModels {
+    pub models: Models,
+    pub run: Run,
+}
+
+#[repr(C)]
+pub struct JobDone {
+    pub report: Report,
+    pub run: Run,
+}
+
 unsafe extern "C" {
     fn belt_collect_motion_samples(
         input_y: *const u16,
@@ -262,6 +295,54 @@ unsafe extern "C" {
     fn belt_fit_trimmed_samples(samples: *const MotionSample, count: usize, gm_type: u8) -> Trimmed;
     fn belt_quantize_trimmed_samples(samples: *const MotionSample, count: usize, codes: ToTrim) -> TrimmedModel;
     fn belt_elect_samples(samples: *const MotionSample, count: usize, flag: u8) -> Elected;
+    fn belt_fit_samples_by_class(
+        set: u8,
+        gm_type: u8,
+        samples: *const MotionSample,
+        count: usize,
+        classes: *const u8,
+        class_count: usize,
+    ) -> FitAnswer;
+    fn belt_quantize_samples_by_class(
+        set: u8,
+        model: ToQuantize,
+        samples: *const MotionSample,
+        count: usize,
+        classes: *const u8,
+        class_count: usize,
+    ) -> QuantizedModel;
+    fn belt_score_samples_by_class(
+        set: u8,
+        model: Params,
+        samples: *const MotionSample,
+        count: usize,
+        classes: *const u8,
+        class_count: usize,
+    ) -> Score;
+    fn belt_fit_trimmed_samples_by_class(
+        set: u8,
+        gm_type: u8,
+        samples: *const MotionSample,
+        count: usize,
+        classes: *const u8,
+        class_count: usize,
+    ) -> Trimmed;
+    fn belt_quantize_trimmed_samples_by_class(
+        set: u8,
+        codes: ToTrim,
+        samples: *const MotionSample,
+        count: usize,
+        classes: *const u8,
+        class_count: usize,
+    ) -> TrimmedModel;
+    fn belt_elect_samples_by_class(
+        set: u8,
+        flag: u8,
+        samples: *const MotionSample,
+        count: usize,
+        classes: *const u8,
+        class_count: usize,
+    ) -> Elected;
     fn belt_quantize_global_param(gm_type: u8, flag: u8, slot: u8, value: i32) -> QuantizedParam;
     fn belt_write_frame(
         frame: u16,
@@ -378,6 +459,56 @@ unsafe extern "C" {
         header: *mut u8,
         header_room: usize,
     ) -> Report;
+    fn belt_run_start(flag: u8, form: u32) -> Moved;
+    fn belt_run_switch(run: Run, code: u8) -> Moved;
+    fn belt_run_frame(
+        run: Run,
+        intra: bool,
+        types: *const u8,
+        type_count: usize,
+        params: *const i32,
+        param_count: usize,
+        start: usize,
+        header: *mut u8,
+        room: usize,
+    ) -> Framed;
+    fn belt_run_read(run: Run, intra: bool, header: *const u8, length: usize, at: usize) -> FrameModels;
+    fn belt_run_store(
+        run: Run,
+        frame: u16,
+        words: *const u32,
+        count: usize,
+        classes: *const u8,
+        class_count: usize,
+        blocks: *mut u8,
+        room: usize,
+    ) -> Stored;
+    fn belt_run_job(
+        run: Run,
+        input: *const u16,
+        input_pels: usize,
+        reference: *const u16,
+        reference_pels: usize,
+        width: usize,
+        height: usize,
+        settings: Settings,
+        classes: *const u8,
+        class_count: usize,
+        types: *const u8,
+        type_count: usize,
+        models: *const i32,
+        model_count: usize,
+        input_half: *mut u16,
+        input_half_pels: usize,
+        ref_half: *mut u16,
+        ref_half_pels: usize,
+        words: *mut u32,
+        word_count: usize,
+        blocks: *mut u8,
+        blocks_room: usize,
+        header: *mut u8,
+        header_room: usize,
+    ) -> JobDone;
 }
 
 /// The numbers of some models, one after the other.
@@ -537,6 +668,54 @@ pub fn elect_samples(samples: &[MotionSample], flag: u8) -> Elected {
 pub fn mean_sq_residual_samples(samples: &[MotionSample], model: Params) -> Score {
     // SAFETY: numbers, and one slice is read.
     unsafe { belt_mean_sq_residual_samples(samples.as_ptr(), samples.len(), model) }
+}
+
+pub fn fit_samples_by_class(set: u8, gm_type: u8, samples: &[MotionSample], classes: &[u8]) -> FitAnswer {
+    let (count, class_count) = (samples.len(), classes.len());
+    // SAFETY: two slices are read, and neither where their lengths differ.
+    unsafe { belt_fit_samples_by_class(set, gm_type, samples.as_ptr(), count, classes.as_ptr(), class_count) }
+}
+
+pub fn quantize_samples_by_class(
+    set: u8,
+    model: ToQuantize,
+    samples: &[MotionSample],
+    classes: &[u8],
+) -> QuantizedModel {
+    let (count, class_count) = (samples.len(), classes.len());
+    // SAFETY: two slices are read, and neither where their lengths differ.
+    unsafe { belt_quantize_samples_by_class(set, model, samples.as_ptr(), count, classes.as_ptr(), class_count) }
+}
+
+pub fn score_samples_by_class(set: u8, model: Params, samples: &[MotionSample], classes: &[u8]) -> Score {
+    let (count, class_count) = (samples.len(), classes.len());
+    // SAFETY: two slices are read, and neither where their lengths differ.
+    unsafe { belt_score_samples_by_class(set, model, samples.as_ptr(), count, classes.as_ptr(), class_count) }
+}
+
+pub fn fit_trimmed_samples_by_class(set: u8, gm_type: u8, samples: &[MotionSample], classes: &[u8]) -> Trimmed {
+    let (count, class_count) = (samples.len(), classes.len());
+    // SAFETY: two slices are read, and neither where their lengths differ.
+    unsafe { belt_fit_trimmed_samples_by_class(set, gm_type, samples.as_ptr(), count, classes.as_ptr(), class_count) }
+}
+
+pub fn quantize_trimmed_samples_by_class(
+    set: u8,
+    codes: ToTrim,
+    samples: &[MotionSample],
+    classes: &[u8],
+) -> TrimmedModel {
+    let (count, class_count) = (samples.len(), classes.len());
+    // SAFETY: two slices are read, and neither where their lengths differ.
+    unsafe {
+        belt_quantize_trimmed_samples_by_class(set, codes, samples.as_ptr(), count, classes.as_ptr(), class_count)
+    }
+}
+
+pub fn elect_samples_by_class(set: u8, flag: u8, samples: &[MotionSample], classes: &[u8]) -> Elected {
+    let (count, class_count) = (samples.len(), classes.len());
+    // SAFETY: two slices are read, and neither where their lengths differ.
+    unsafe { belt_elect_samples_by_class(set, flag, samples.as_ptr(), count, classes.as_ptr(), class_count) }
 }
 
 pub fn quantize_global_param(gm_type: u8, flag: u8, slot: u8, value: i32) -> QuantizedParam {
@@ -717,6 +896,102 @@ pub fn job(
             models.len(),
             prior.as_ptr(),
             prior.len(),
+            input_half.as_mut_ptr(),
+            input_half.len(),
+            ref_half.as_mut_ptr(),
+            ref_half.len(),
+            words.as_mut_ptr(),
+            words.len(),
+            blocks.as_mut_ptr(),
+            blocks.len(),
+            header.as_mut_ptr(),
+            header.len(),
+        )
+    }
+}
+
+pub fn run_start(flag: u8, form: u32) -> Moved {
+    // SAFETY: numbers alone.
+    unsafe { belt_run_start(flag, form) }
+}
+
+pub fn run_switch(run: Run, code: u8) -> Moved {
+    // SAFETY: numbers alone; a run is passed by value.
+    unsafe { belt_run_switch(run, code) }
+}
+
+pub fn run_frame(run: Run, intra: bool, types: &[u8], params: &[i32], start: usize, header: &mut [u8]) -> Framed {
+    // SAFETY: as for `encode_global_motion`; the prior is in the run, which is passed by value.
+    unsafe {
+        belt_run_frame(
+            run,
+            intra,
+            types.as_ptr(),
+            types.len(),
+            params.as_ptr(),
+            params.len(),
+            start,
+            header.as_mut_ptr(),
+            header.len(),
+        )
+    }
+}
+
+pub fn run_read(run: Run, intra: bool, header: &[u8], at: usize) -> FrameModels {
+    // SAFETY: as for `read_global_motion`; the prior is in the run, which is passed by value.
+    unsafe { belt_run_read(run, intra, header.as_ptr(), header.len(), at) }
+}
+
+pub fn run_store(run: Run, frame: u16, words: &[u32], classes: &[u8], blocks: &mut [u8]) -> Stored {
+    // SAFETY: as for `write_frame`; the run is passed by value.
+    unsafe {
+        belt_run_store(
+            run,
+            frame,
+            words.as_ptr(),
+            words.len(),
+            classes.as_ptr(),
+            classes.len(),
+            blocks.as_mut_ptr(),
+            blocks.len(),
+        )
+    }
+}
+
+#[allow(clippy::too_many_arguments)]
+pub fn run_job(
+    run: Run,
+    input: &[u16],
+    reference: &[u16],
+    width: usize,
+    height: usize,
+    settings: Settings,
+    classes: &[u8],
+    types: &[u8],
+    models: &[i32],
+    input_half: &mut [u16],
+    ref_half: &mut [u16],
+    words: &mut [u32],
+    blocks: &mut [u8],
+    header: &mut [u8],
+) -> JobDone {
+    // SAFETY: as for `job`; the prior is in the run, which is passed by value.
+    unsafe {
+        belt_run_job(
+            run,
+            input.as_ptr(),
+            input.len(),
+            reference.as_ptr(),
+            reference.len(),
+            width,
+            height,
+            settings,
+            classes.as_ptr(),
+            classes.len(),
+            types.as_ptr(),
+            types.len(),
+            models.as_ptr(),
+            models.len(),
             input_half.as_mut_ptr(),
             input_half.len(),
             ref_half.as_mut_ptr(),

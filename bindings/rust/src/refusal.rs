@@ -13,7 +13,7 @@ pub enum Refusal {
     TooFar,
     /// 2: plane, class, type, model or prior list of wrong length.
     WrongLength(Length),
-    /// 4: type, class, flag, trim or elect code out of range; set that names a class over 4; type 0 for a fit.
+    /// 4: type, class, flag, form, trim, elect or switch code out of range; class over 4 in a set; type 0 to fit.
     NoSuchCode,
     /// 19: empty set of classes.
     NoClass,
@@ -73,7 +73,7 @@ impl Refusal {
         (1, "side over 1,024, or over 4,096 samples"),
         (18, "motion of a practice belt beyond 24 pels"),
         (2, "plane, class, type, model or prior list of wrong length"),
-        (4, "type, class, flag, trim or elect code out of range; set that names a class over 4; type 0 for a fit"),
+        (4, "type, class, flag, form, trim, elect or switch code out of range; class over 4 in a set; type 0 to fit"),
         (19, "empty set of classes"),
         (5, "slot over 5, or to price one that the type doesn't carry; reference outside 1 to 7"),
         (14, "start of a header to write over 7"),

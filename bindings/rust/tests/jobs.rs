@@ -340,6 +340,44 @@ fn other_samples_play_no_part() {
     }
 }
 
+/// The same over lent samples: those of the words that are named, whatever numbers stand in the others.
+#[test]
+fn other_lent_samples_play_no_part() {
+    let reference = noisy_plane(112, 96);
+    let handed = Handed::new(moved(&reference, 112, 96, 2, -5), reference, 112, 96, 1);
+    let mut left = Buffers::new(112, 96);
+    belt::job(&handed.task(), &mut left.lend()).expect("no row refuses");
+    let (words, classes) = (left.words, handed.classes);
+    let made: Vec<_> = words.iter().map(|&word| MotionSample::of_word(word)).collect();
+    let strange = MotionSample { x: f64::NAN, y: f64::INFINITY, u: -0.0, v: 1e300 };
+    for set in (1..=31).map(ClassSet::from_bits) {
+        let mut others = made.clone();
+        for (sample, class) in others.iter_mut().zip(&classes) {
+            if !set.names(*class) {
+                *sample = strange;
+            }
+        }
+        for samples in [&made, &others] {
+            for gm_type in 1..=3 {
+                let fitted = belt::fit_samples_by_class(set, gm_type, samples, &classes);
+                assert_eq!(fitted, belt::fit_by_class(set, gm_type, &words, &classes));
+                let fitted = fitted.unwrap();
+                let model = belt::quantize_samples_by_class(set, &fitted, 1, samples, &classes);
+                assert_eq!(model, belt::quantize_by_class(set, &fitted, 1, &words, &classes));
+                let model = model.unwrap();
+                let score = belt::score_samples_by_class(set, &model, samples, &classes);
+                assert_eq!(score, belt::score_by_class(set, &model, &words, &classes));
+                let trimmed = belt::fit_trimmed_samples_by_class(set, gm_type, samples, &classes);
+                assert_eq!(trimmed, belt::fit_trimmed_by_class(set, gm_type, &words, &classes));
+                let trimmed = belt::quantize_trimmed_samples_by_class(set, gm_type, 0, samples, &classes);
+                assert_eq!(trimmed, belt::quantize_trimmed_by_class(set, gm_type, 0, &words, &classes));
+            }
+            let elected = belt::elect_samples_by_class(set, 1, samples, &classes);
+            assert_eq!(elected, belt::elect_by_class(set, 1, &words, &classes));
+        }
+    }
+}
+
 /// Jobs on the bowl that name a set: what they report, what they leave, and that every sample is stored.
 #[test]
 fn bowls_by_class() {

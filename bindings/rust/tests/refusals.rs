@@ -3,7 +3,10 @@
 mod frames;
 
 use belt::Refusal::{self, *};
-use belt::{Buffers, ClassSet, FIBRE, FILM, Fitted, Form, IDENTITIES, Kind, Length, METAL, Model, Shear, StoredModel};
+use belt::{
+    Buffers, ClassSet, FIBRE, FILM, Fitted, Form, IDENTITIES, Kind, Length, METAL, Model, MotionSample, Shear,
+    StoredModel,
+};
 use frames::{Handed, guarded, noisy_plane};
 
 /// Words that rise, at zero motion.
@@ -352,6 +355,67 @@ fn calls_by_class() {
         assert_eq!(belt::fit_by_class(fibre, gm_type, words, classes), Err(Singular));
         assert_eq!(belt::quantize_by_class(fibre, &unmoved(gm_type), 1, words, classes), Ok(Model::IDENTITY));
     }
+}
+
+/// The same over lent samples.
+#[test]
+fn lent_calls_by_class() {
+    type Call = (&'static str, fn(ClassSet, &[MotionSample], &[u8]) -> Result<(), Refusal>);
+    fn unmoved(gm_type: u8) -> Fitted {
+        Fitted { gm_type, numbers: [0.0, 0.0, 1.0, 0.0, 0.0, 1.0] }
+    }
+    let calls: [Call; 6] = [
+        ("fit", |set, samples, classes| belt::fit_samples_by_class(set, 1, samples, classes).map(|_| ())),
+        ("quantize", |set, samples, classes| {
+            belt::quantize_samples_by_class(set, &unmoved(1), 1, samples, classes).map(|_| ())
+        }),
+        ("score", |set, samples, classes| {
+            belt::score_samples_by_class(set, &Model::IDENTITY, samples, classes).map(|_| ())
+        }),
+        ("fit_trimmed", |set, samples, classes| {
+            belt::fit_trimmed_samples_by_class(set, 1, samples, classes).map(|_| ())
+        }),
+        ("quantize_trimmed", |set, samples, classes| {
+            belt::quantize_trimmed_samples_by_class(set, 1, 1, samples, classes).map(|_| ())
+        }),
+        ("elect", |set, samples, classes| belt::elect_samples_by_class(set, 1, samples, classes).map(|_| ())),
+    ];
+    let many = vec![MotionSample { x: 1.0, y: 2.0, u: 3.0, v: 4.0 }; 4097];
+    let film = vec![FILM; 4097];
+    let mut last_out = film.clone();
+    last_out[8] = 5;
+    let (none, over, fibre) = (ClassSet::of(&[]), ClassSet::of(&[FILM, 5]), ClassSet::of(&[FIBRE]));
+    for (name, call) in calls {
+        assert_eq!(call(none, &many, &film[..9]), Err(TooLarge), "{name}");
+        assert_eq!(call(none, &many[..9], &film[..8]), Err(wrong("classes", 8, 9)), "{name}");
+        for set in [none, over, fibre] {
+            assert_eq!(call(set, &many[..9], &last_out[..9]), Err(NoSuchCode), "{name}");
+        }
+        assert_eq!(call(over, &many[..9], &film[..9]), Err(NoSuchCode), "{name}");
+        assert_eq!(call(none, &many[..9], &film[..9]), Err(NoClass), "{name}");
+        assert_eq!(call(ClassSet::of(&[FILM]), &many[..4096], &film[..4096]), Ok(()), "{name}");
+        let trims = name.contains("trimmed");
+        assert_eq!(call(fibre, &many[..9], &film[..9]), if trims { Err(TooFew) } else { Ok(()) }, "{name}");
+    }
+    let (samples, classes) = (&many[..9], &film[..9]);
+    for set in [none, ClassSet::ALL] {
+        assert_eq!(belt::fit_samples_by_class(set, 0, samples, classes), Err(NoSuchCode));
+        assert_eq!(belt::quantize_samples_by_class(set, &unmoved(3), 2, samples, classes), Err(NoSuchCode));
+        assert_eq!(belt::fit_trimmed_samples_by_class(set, 4, samples, classes), Err(NoSuchCode));
+        assert_eq!(belt::quantize_trimmed_samples_by_class(set, 3, 2, samples, classes), Err(NoSuchCode));
+        assert_eq!(belt::elect_samples_by_class(set, 2, samples, classes), Err(NoSuchCode));
+    }
+    for gm_type in [2, 3] {
+        assert_eq!(belt::fit_samples_by_class(fibre, gm_type, samples, classes), Err(Singular));
+    }
+    // 16 is judged by the samples that are named
+    let mut far = many[..5].to_vec();
+    far[0].u = 1e200;
+    let classes = [FILM, FIBRE, FIBRE, FIBRE, FIBRE];
+    assert_eq!(belt::elect_samples_by_class(ClassSet::ALL, 1, &far, &classes), Err(NotFinite));
+    assert_eq!(belt::elect_samples_by_class(fibre, 1, &far, &classes).map(|elected| elected.gm_type), Ok(1));
+    assert_eq!(belt::fit_trimmed_samples_by_class(ClassSet::ALL, 1, &far, &classes), Err(NotFinite));
+    assert_eq!(belt::fit_trimmed_samples_by_class(fibre, 1, &far, &classes).map(|trimmed| trimmed.used), Ok(4));
 }
 
 #[test]

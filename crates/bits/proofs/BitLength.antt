@@ -1,13 +1,14 @@
 -- The number of bits of x is the one w with x below 2 ^ w and not below 2 ^ (w - 1): halving takes one bit off.
 -- Assumes nothing.
-use Prim.Native.Nat.{ℕ, zero, suc, _*_, _/_, _^_, _≤_, _<_}
+use Prim.Native.Nat.{ℕ, zero, suc, _+_, _-_, _*_, _/_, _^_, _≤_, _<_}
 use mathlib.Core.Path.{_≡_, refl, ap, sym, _∙_, subst}
 use native.Mathlib.Decide.{decLt, ℕ-discrete}
 use native.Mathlib.Nat.{le-refl, pow-suc}
 use native.Mathlib.Omega.{arith}
 use borrow.Author.Tests.{eq-eqb, ne-eqb}
+use lib.Count.{leadingZeros, leading-length}
 use lib.Dec.{lit<, lit≤}
-use lib.Pow.{pow-mono}
+use lib.Pow.{pow-mono, pow-pos}
 use Rattle.bits.specs.Ns.{halvings, bitLength}
 
 -- x is below 2 ^ w and not below 2 ^ (w - 1)
@@ -91,3 +92,18 @@ bitLength-le x n h =
             | no m ↦ omega arith
           ]
     ]
+
+-- what is left of 32 behind the zeros in front
+pub behind-zeros : (x : ℕ) → x < 2 ^ 32 → 32 - leadingZeros 32 x ≡ bitLength x
+behind-zeros x h =
+    let s = leading-length 32 x h in
+    let left : 32 - leadingZeros 32 x ≡ s .0 = omega (arith, s .1) in
+    left ∙ sym (is (s .0) (s .2) (s .3))
+  where
+    is : (m : ℕ) → x < 2 ^ m → 2 ^ m ≤ 2 * x + 1 → bitLength x ≡ m
+    is zero below least =
+        let z : x ≡ 0 = omega (arith, below) in
+        rw (z, bitLength-zero)
+    is (suc m) below least =
+        let some : 0 < x = omega (arith, least, pow-suc 2 m, pow-pos m) in
+        bitLength-is x (suc m) some below (omega (arith, least, pow-suc 2 m))

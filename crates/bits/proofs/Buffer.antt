@@ -10,7 +10,7 @@ use lib.ListN.{length, getD, drop, length-set, length-append}
 use lib.Seq.{getD-set-same, getD-set-other, drop-set-lt, getD-drop}
 use Rattle.bits.specs.Bits.{withBit, bitAt, putBit, putBits}
 use Rattle.bits.proofs.Held.{Holds, AreBits}
-use Rattle.bits.specs.Inner.{Wrote}
+use Rattle.bits.specs.Inner.{Room, Wrote}
 use Rattle.bits.proofs.Byte.{bitOf-lt, bitOf-same, bitOf-other}
 
 pub bitAt-lt : (l : List ℕ) (j : ℕ) → bitAt l j < 2
@@ -115,8 +115,51 @@ wrote-both {l} {l'} {l''} {j} {j'} {j''} xs ys a b =
       buffer = b .buffer ∙ rw (a .buffer, a .at) (sym (putBits-append l j xs ys));
     }
 
+-- and where the first is written, the second is what is left of both
+pub wrote-rest : {l l' m : List ℕ} {j j' n : ℕ} (xs ys : List ℕ) → Wrote l j xs l' j' → Wrote l j (xs ++ ys) m n → Wrote l' j' ys m n
+wrote-rest {l} {l'} {m} {j} {j'} {n} xs ys a b =
+    record {
+      at = omega (arith, a .at, b .at, length-append xs ys);
+      buffer = b .buffer ∙ rw (a .buffer, a .at) (putBits-append l j xs ys);
+    }
+
 pub wrote-as : {l l' : List ℕ} {j j' : ℕ} (xs ys : List ℕ) → xs ≡ ys → Wrote l j xs l' j' → Wrote l j ys l' j'
 wrote-as {l} {l'} {j} {j'} xs ys e w = subst (λ (bs : List ℕ). Wrote l j bs l' j') e w
 
 pub wrote-length : (l : List ℕ) (j : ℕ) (bs l' : List ℕ) (j' : ℕ) → Wrote l j bs l' j' → length l' ≡ length l
 wrote-length l j bs l' j' w = ap length (w .buffer) ∙ length-putBits l j bs
+
+pub room-front : (l : List ℕ) (j : ℕ) (xs ys : List ℕ) → Room l j (length (xs ++ ys)) → Room l j (length xs)
+room-front l j xs ys r = record { within = omega (arith, r .within, length-append xs ys); small = omega (arith, r .small, length-append xs ys) }
+
+-- and room for the second, where the first was written
+pub room-back : (l : List ℕ) (j : ℕ) (xs ys l' : List ℕ) (j' : ℕ) → Wrote l j xs l' j' → Room l j (length (xs ++ ys)) → Room l' j' (length ys)
+room-back l j xs ys l' j' w r =
+    record {
+      within = omega (arith, r .within, length-append xs ys, w .at, wrote-length l j xs l' j' w);
+      small = omega (arith, r .small, length-append xs ys, w .at);
+    }
+
+pub room-as : (l : List ℕ) (j : ℕ) (xs ys : List ℕ) → xs ≡ ys → Room l j (length xs) → Room l j (length ys)
+room-as l j xs ys e r = subst (λ (bs : List ℕ). Room l j (length bs)) e r
+
+-- ---- a loop of writes
+
+-- of all the bits that were to be put at j₀ of l₀ those before `rest` are put, and the next goes to j of l
+pub record Reached (l₀ : List ℕ) (j₀ : ℕ) (all l : List ℕ) (j : ℕ) (rest : List ℕ) : Type 0 where
+  pub long : length l ≡ length l₀
+  pub left : Wrote l j rest (putBits l₀ j₀ all) (j₀ + length all)
+
+pub reached-first : (l : List ℕ) (j : ℕ) (all : List ℕ) → Reached l j all l j all
+reached-first l j all = record { long = refl; left = record { at = refl; buffer = refl } }
+
+module _ {l₀ : List ℕ} {j₀ : ℕ} {all l : List ℕ} {j : ℕ} (xs rest : List ℕ) (w : Reached l₀ j₀ all l j (xs ++ rest)) where
+  pub reached-room : Room l₀ j₀ (length all) → Room l j (length xs)
+  reached-room r =
+      room-front l j xs rest (record { within = omega (arith, r .within, w .left .at, w .long); small = omega (arith, r .small, w .left .at) })
+
+  pub reached-more : (l' : List ℕ) (j' : ℕ) → Wrote l j xs l' j' → Reached l₀ j₀ all l' j' rest
+  reached-more l' j' one = record { long = wrote-length l j xs l' j' one ∙ w .long; left = wrote-rest xs rest one (w .left) }
+
+pub reached-last : {l₀ : List ℕ} {j₀ : ℕ} {all l : List ℕ} {j : ℕ} → Reached l₀ j₀ all l j [] → Wrote l₀ j₀ all l j
+reached-last w = record { at = omega (arith, w .left .at); buffer = sym (w .left .buffer) }

@@ -4,7 +4,6 @@ pub mod Buffer
 pub mod Fields
 pub mod Words
 pub mod Alike
-pub mod HeldBack
 pub mod BitLength
 pub mod Ns
 pub mod PowerOfTwo

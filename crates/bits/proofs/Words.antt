@@ -7,16 +7,15 @@ use mathlib.Core.Path.{_≡_, refl, ap, sym, _∙_, subst}
 use native.Mathlib.Nat.{add-zero, mod-eq-of-lt, mod-lt, mod-one, zero-mul, zero-add}
 use native.Mathlib.Omega.{arith}
 use lib.ListN.{length, getD, set}
-use lib.Arith.{digits-lt}
-use lib.Pow.{pow-pos, pow-mono, pow-add, split, high, low, mod-mod-pow, mod-pow-add}
+use lib.Pow.{pow-pos, pow-add, split, high, low, mod-mod-pow, mod-pow-add}
 use lib.Seq.{set-getD, set-set, getD-set-same, lt-length-set}
 use Rattle.bits.specs.Bits.{bitAt, bitOf, withBit, putBit, putBits}
 use Rattle.bits.specs.Fields.{field, fieldBits}
-use Rattle.bits.specs.Inner.{Room, FieldIs}
+use Rattle.bits.specs.Inner.{Room, FieldIs, Wrote}
 use Rattle.bits.specs.declared.Field.{Field}
 use Rattle.bits.proofs.Held.{Holds}
 use Rattle.bits.proofs.Byte.{bitOf-lt, power-step, shifted, low-same}
-use Rattle.bits.proofs.Buffer.{putBits-append}
+use Rattle.bits.proofs.Buffer.{putBits-append, room-front, room-back, room-as, wrote-as, wrote-both}
 use Rattle.bits.proofs.Fields.{length-fieldBits, fieldBits-mod, fieldBits-split, fieldBits-join, low-bits, field-holds, field-split}
 
 -- put(w₁ + w₂, v) is put(w₁, v ÷ 2 ^ w₂), then put(w₂, v mod 2 ^ w₂)
@@ -118,6 +117,17 @@ field-length r bs f = sym (length-fieldBits (r .n) (r .value)) ∙ ap length (f 
 pub room-field : (l : List ℕ) (j : ℕ) (r : Field) (bs : List ℕ) → FieldIs r bs → Room l j (length bs) → Room l j (r .n)
 room-field l j r bs f room = subst (λ (n : ℕ). Room l j n) (sym (field-length r bs f)) room
 
+-- a field and the bits behind it, one call for each
+module _ (n x : ℕ) (ys bs : List ℕ) (e : fieldBits n x ++ ys ≡ bs) where
+  pub room-first : (l : List ℕ) (j : ℕ) → Room l j (length bs) → Room l j n
+  room-first l j r = subst (λ (k : ℕ). Room l j k) (length-fieldBits n x) (room-front l j (fieldBits n x) ys (room-as l j bs (fieldBits n x ++ ys) (sym e) r))
+
+  pub room-second : (l : List ℕ) (j : ℕ) (l' : List ℕ) (j' : ℕ) → Wrote l j (fieldBits n x) l' j' → Room l j (length bs) → Room l' j' (length ys)
+  room-second l j l' j' w r = room-back l j (fieldBits n x) ys l' j' w (room-as l j bs (fieldBits n x ++ ys) (sym e) r)
+
+  pub wrote-two : {l l' l'' : List ℕ} {j j' j'' : ℕ} → Wrote l j (fieldBits n x) l' j' → Wrote l' j' ys l'' j'' → Wrote l j bs l'' j''
+  wrote-two a b = wrote-as (fieldBits n x ++ ys) bs e (wrote-both (fieldBits n x) ys a b)
+
 -- one in front of another
 pub field-behind : (w h : ℕ) (r : Field) (xs ys : List ℕ) → fieldBits w h ≡ xs → FieldIs r ys → fieldBits (w + r .n) (h * 2 ^ r .n + r .value) ≡ xs ++ ys
 field-behind w h r xs ys e f =
@@ -125,18 +135,6 @@ field-behind w h r xs ys e f =
     ∙ fieldBits-join w (r .n) h (r .value)
     ∙ ap (λ (l : List ℕ). l ++ fieldBits (r .n) (r .value)) e
     ∙ ap (λ (l : List ℕ). xs ++ l) (f .bits)
-
-pub join-lt : (w n h r : ℕ) → h < 2 ^ w → r < 2 ^ n → h * 2 ^ n + r < 2 ^ (w + n)
-join-lt w n h r front back = rw (pow-add 2 w n) (digits-lt front back)
-
--- a zero in front of a field
-module _ (b x : ℕ) where
-  pub zero-in-front : fieldBits (1 + b) (x % 2 ^ b) ≡ 0 ∷ fieldBits b x
-  zero-in-front =
-      ap (fieldBits (1 + b)) (let e : x % 2 ^ b ≡ 0 * 2 ^ b + x % 2 ^ b = omega arith in e) ∙ fieldBits-join 1 b 0 x
-
-  pub low-in-front : x % 2 ^ b < 2 ^ (1 + b)
-  low-in-front = omega (arith, mod-lt x (pow-pos b), pow-mono (let l : b ≤ 1 + b = omega arith in l))
 
 -- ---- reading
 

@@ -1,11 +1,10 @@
 -- What the functions below the public calls ask and answer; no public contract cites it.
 -- Assumes nothing.
 use Prim.Native.Nat.{ℕ, _+_, _*_, _^_, _≤_, _<_}
-use mathlib.Core.List.{List, _++_}
+use mathlib.Core.List.{List}
 use mathlib.Core.Path.{_≡_}
 use lib.ListN.{length}
 use Rattle.bits.specs.declared.Field.{Field}
-use Rattle.bits.specs.declared.Pen.{Pen}
 use Rattle.bits.specs.declared.Read.{Read}
 use Rattle.bits.specs.declared.NsWidth.{NsWidth}
 use Rattle.bits.specs.Bits.{putBits}
@@ -21,24 +20,6 @@ pub record Room (l : List ℕ) (j n : ℕ) : Type 0 where
 pub record Wrote (l : List ℕ) (j : ℕ) (bs l' : List ℕ) (j' : ℕ) : Type 0 where
   pub at : j' ≡ j + length bs
   pub buffer : l' ≡ putBits l j bs
-
--- the bits that a pen holds back
-abbrev pub heldBits : Pen → List ℕ
-heldBits p = fieldBits (p .held .n) (p .held .value)
-
--- a pen that holds a field, with room for that and for n bits behind it
-pub record Ready (l : List ℕ) (p : Pen) (n : ℕ) : Type 0 where
-  pub few : p .held .n ≤ 32
-  pub low : p .held .value < 2 ^ p .held .n
-  pub room : Room l (p .at) (p .held .n + n)
-
--- the bits bs came behind those that p held: of both the first were put at p's position, and p' holds the last
-pub record Put (l : List ℕ) (p : Pen) (bs l' : List ℕ) (p' : Pen) : Type 0 where
-  pub gone : List ℕ
-  pub wrote : Wrote l (p .at) gone l' (p' .at)
-  pub joined : heldBits p ++ bs ≡ gone ++ heldBits p'
-  pub few : p' .held .n ≤ 32
-  pub low : p' .held .value < 2 ^ p' .held .n
 
 -- the bits bs as a field, whose number has no bit above its width
 pub record FieldIs (r : Field) (bs : List ℕ) : Type 0 where

@@ -10,7 +10,7 @@ ghost use mathlib.Core.Path.{_≡_};
 ghost use Rattle.bits.specs.Bits.{bitAt, bitOf, withBit, putBits};
 ghost use Rattle.bits.specs.Fields.{field, fieldBits, padBits};
 ghost use Rattle.bits.specs.Ns.{ns, nsBits, bitLength};
-ghost use Rattle.bits.specs.Inner.{Room, Wrote, FieldIs, ReadIs, NsWidthIs, Ready, Put, heldBits};
+ghost use Rattle.bits.specs.Inner.{Room, Wrote, FieldIs, ReadIs, NsWidthIs};
 
 pub const BITS_OF_A_BYTE: usize = 8;
 
@@ -210,13 +210,7 @@ fn bits_inside(word: u64, used: u32, n: u32) -> u32
 pub fn bit_length(n: u32) -> u32
     ensures { λ r. ⌜ (r ≡ bitLength n) × (r ≤ 32) ⌝ }
 {
-    let mut x = n;
-    let mut count = 0u32;
-    while x != 0 {
-        x /= 2;
-        count += 1;
-    }
-    count
+    32 - u32::leading_zeros(n)
 }
 
 // What clause 4.10.7 computes of n: w, the number of its bits, and m, how many symbols have a code
@@ -266,7 +260,7 @@ impl BitCursor {
         BitCursor { at: at + 1 }
     }
 
-    // The low n bits of value.
+    // The low n bits of value. In one byte they are one store.
     pub fn write_bits(self, buffer: &mut [u8], n: u32, value: u32) -> BitCursor
         requires { ⌜ (n ≤ 32) × Room (now buffer) (self .at) n ⌝ }
         ensures { λ r. ⌜ Wrote (now (buffer .entry)) (self .at) (fieldBits n value) (now (buffer .exit)) (r .at) ⌝ }
@@ -274,6 +268,16 @@ impl BitCursor {
         let at = self.at;
         let first = at / BITS_OF_A_BYTE;
         let used = (at % BITS_OF_A_BYTE) as u32;
+        if used + n <= BYTE {
+            if n == 0 {
+                return BitCursor { at };
+            }
+            let held = joined(buffer[first], used, n, value);
+            store_front(buffer, first, used + n, held);
+            return BitCursor {
+                at: at + n as usize,
+            };
+        }
         if used == 0 {
             store_word(buffer, first, n, value as u64);
             return BitCursor {
@@ -352,56 +356,5 @@ impl BitCursor {
             value: 2 * v.value - m + extra_bit.value,
             next: end,
         }
-    }
-}
-
-// A cursor that holds its last bits back: what comes next joins them while one field takes both.
-pub struct Pen {
-    pub at: usize,
-    pub held: Field,
-}
-
-impl Pen {
-    pub fn new(at: usize) -> Self
-        ensures { λ r. ⌜ (r .at ≡ at) × (r .held .n ≡ 0) × (r .held .value ≡ 0) ⌝ }
-    {
-        Self {
-            at,
-            held: Field { n: 0, value: 0 },
-        }
-    }
-
-    // The field's bits behind those that are held.
-    pub fn put(self, buffer: &mut [u8], field: Field) -> Pen
-        requires { ⌜ (field .n ≤ 32) × (field .value < 2 ^ field .n) × Ready (now buffer) self (field .n) ⌝ }
-        ensures { λ r. ⌜ Put (now (buffer .entry)) self (fieldBits (field .n) (field .value)) (now (buffer .exit)) r ⌝ }
-    {
-        let at = self.at;
-        let held = self.held;
-        let n = held.n + field.n;
-        if n <= 32 {
-            let both = held.value as u64 * wide_power(field.n) + field.value as u64;
-            return Pen {
-                at,
-                held: Field {
-                    n,
-                    value: both as u32,
-                },
-            };
-        }
-        let next = BitCursor { at }.write_bits(buffer, held.n, held.value);
-        Pen {
-            at: next.at,
-            held: field,
-        }
-    }
-
-    // What is held is written too.
-    pub fn lift(self, buffer: &mut [u8]) -> BitCursor
-        requires { ⌜ Ready (now buffer) self 0 ⌝ }
-        ensures { λ r. ⌜ Wrote (now (buffer .entry)) (self .at) (heldBits self) (now (buffer .exit)) (r .at) ⌝ }
-    {
-        let held = self.held;
-        BitCursor { at: self.at }.write_bits(buffer, held.n, held.value)
     }
 }

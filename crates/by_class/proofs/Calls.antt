@@ -1,4 +1,5 @@
--- The six calls: lists that agree on the named samples have the same answers, and all five classes named give the call of today.
+-- The six calls: samples that are read from a list have its answers, lists that agree on the named samples have the same, and all five classes named
+-- give the call of today.
 -- Assumes nothing.
 use Prim.Native.Nat.{ℕ}
 use mathlib.Core.Bool.{false}
@@ -27,7 +28,7 @@ use Rattle.elect.proofs.Mapped.{elected-mapped}
 use Rattle.by_class.specs.ByClass.{letsPass, noTypeOrFlag, noModelOrFlag, refusedScore, refusedTrim, refusedTrimmedModel}
 use Rattle.by_class.specs.ByClass.{fittedFrom, fittedBy, quantizedBy, scoredBy, trimmedBy, trimmedModelBy, electedBy}
 use Rattle.by_class.specs.Agree.{Agree}
-use Rattle.by_class.proofs.Named.{all-five, agree}
+use Rattle.by_class.proofs.Named.{all-five, of-read, agree}
 
 module _ {A : Type 0} (read : A → MotionSample) where
   -- ---- they take what is read from their list
@@ -46,6 +47,29 @@ module _ {A : Type 0} (read : A → MotionSample) where
   scored-mapped p xs =
       ap (λ (n : ℕ). scoreOf (fold (reading (scoreStep (continuousModel p)) itself) (map read xs) nought) n) (length-map xs read)
       ∙ ap (λ (acc : Float). scoreOf acc (length xs)) (fold-map (scoreStep (continuousModel p)) read xs nought)
+
+  -- ---- the samples that are read from a list, and the list
+
+  module _ (set : ℕ) (xs : List A) (cs : List ℕ) where
+    pub read-fit : (gmType : ℕ) → fittedBy itself set gmType (map read xs) cs ≡ fittedBy read set gmType xs cs
+    read-fit gmType = of-read Refused (noType gmType) (fittedFrom read gmType) read (fittedFrom itself gmType) (fitted-mapped gmType) set xs cs
+
+    pub read-model : (f : Fitted) (flag : ℕ) → quantizedBy itself set f flag (map read xs) cs ≡ quantizedBy read set f flag xs cs
+    read-model f flag =
+        of-read refusedModel (noModelOrFlag f flag) (quantizedFrom read f flag) read (quantizedFrom itself f flag) (quantized-mapped f flag) set xs cs
+
+    pub read-score : (p : List ℤ) → scoredBy itself set p (map read xs) cs ≡ scoredBy read set p xs cs
+    read-score p = of-read refusedScore false (scored read (continuousModel p)) read (scored itself (continuousModel p)) (scored-mapped p) set xs cs
+
+    pub read-trimmed : (gmType : ℕ) → trimmedBy itself set gmType (map read xs) cs ≡ trimmedBy read set gmType xs cs
+    read-trimmed gmType = of-read refusedTrim (noType gmType) (trimmedFrom read gmType) read (trimmedFrom itself gmType) (trimmed-mapped read gmType) set xs cs
+
+    pub read-trimmed-model : (gmType flag : ℕ) → trimmedModelBy itself set gmType flag (map read xs) cs ≡ trimmedModelBy read set gmType flag xs cs
+    read-trimmed-model gmType flag =
+        of-read refusedTrimmedModel (noTypeOrFlag gmType flag) (trimmedModelFrom read gmType flag) read (trimmedModelFrom itself gmType flag) (λ zs. model-mapped read gmType zs flag) set xs cs
+
+    pub read-election : (flag : ℕ) → electedBy itself set flag (map read xs) cs ≡ electedBy read set flag xs cs
+    read-election flag = of-read stopped (ltb 1 flag) (electedFrom read flag) read (electedFrom itself flag) (elected-mapped read flag) set xs cs
 
   -- ---- the same named samples in order
 

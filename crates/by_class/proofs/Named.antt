@@ -4,7 +4,7 @@ use Prim.Native.Nat.{ℕ}
 use mathlib.Core.Bool.{Bool}
 use mathlib.Core.List.{List, map}
 use mathlib.Core.Path.{_≡_, sym, ap, _∙_}
-use lib.ListN.{length}
+use lib.ListN.{length, length-map}
 use Rattle.laws.specs.Call.{answered}
 use Rattle.laws.specs.Refusal.{orElse}
 use Rattle.sample.specs.declared.MotionSample.{MotionSample}
@@ -12,7 +12,7 @@ use Rattle.sample.specs.Sample.{sampleOf}
 use Rattle.class_set.specs.Set.{allClasses, chosen}
 use Rattle.class_set.proofs.Chosen.{all-chosen, read-chosen}
 use Rattle.fit.proofs.SameSamples.{withoutClass, class-plays-no-part}
-use Rattle.by_class.specs.ByClass.{letsPass, emptyRefusal, byClass}
+use Rattle.by_class.specs.ByClass.{letsPass, emptyRefusal, setRefusal, byClass}
 use Rattle.by_class.specs.Agree.{Pass, Agree}
 use Rattle.by_class.proofs.Rows.{passed}
 
@@ -33,8 +33,14 @@ module _ {A B : Type 0} (refused : ℕ → B) (wrong : Bool) (call : List A → 
     pub same-call : call (chosen set xs cs) ≡ call (chosen set ys ds) → byClass refused wrong call set xs cs ≡ byClass refused wrong call set ys ds
     same-call e = by-named set xs cs (p .first) ∙ ap (answered refused (emptyRefusal set)) e ∙ sym (by-named set ys ds (p .second))
 
-  -- the same named samples in order, the same answer, however the others differ
   module _ (read : A → MotionSample) (over : List MotionSample → B) (mapped : (xs : List A) → over (map read xs) ≡ call xs) where
+    -- what is read from the list has the list's answer
+    pub of-read : (set : ℕ) (xs : List A) (cs : List ℕ) → byClass refused wrong over set (map read xs) cs ≡ byClass refused wrong call set xs cs
+    of-read set xs cs =
+        ap (λ (n : ℕ). answered refused (setRefusal wrong set n cs) (over (chosen set (map read xs) cs))) (length-map xs read)
+        ∙ ap (answered refused (setRefusal wrong set (length xs) cs)) (ap over (read-chosen read set xs cs) ∙ mapped (chosen set xs cs))
+
+    -- the same named samples in order, the same answer, however the others differ
     pub agree : {set : ℕ} {xs ys : List A} {cs ds : List ℕ} → Agree read wrong set xs cs ys ds
         → byClass refused wrong call set xs cs ≡ byClass refused wrong call set ys ds
     agree {set} {xs} {ys} {cs} {ds} a =

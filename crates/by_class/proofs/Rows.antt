@@ -41,19 +41,22 @@ passed wrong set samples classes e =
 
 -- ---- a call in code, by the number r that its rows answer and the condition b that it asks for row 4
 
-module _ (wrong : Bool) (set : ℕ) (ws cs : List ℕ) {b : Bool} (w : b ≡ wrong) {r : ℕ} (e : r ≡ setRefusal b set (length ws) cs) where
-  judged : r ≡ setRefusal wrong set (length ws) cs
-  judged = e ∙ ap (λ (x : Bool). setRefusal x set (length ws) cs) w
+module _ {A : Type 0} (wrong : Bool) (set : ℕ) (xs : List A) (cs : List ℕ) {b : Bool} (w : b ≡ wrong) {r : ℕ} (e : r ≡ setRefusal b set (length xs) cs) where
+  judged : r ≡ setRefusal wrong set (length xs) cs
+  judged = e ∙ ap (λ (x : Bool). setRefusal x set (length xs) cs) w
 
-  pub call-passed : r ≡ 0 → Passed wrong set (length ws) cs
-  call-passed z = passed wrong set (length ws) cs (or-else-quiet (letsPass wrong set (length ws) cs) (emptyRefusal set) (sym judged ∙ z) .0)
+  pub call-passed : r ≡ 0 → Passed wrong set (length xs) cs
+  call-passed z = passed wrong set (length xs) cs (or-else-quiet (letsPass wrong set (length xs) cs) (emptyRefusal set) (sym judged ∙ z) .0)
 
-  module _ {B : Type 0} (refused : ℕ → B) (call : List ℕ → B) where
-    pub call-refused : (r ≡ 0 → ⊥) → refused r ≡ byClass refused wrong call set ws cs
+  module _ {B : Type 0} (refused : ℕ → B) (call : List A → B) where
+    pub call-refused : (r ≡ 0 → ⊥) → refused r ≡ byClass refused wrong call set xs cs
     call-refused h =
-        ap refused judged ∙ sym (answered-refused refused (setRefusal wrong set (length ws) cs) (call (chosen set ws cs)) (λ z. h (judged ∙ z)))
+        ap refused judged ∙ sym (answered-refused refused (setRefusal wrong set (length xs) cs) (call (chosen set xs cs)) (λ z. h (judged ∙ z)))
 
-    -- over the named words, moved to the front
-    pub call-accepted : {out : List ℕ} {n : ℕ} → r ≡ 0 → Front (chosen set ws cs) out n → call (take n out) ≡ byClass refused wrong call set ws cs
-    call-accepted z f =
-        ap call (f .front) ∙ sym (answered-accepted refused (setRefusal wrong set (length ws) cs) (call (chosen set ws cs)) (sym judged ∙ z))
+    pub call-answered : {answer : B} → r ≡ 0 → answer ≡ call (chosen set xs cs) → answer ≡ byClass refused wrong call set xs cs
+    call-answered z a =
+        a ∙ sym (answered-accepted refused (setRefusal wrong set (length xs) cs) (call (chosen set xs cs)) (sym judged ∙ z))
+
+    -- over the named elements, moved to the front
+    pub call-accepted : {out : List A} {n : ℕ} → r ≡ 0 → Front (chosen set xs cs) out n → call (take n out) ≡ byClass refused wrong call set xs cs
+    call-accepted z f = call-answered z (ap call (f .front))

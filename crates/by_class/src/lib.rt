@@ -46,7 +46,7 @@ fn lets_pass(wrong: bool, set: u8, samples: usize, classes: &[u8]) -> u32
 }
 
 // Those, then row 19.
-fn set_refusal(wrong: bool, set: u8, samples: usize, classes: &[u8]) -> u32
+pub fn set_refusal(wrong: bool, set: u8, samples: usize, classes: &[u8]) -> u32
     ensures { λ r. ⌜ r ≡ setRefusal wrong set samples (now (classes .entry)) ⌝ }
 {
     let first = lets_pass(wrong, set, samples, classes);
@@ -60,7 +60,7 @@ fn set_refusal(wrong: bool, set: u8, samples: usize, classes: &[u8]) -> u32
 }
 
 // The calls' own conditions of row 4.
-fn no_type(gm_type: u8) -> bool
+pub fn no_type(gm_type: u8) -> bool
     ensures { λ r. ⌜ r ≡ noType «gm_type» ⌝ }
 {
     if gm_type == 0 {
@@ -69,7 +69,7 @@ fn no_type(gm_type: u8) -> bool
     gm_type > fit::AFFINE
 }
 
-fn no_type_or_flag(gm_type: u8, flag: u8) -> bool
+pub fn no_type_or_flag(gm_type: u8, flag: u8) -> bool
     ensures { λ r. ⌜ r ≡ noTypeOrFlag «gm_type» flag ⌝ }
 {
     if no_type(gm_type) {
@@ -78,7 +78,7 @@ fn no_type_or_flag(gm_type: u8, flag: u8) -> bool
     flag > 1
 }
 
-fn no_model_or_flag(fitted: Fitted, flag: u8) -> bool
+pub fn no_model_or_flag(fitted: Fitted, flag: u8) -> bool
     ensures { λ r. ⌜ r ≡ noModelOrFlag fitted flag ⌝ }
 {
     if fit::type_of(fitted) == 0 {
@@ -89,7 +89,7 @@ fn no_model_or_flag(fitted: Fitted, flag: u8) -> bool
 
 // ---- refused answers
 
-fn refused_model(number: u32) -> Quantized
+pub fn refused_model(number: u32) -> Quantized
     ensures { λ r. ⌜ r ≡ refusedModel number ⌝ }
 {
     let params = [0i32; 6];
@@ -99,7 +99,7 @@ fn refused_model(number: u32) -> Quantized
     }
 }
 
-fn refused_trimmed_model(number: u32) -> TrimmedModel
+pub fn refused_trimmed_model(number: u32) -> TrimmedModel
     ensures { λ r. ⌜ r ≡ refusedTrimmedModel number ⌝ }
 {
     let params = [0i32; 6];

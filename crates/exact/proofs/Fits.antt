@@ -12,7 +12,7 @@ use Rattle.fit.specs.Sums.{translationTotals, rotZoomTotals, affineTotals, tran
 use Rattle.fit.specs.Fitted.{translationFrom, rotZoomFrom, affineFrom, translationFit, rotZoomFit, affineFit, fitOf, fitted, fitAnswer}
 use Rattle.exact.specs.Words.{Words, SameWords}
 use Rattle.exact.proofs.Counts.{same-length, same-or-refused}
-use Rattle.fit.proofs.Terms.{row-u, row-v, row-x, row-y, row-xx, row-xy, row-yy, row-xu, row-yu, row-xv, row-yv, row-q, row-p1, row-p2}
+use Rattle.exact.proofs.Terms.{row-u, row-v, row-x, row-y, row-xx, row-xy, row-yy, row-xu, row-yu, row-xv, row-yv, row-q, row-p1, row-p2}
 use Rattle.exact.proofs.Table.{same-sum}
 
 module _ {ws vs : List ℕ} (same : SameWords ws vs) (words : Words ws) where

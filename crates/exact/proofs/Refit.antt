@@ -29,7 +29,7 @@ use Rattle.laws.proofs.Stands.{ofInt-stands, sub-exact, div-exact, product-size
 use Rattle.laws.proofs.Interval.{Between, between-neg, between-size, between-of-size}
 use Rattle.exact.proofs.Counts.{same-length, same-or-refused}
 use Rattle.laws.proofs.Ranged.{Ranged, sum-ranged, difference-ranged, finer-ranged, right-product-ranged}
-use Rattle.fit.proofs.Terms.{Summable, row, x-ranged, y-ranged, u-ranged, v-ranged, halves-above}
+use Rattle.exact.proofs.Terms.{Summable, row, x-ranged, y-ranged, u-ranged, v-ranged, halves-above}
 use Rattle.exact.proofs.Table.{same-sum}
 use Rattle.exact.proofs.Fits.{same-fit}
 

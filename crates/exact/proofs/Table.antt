@@ -1,5 +1,5 @@
--- Every row of the table, and n, over at most 4,096 words of any field values. Where two lists hold each word equally often their whole-number sums are equal, and what stands for one whole number
--- is one number.
+-- Every row of the table, by the one law of bounded sums: over at most 4,096 words of any field values the sum stands for the whole-number sum, and so has every part of it. Where two lists
+-- hold each word equally often their whole-number sums are equal, and what stands for one whole number is one number.
 -- Assumes nothing.
 use Prim.Native.Nat.{ℕ, _≤_}
 use mathlib.Core.List.{List}
@@ -8,17 +8,29 @@ use native.Mathlib.Nat.{le-trans}
 use native.Mathlib.Omega.{arith}
 use lib.Dec.{lit≤}
 use lib.IntN.{ℤ, pos}
-use lib.ListN.{length}
+use lib.ListN.{length, take}
 use Rattle.sample.specs.Word.{mostSamples}
+use Rattle.sample.specs.Sample.{sampleOf}
 use Rattle.fit.specs.Sums.{countOf}
-use Rattle.laws.specs.Stands.{Stands, Each}
+use Rattle.laws.specs.Stands.{Stands, Bounded, Each}
 use Rattle.exact.specs.Words.{Word, Words, SameWords}
-use Rattle.fit.specs.Table.{Sum, sums, summed, Exact}
+use Rattle.exact.specs.Table.{Sum, sums, summed, Exact}
 use Rattle.laws.proofs.Stands.{ofInt-stands, stands-once}
-use Rattle.laws.proofs.ExactSum.{each-map}
+use Rattle.laws.proofs.ExactSum.{sum-exact, part-exact, each-map}
 use Rattle.exact.proofs.Counts.{same-whole-sum, same-length, same-each}
-use Rattle.fit.proofs.Exact.{exact}
-use Rattle.fit.proofs.Terms.{Summable, row-u, row-v, row-x, row-y, row-xx, row-xy, row-yy, row-xu, row-yu, row-xv, row-yv, row-q, row-p1, row-p2}
+use Rattle.exact.proofs.Terms.{Summable, row-u, row-v, row-x, row-y, row-xx, row-xy, row-yy, row-xu, row-yu, row-xv, row-yv, row-q, row-p1, row-p2}
+
+-- ---- each sum
+
+module _ (r : Sum) (row : Summable r) (ws : List ℕ) (words : Words ws) (few : length ws ≤ mostSamples) where
+  terms : Each (λ (w : ℕ). Bounded (r .scale) (r .most) (r .whole w) (r .term (sampleOf w))) ws
+  terms = each-map Word (λ (w : ℕ). Bounded (r .scale) (r .most) (r .whole w) (r .term (sampleOf w))) (row .term) ws words
+
+  pub exact : Exact r ws
+  exact = sum-exact (r .scale) (r .most) (λ w. r .term (sampleOf w)) (r .whole) (row .low) mostSamples (row .room) ws few terms
+
+  pub exact-part : (k : ℕ) → Exact r (take k ws)
+  exact-part k = part-exact (r .scale) (r .most) (λ w. r .term (sampleOf w)) (r .whole) (row .low) mostSamples (row .room) k ws few terms
 
 -- n
 pub count-exact : (ws : List ℕ) → length ws ≤ mostSamples → Stands 0 (pos (length ws)) (countOf ws)

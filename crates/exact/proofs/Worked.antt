@@ -13,10 +13,10 @@ use Rattle.sample.specs.Word.{mostSamples, wordOf}
 use Rattle.fit.specs.Sums.{total}
 use Rattle.laws.specs.Stands.{wholeLimit, Stands, Each, sumOf}
 use Rattle.exact.specs.Words.{Word}
-use Rattle.fit.specs.Table.{Sum, sumU, sumV, sumX, sumY, sumXX, sumXY, sumYY, sumXU, sumYU, sumXV, sumYV, sumQ, sumP1, sumP2, summed}
+use Rattle.exact.specs.Table.{Sum, sumU, sumV, sumX, sumY, sumXX, sumXY, sumYY, sumXU, sumYU, sumXV, sumYV, sumQ, sumP1, sumP2, summed}
 use Rattle.laws.proofs.Stands.{ofInt-stands, stands-once, finer}
-use Rattle.fit.proofs.Terms.{Summable, row-u, row-x, row-xx, row-xu, row-q, row-p1, row-p2}
-use Rattle.fit.proofs.Exact.{exact}
+use Rattle.exact.proofs.Terms.{Summable, row-u, row-x, row-xx, row-xu, row-q, row-p1, row-p2}
+use Rattle.exact.proofs.Table.{exact}
 
 -- ---- the last word, 4,096 times
 

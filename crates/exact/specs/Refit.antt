@@ -4,7 +4,7 @@ use Prim.Native.Nat.{ℕ, _+_, _*_, _^_}
 use lib.IntN.{ℤ, pos, _+ℤ_, _-ℤ_, _*ℤ_}
 use Rattle.quantize.specs.declared.Linear.{Linear}
 use Rattle.quantize.specs.Quantize.{continuousLinear, leftU, leftV}
-use Rattle.fit.specs.Table.{Sum, xHalves, yHalves, uEighths, vEighths, mostHalves, highEighths}
+use Rattle.exact.specs.Table.{Sum, xHalves, yHalves, uEighths, vEighths, mostHalves, highEighths}
 
 -- 1 at 16 fraction bits
 abbrev pub whole1 : ℕ

@@ -1,7 +1,6 @@
 pub mod Sums
-pub mod Terms
-pub mod Exact
-pub mod Whole
+pub mod Systems
+pub mod Tables
 pub mod Types
 pub mod Refusals
 pub mod Accepted

@@ -10,9 +10,8 @@ use Rattle.laws.specs.Binary64.{_⊕_, one}
 use Rattle.sample.specs.declared.MotionSample.{MotionSample}
 use Rattle.solve.specs.declared.Outcome.{Outcome}
 use Rattle.solve.specs.declared.Outcome.the-variants.{Solved, Singular}
-use Rattle.solve.specs.declared.Solution.{Solution}
 use Rattle.solve.specs.Elimination.{unlessSingular}
-use Rattle.solve.specs.Solution.{solved, numberOf}
+use Rattle.solve.specs.Solution.{Solution, solved, numberOf}
 use Rattle.fit.specs.declared.Fitted.{Fitted}
 use Rattle.fit.specs.declared.Fitted.the-variants.{Refused, RotZoom, Affine}
 use Rattle.fit.specs.Sums.{sumsOf, countAs, rotZoomTotals, affineTotals}

@@ -13,10 +13,8 @@ use Rattle.laws.specs.Binary64.{_⊕_, _⊘_, nought, one}
 use Rattle.sample.specs.declared.MotionSample.{MotionSample}
 use Rattle.sample.specs.Word.{mostSamples}
 use Rattle.sample.specs.Sample.{sampleOf}
-use Rattle.solve.specs.declared.System.{System}
-use Rattle.solve.specs.declared.Solution.{Solution}
-use Rattle.solve.specs.Elimination.{unlessSingular}
-use Rattle.solve.specs.Solution.{solved, numberOf}
+use Rattle.solve.specs.Elimination.{System, unlessSingular}
+use Rattle.solve.specs.Solution.{Solution, solved, numberOf}
 use Rattle.fit.specs.declared.Fitted.{Fitted}
 use Rattle.fit.specs.declared.Fitted.the-variants.{Refused, Translation, RotZoom, Affine}
 use Rattle.fit.specs.declared.TranslationSums.{TranslationSums}

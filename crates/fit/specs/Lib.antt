@@ -1,4 +1,3 @@
 pub mod Sums
 pub mod Fitted
-pub mod Table
 pub mod Inner

@@ -1,29 +1,24 @@
 // The three fits of motion models: a slice of sample words goes in, a fitted model or a refusal comes
 // out. Sums, elimination and back-substitution in binary64, one rounding an operation, samples first
-// to last; the sums of words are exact, and so are taken in whole numbers: `fit_translation`,
-// `fit_rotzoom`, `fit_affine` (encoder/global_motion.rs); docs/RULES.md, 'Records' (Model), 'Fits and
-// score', rows 1, 4 and 6. A walk over samples themselves begins with the `begin` of its fit, takes its
-// `step` for each sample and ends with its `ends`.
+// to last: `fit_translation`, `fit_rotzoom`, `fit_affine` (encoder/global_motion.rs); docs/RULES.md,
+// 'Records' (Model), 'Fits and score', rows 1, 4 and 6. Each word is made into its sample, which goes to
+// the fit's `step` by value. A walk over samples themselves takes the same `step` for each: it begins
+// with the fit's `begin` and ends with its `ends`.
 
 use sample::MOST_SAMPLES;
 use sample::MotionSample;
 use solve::Outcome;
-use solve::Solution;
-use solve::Solutions;
-use solve::System;
-use tally::Fields;
 ghost use mathlib.Core.Path.{_≡_};
-ghost use Prim.Native.Nat.{_+_, _≤_};
+ghost use Prim.Native.Nat.{_≤_};
 ghost use lib.IntN.{pos};
 ghost use lib.ListN.{length};
 ghost use lib.Ieee.{binary64, ofInt};
 ghost use Rattle.sample.specs.Word.{mostSamples};
-ghost use Rattle.laws.specs.Stands.{wholeLimit};
-ghost use Rattle.tally.specs.Inner.{mostCount, SmallFields};
-ghost use Rattle.solve.specs.Solution.{solution};
+ghost use Rattle.sample.specs.Sample.{pelsOf};
+ghost use Rattle.sample.specs.Inner.{Tabled};
 ghost use Rattle.fit.specs.Sums.{noSums, countAs, translationTotals, rotZoomTotals, affineTotals, translationSums, rotZoomSums, affineSums};
-ghost use Rattle.fit.specs.Inner.{translationStep, rotZoomStep, affineStep, taken, wholeOver, centreSum, motionSum, productSum, momentSum, rotZoomOver, affineOver};
-ghost use Rattle.fit.specs.Fitted.{refusalOf, typeOf, rotZoomSystem, affineU, rotZoomModel, affineModel, translationOf, rotZoomOf, affineOf};
+ghost use Rattle.fit.specs.Inner.{translationStep, rotZoomStep, affineStep, taken};
+ghost use Rattle.fit.specs.Fitted.{refusalOf, typeOf, rotZoomSystem, affineU, translationOf, rotZoomOf, affineOf};
 ghost use Rattle.fit.specs.Fitted.{translationFit, rotZoomFit, affineFit, fitOf, listRefusal, typeRefusal, fitRefusal, fitAnswer, fitted};
 
 // The type codes of the three fits.
@@ -32,6 +27,9 @@ pub const TRANSLATION: u8 = 1;
 pub const ROTZOOM: u8 = 2;
 
 pub const AFFINE: u8 = 3;
+
+// From so many words on a table of all motions spares more than it costs.
+const LONG_LIST: usize = 256;
 
 // Rows of the rules' table.
 pub const TOO_MANY: u32 = 1;
@@ -229,129 +227,75 @@ pub fn affine_step(t: AffineSums, s: MotionSample) -> AffineSums
     }
 }
 
-// A whole number over a power of two, exact.
-fn whole_over(above: u64, below: u64, unit: f64) -> f64
-    requires { ⌜ above + below ≤ wholeLimit ⌝ }
-    ensures { λ r. ⌜ r ≡ wholeOver above below unit ⌝ }
-{
-    (above as i64 - below as i64) as f64 / unit
-}
-
-// The sums over n words from sums of their fields: of x or y, in halves.
-fn centre_sum(places: u32, n: u32) -> f64
-    requires { ⌜ places ≤ mostCount ⌝ }
-    requires { ⌜ n ≤ mostSamples ⌝ }
-    ensures { λ r. ⌜ r ≡ centreSum places n ⌝ }
-{
-    whole_over(32 * places as u64 + 15 * n as u64, 0, 2.0)
-}
-
-// Of u or v, in eighths.
-fn motion_sum(motions: u32, n: u32) -> f64
-    requires { ⌜ motions ≤ mostCount ⌝ }
-    requires { ⌜ n ≤ mostSamples ⌝ }
-    ensures { λ r. ⌜ r ≡ motionSum motions n ⌝ }
-{
-    whole_over(motions as u64, 223 * n as u64, 8.0)
-}
-
-// Of a product of x and y, in quarters.
-fn product_sum(products: u32, a: u32, b: u32, n: u32) -> f64
-    requires { ⌜ products ≤ mostCount ⌝ }
-    requires { ⌜ a ≤ mostCount ⌝ }
-    requires { ⌜ b ≤ mostCount ⌝ }
-    requires { ⌜ n ≤ mostSamples ⌝ }
-    ensures { λ r. ⌜ r ≡ productSum products a b n ⌝ }
-{
-    whole_over(
-        1024 * products as u64 + (480 * a as u64 + 480 * b as u64) + 225 * n as u64,
-        0,
-        4.0,
-    )
-}
-
-// Of x or y times u or v, in sixteenths.
-fn moment_sum(products: u32, places: u32, motions: u32, n: u32) -> f64
-    requires { ⌜ products ≤ mostCount ⌝ }
-    requires { ⌜ places ≤ mostCount ⌝ }
-    requires { ⌜ motions ≤ mostCount ⌝ }
-    requires { ⌜ n ≤ mostSamples ⌝ }
-    ensures { λ r. ⌜ r ≡ momentSum products places motions n ⌝ }
-{
-    let above = 32 * products as u64 + 15 * motions as u64;
-    let below = 7136 * places as u64 + 3345 * n as u64;
-    whole_over(above, below, 16.0)
-}
-
-fn rotzoom_over(t: Fields, n: u32) -> RotZoomSums
-    requires { ⌜ SmallFields t ⌝ }
-    requires { ⌜ n ≤ mostSamples ⌝ }
-    ensures { λ r. ⌜ r ≡ rotZoomOver t n ⌝ }
-{
-    RotZoomSums {
-        sx: centre_sum(t.c, n),
-        sy: centre_sum(t.r, n),
-        q: product_sum(t.cc, t.c, t.c, n) + product_sum(t.rr, t.r, t.r, n),
-        p1: moment_sum(t.cu, t.c, t.u, n) + moment_sum(t.rv, t.r, t.v, n),
-        p2: moment_sum(t.ru, t.r, t.u, n) - moment_sum(t.cv, t.c, t.v, n),
-        su: motion_sum(t.u, n),
-        sv: motion_sum(t.v, n),
-    }
-}
-
-fn affine_over(t: Fields, n: u32) -> AffineSums
-    requires { ⌜ SmallFields t ⌝ }
-    requires { ⌜ n ≤ mostSamples ⌝ }
-    ensures { λ r. ⌜ r ≡ affineOver t n ⌝ }
-{
-    AffineSums {
-        sx: centre_sum(t.c, n),
-        sy: centre_sum(t.r, n),
-        sxx: product_sum(t.cc, t.c, t.c, n),
-        sxy: product_sum(t.cr, t.c, t.r, n),
-        syy: product_sum(t.rr, t.r, t.r, n),
-        sxu: moment_sum(t.cu, t.c, t.u, n),
-        syu: moment_sum(t.ru, t.r, t.u, n),
-        su: motion_sum(t.u, n),
-        sxv: moment_sum(t.cv, t.c, t.v, n),
-        syv: moment_sum(t.rv, t.r, t.v, n),
-        sv: motion_sum(t.v, n),
-    }
-}
-
-// The sums of a list of words, equal to those of its samples one by one.
+// The sums of a list of words, each made into its sample.
 fn translation_sums(words: &[u32]) -> TranslationSums
-    requires { ⌜ length (now words) ≤ mostSamples ⌝ }
     ensures { λ r. ⌜ r ≡ translationSums (now (words .entry)) ⌝ }
 {
-    let t = tally::motions_of(words);
-    let n = words.len() as u32;
-    TranslationSums {
-        su: motion_sum(t.u, n),
-        sv: motion_sum(t.v, n),
+    let mut t = translation_begin();
+    let mut i = 0usize;
+    while i < words.len() {
+        t = translation_step(t, sample::sample_of(words[i]));
+        i += 1;
     }
+    t
+}
+
+// With the motions looked up where their table is whole.
+fn rotzoom_over(motions: &[f64], words: &[u32]) -> RotZoomSums
+    requires { ⌜ Tabled pelsOf (length (now motions)) (now motions) ⌝ }
+    ensures { λ r. ⌜ r ≡ rotZoomSums (now (words .entry)) ⌝ }
+{
+    let mut t = rotzoom_begin();
+    let centres = sample::centres();
+    let mut i = 0usize;
+    while i < words.len() {
+        t = rotzoom_step(t, sample::sample_from(&centres, motions, words[i]));
+        i += 1;
+    }
+    t
+}
+
+fn affine_over(motions: &[f64], words: &[u32]) -> AffineSums
+    requires { ⌜ Tabled pelsOf (length (now motions)) (now motions) ⌝ }
+    ensures { λ r. ⌜ r ≡ affineSums (now (words .entry)) ⌝ }
+{
+    let mut t = affine_begin();
+    let centres = sample::centres();
+    let mut i = 0usize;
+    while i < words.len() {
+        t = affine_step(t, sample::sample_from(&centres, motions, words[i]));
+        i += 1;
+    }
+    t
 }
 
 fn rotzoom_sums(words: &[u32]) -> RotZoomSums
-    requires { ⌜ length (now words) ≤ mostSamples ⌝ }
     ensures { λ r. ⌜ r ≡ rotZoomSums (now (words .entry)) ⌝ }
 {
-    let t = tally::fields_of(words);
-    rotzoom_over(t, words.len() as u32)
+    if words.len() < LONG_LIST {
+        let none = [0.0f64; 1];
+        return rotzoom_over(&none[..0], words);
+    }
+    let motions = sample::motions();
+    rotzoom_over(&motions[..512], words)
 }
 
 fn affine_sums(words: &[u32]) -> AffineSums
-    requires { ⌜ length (now words) ≤ mostSamples ⌝ }
     ensures { λ r. ⌜ r ≡ affineSums (now (words .entry)) ⌝ }
 {
-    let t = tally::fields_of(words);
-    affine_over(t, words.len() as u32)
+    if words.len() < LONG_LIST {
+        let none = [0.0f64; 1];
+        return affine_over(&none[..0], words);
+    }
+    let motions = sample::motions();
+    affine_over(&motions[..512], words)
 }
 
-fn rotzoom_system(t: RotZoomSums, n: f64) -> System
-    ensures { λ r. ⌜ r ≡ rotZoomSystem t n ⌝ }
+// The four equations of a rotation-zoom, without their right side.
+fn rotzoom_matrix(t: RotZoomSums, n: f64) -> [f64; 16]
+    ensures { λ r. ⌜ r ≡ rotZoomSystem t n .a ⌝ }
 {
-    let a = [
+    [
         t.q,
         0.0,
         t.sx,
@@ -368,16 +312,14 @@ fn rotzoom_system(t: RotZoomSums, n: f64) -> System
         -t.sx,
         0.0,
         n,
-    ];
-    let b = [t.p1, t.p2, t.su, t.sv];
-    System { a, b }
+    ]
 }
 
-// The matrix that the rows of u and of v share, and the right side of u.
-fn affine_system(t: AffineSums, n: f64) -> System
-    ensures { λ r. ⌜ r ≡ affineU t n ⌝ }
+// The three equations that the rows of u and of v share.
+fn affine_matrix(t: AffineSums, n: f64) -> [f64; 16]
+    ensures { λ r. ⌜ r ≡ affineU t n .a ⌝ }
 {
-    let a = [
+    [
         t.sxx,
         t.sxy,
         t.sx,
@@ -394,9 +336,7 @@ fn affine_system(t: AffineSums, n: f64) -> System
         0.0,
         0.0,
         0.0,
-    ];
-    let b = [t.sxu, t.syu, t.su, 0.0];
-    System { a, b }
+    ]
 }
 
 // The mean motion; of no samples not-a-number twice.
@@ -412,11 +352,14 @@ fn translation_of(t: TranslationSums, samples: usize) -> Fitted
 }
 
 // Unknowns in the order alpha, b, tx, ty.
-fn rotzoom_model(solution: Solution) -> Fitted
-    ensures { λ r. ⌜ r ≡ rotZoomModel solution ⌝ }
+fn rotzoom_of(t: RotZoomSums, samples: usize) -> Fitted
+    requires { ⌜ samples ≤ mostSamples ⌝ }
+    ensures { λ r. ⌜ r ≡ rotZoomOf t (countAs samples) ⌝ }
 {
-    let x = solution.x;
-    let outcome = solution.outcome;
+    let mut a = rotzoom_matrix(t, count_of(samples));
+    let mut b = [t.p1, t.p2, t.su, t.sv];
+    let mut x = [0.0f64; 4];
+    let outcome = solve::solve_linear(4, &mut a, &mut b, &mut x);
     match outcome {
         Outcome::Singular => Fitted::Refused(SINGULAR),
         Outcome::Solved => Fitted::RotZoom {
@@ -428,40 +371,35 @@ fn rotzoom_model(solution: Solution) -> Fitted
     }
 }
 
-fn rotzoom_of(t: RotZoomSums, samples: usize) -> Fitted
-    requires { ⌜ samples ≤ mostSamples ⌝ }
-    ensures { λ r. ⌜ r ≡ rotZoomOf t (countAs samples) ⌝ }
-{
-    rotzoom_model(solve::solve_linear(4, rotzoom_system(t, count_of(samples))))
-}
-
-fn affine_model(solutions: Solutions) -> Fitted
-    ensures { λ r. ⌜ r ≡ affineModel (solution (solutions .outcome) (solutions .x)) (solution (solutions .outcome) (solutions .y)) ⌝ }
-{
-    let x = solutions.x;
-    let y = solutions.y;
-    let outcome = solutions.outcome;
-    match outcome {
-        Outcome::Singular => Fitted::Refused(SINGULAR),
-        Outcome::Solved => Fitted::Affine {
-            m0: x[2],
-            m1: y[2],
-            m2: 1.0 + x[0],
-            m3: x[1],
-            m4: y[0],
-            m5: 1.0 + y[1],
-        },
-    }
-}
-
-// The rows of u and of v share their matrix, and so one elimination.
+// The row of u, then the row of v.
 fn affine_of(t: AffineSums, samples: usize) -> Fitted
     requires { ⌜ samples ≤ mostSamples ⌝ }
     ensures { λ r. ⌜ r ≡ affineOf t (countAs samples) ⌝ }
 {
-    let system = affine_system(t, count_of(samples));
-    let down = [t.sxv, t.syv, t.sv, 0.0];
-    affine_model(solve::solve_pair(3, system, down))
+    let n = count_of(samples);
+    let mut a = affine_matrix(t, n);
+    let mut u = [t.sxu, t.syu, t.su, 0.0];
+    let mut xu = [0.0f64; 4];
+    let outcome = solve::solve_linear(3, &mut a, &mut u, &mut xu);
+    match outcome {
+        Outcome::Singular => return Fitted::Refused(SINGULAR),
+        Outcome::Solved => {}
+    }
+    let mut a = affine_matrix(t, n);
+    let mut v = [t.sxv, t.syv, t.sv, 0.0];
+    let mut xv = [0.0f64; 4];
+    let outcome = solve::solve_linear(3, &mut a, &mut v, &mut xv);
+    match outcome {
+        Outcome::Singular => Fitted::Refused(SINGULAR),
+        Outcome::Solved => Fitted::Affine {
+            m0: xu[2],
+            m1: xv[2],
+            m2: 1.0 + xu[0],
+            m3: xu[1],
+            m4: xv[0],
+            m5: 1.0 + xv[1],
+        },
+    }
 }
 
 fn translation_fit(words: &[u32]) -> Fitted

@@ -31,7 +31,7 @@ const START_OVER: u32 = 14;
 
 const NOT_IDENTITY: u32 = 7;
 
-fn key_lengths_wrong(types: usize, params: usize) -> bool
+pub fn key_lengths_wrong(types: usize, params: usize) -> bool
     ensures { λ r. ⌜ r ≡ keyLengthsWrong types params ⌝ }
 {
     if types != REFERENCES {
@@ -139,7 +139,7 @@ fn identity_number(i: usize) -> i32
 }
 
 // The seven models of a key frame.
-fn seven_identities() -> [i32; 42]
+pub fn seven_identities() -> [i32; 42]
     ensures { λ r. ⌜ r ≡ identities 7 ⌝ }
 {
     let mut out = [0i32; 42];

@@ -5,4 +5,5 @@ pub mod OffGrid
 pub mod Table
 pub mod Slots
 pub mod Symbols
+pub mod Reach
 pub mod Bounds

@@ -39,7 +39,7 @@ module _ (abs prec c : ℕ) (z : ℤ) where
             ∙ ap (λ (x : ℤ). x +ℤ pos c) (sym (signed-parts (z -ℤ pos c)) ∙ ap (signed s) (sym steps) ∙ sym (signed-times s k (step prec)));
       }
 
-  steps-of-codable : Codable abs prec c z → (size ≤ 2 ^ abs * step prec) × (size % step prec ≡ 0)
+  pub steps-of-codable : Codable abs prec c z → (size ≤ 2 ^ abs * step prec) × (size % step prec ≡ 0)
   steps-of-codable g =
       let k : ℕ = natAbs (g .ordinal) in
       let s : Bool = negative (g .ordinal) in

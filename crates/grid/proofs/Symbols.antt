@@ -89,14 +89,18 @@ place-below abs prec slot z e h =
     (div-lt-iff-lt-mul (pow-pos (16 - prec)) .1
     (omega (arith, natAbs-add-le y (pos n), add-mul (2 * 2 ^ abs) 1 (step prec), one-mul (step prec), mul-assoc 2 (2 ^ abs) (step prec), pow-pos (16 - prec))))
 
--- ---- at the rows of the table
-
 less-times : (b : Bool) (prec : ℕ) → prec ≤ 16 → choose b (2 ^ prec) 0 * step prec ≡ choose b 65536 0
 less-times true prec h = sym (pow-add 2 prec (16 - prec)) ∙ ap (λ (n : ℕ). 2 ^ n) (let e : prec + (16 - prec) ≡ 16 = omega arith in e)
 less-times false prec h = zero-mul (step prec)
 
-pub row-less : (gmType flag slot : ℕ) → lessOf (precBits gmType flag slot) slot * step (precBits gmType flag slot) ≡ centre slot
-row-less gmType flag slot = less-times (either (eqb slot 2) (eqb slot 5)) (precBits gmType flag slot) (table-row gmType flag slot .fraction)
+-- what a prior is less is the centre, in steps
+pub less-steps : (prec slot : ℕ) → prec ≤ 16 → lessOf prec slot * step prec ≡ centre slot
+less-steps prec slot h = less-times (either (eqb slot 2) (eqb slot 5)) prec h
+
+-- ---- at the rows of the table
+
+row-less : (gmType flag slot : ℕ) → lessOf (precBits gmType flag slot) slot * step (precBits gmType flag slot) ≡ centre slot
+row-less gmType flag slot = less-steps (precBits gmType flag slot) slot (table-row gmType flag slot .fraction)
 
 reaches : (s t h : Bool) → choose s 4194304 8192 ≡ 2 ^ choose (choose s t false) (choose h 9 8) 12 * step (choose (choose s t false) (choose h 3 2) (choose s 6 15))
 reaches true true true = refl

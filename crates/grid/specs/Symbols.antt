@@ -1,8 +1,9 @@
 -- A codable number as a header carries it: its symbol, which is the ordinal plus 2 ^ absBits; and the place of a prior among the symbols.
 -- docs/RULES.md, 'Reading by the standard'; clauses 5.9.25 and 5.9.26.
 -- Assumes nothing.
-use Prim.Native.Nat.{ℕ, _+_, _*_, _^_}
-use mathlib.Core.Bool.{Bool}
+use Prim.Native.Nat.{ℕ, _+_, _*_, _^_, _<_}
+use mathlib.Core.Bool.{Bool, false}
+use mathlib.Core.Path.{_≡_}
 use lib.Dec.{ltb, eqb}
 use lib.IntN.{ℤ, pos, natAbs, _+ℤ_, _-ℤ_}
 use lib.Signed.{shrZ}
@@ -44,3 +45,13 @@ priorReach slot = choose (ltb slot 2) 4194304 8192
 -- row 8: a prior out of range
 abbrev pub priorOut : ℕ → ℤ → Bool
 priorOut slot z = ltb (priorReach slot) (natAbs (z -ℤ pos (centre slot)))
+
+-- a prior has its place among the symbols: p is no negative number, and below S
+pub record HasPlace (abs prec slot : ℕ) (q : ℤ) : Type 0 where
+  pub whole : placeNumber abs prec slot q ≡ pos (placeOf abs prec slot q)
+  pub below : placeOf abs prec slot q < symbols abs
+
+-- a prior in range for a slot of a type, under a flag
+pub record PriorFor (gmType flag slot : ℕ) (q : ℤ) : Type 0 where
+  pub within : priorOut slot q ≡ false
+  pub placed : HasPlace (absBits gmType flag slot) (precBits gmType flag slot) slot q

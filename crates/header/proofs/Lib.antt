@@ -4,6 +4,7 @@ pub mod Worked
 pub mod Reference
 pub mod Placed
 pub mod RoundTrip
+pub mod Priors
 pub mod Count
 pub mod Slots
 pub mod Page

@@ -28,17 +28,17 @@ page-bytes first h zero = h
 page-bytes first h (suc i) = zero-bytes 124 i
 
 module _ (start before : ℕ) (old : List ℕ) (b : Begins start before old) (xs : List ℕ) (few : length xs ≤ 987) (roomy : bytesFor start (length xs) ≤ length old) (page : List ℕ)
-    (fresh : page ≡ pageOf before) where
+    (fresh : page ≡ pageOf before) (z : ℕ) (e : z ≡ start) where
   paged : length page ≡ 125
   paged = ap length fresh
 
   -- the references' bits have room on the page
-  pub page-room : Room page start (length xs)
+  pub page-room : Room page z (length xs)
   page-room = record { within = omega (arith, b .low, paged); small = omega (arith, b .low) }
 
-  module _ (p : List ℕ) (j : ℕ) (w : Wrote page start xs p j) where
+  module _ (p : List ℕ) (j : ℕ) (w : Wrote page z xs p j) where
     long : length p ≡ 125
-    long = wrote-length page start xs p j w ∙ paged
+    long = wrote-length page z xs p j w ∙ paged
 
     -- and so have the zeros behind them
     pub pad-room : Room p j (length (padBits j))
@@ -61,7 +61,7 @@ module _ (start before : ℕ) (old : List ℕ) (b : Begins start before old) (xs
       enough = (omega (arith, page-long, whole .1, b .low), omega (arith, whole .1, roomy))
 
       on-page : q ≡ putBits (pageOf before) start (xs ++ padBits (start + length xs))
-      on-page = v .buffer ∙ rw (w .buffer, w .at, fresh) (sym (putBits-append (pageOf before) start xs (padBits (start + length xs))))
+      on-page = v .buffer ∙ rw (w .buffer, w .at, e, fresh) (sym (putBits-append (pageOf before) start xs (padBits (start + length xs))))
 
       pub laid : AreBits xs → Bytes old → onto (take (k / 8) q) old ≡ bitsPlaced start xs old
       laid bits bytes =

@@ -34,27 +34,32 @@ right : (b : Bool) → not b ≡ false → b ≡ true
 right true e = refl
 right false e = sym e
 
-module _ (types : List ℕ) (flag : ℕ) (ps : List ℤ) (r : ℕ) where
+module _ (gmType flag : ℕ) (ps : List ℤ) (first : ℕ) where
   abbrev rightNumber : ℕ → ℤ
-  rightNumber slot =
-      choose (carries (getD types r 0) slot) (quantized (getD types r 0) flag slot (slotOf ps (6 * r) slot))
-      (filler (getD types r 0) slot (slotOf ps (6 * r) 2) (slotOf ps (6 * r) 3))
+  rightNumber slot = choose (carries gmType slot) (quantized gmType flag slot (slotOf ps first slot)) (filler gmType slot (slotOf ps first 2) (slotOf ps first 3))
 
-  pub valid-model : r < length types → typesOver types ≡ false → modelsWrong types flag ps ≡ false → ValidModel (getD types r 0) flag ps (6 * r)
-  unfolding typesOver modelsWrong modelWrong slotWrong
-  valid-model h known wrong =
+  pub right-model : gmType ≤ 3 → modelWrong gmType flag ps first ≡ false → ValidModel gmType flag ps first
+  unfolding modelWrong slotWrong
+  right-model known wrong =
       record {
-        known = ltb-false 3 (getD types r 0) (each-fails (typeAt types) (length types) known r h);
+        known = known;
         carried = λ slot l c.
-            let e : slotOf ps (6 * r) slot ≡ quantized (getD types r 0) flag slot (slotOf ps (6 * r) slot) = rw c at (own slot l) in
-            subst (Codable (absBits (getD types r 0) flag slot) (precBits (getD types r 0) flag slot) (centre slot)) (sym e) (row-codable (getD types r 0) flag slot (slotOf ps (6 * r) slot));
+            let e : slotOf ps first slot ≡ quantized gmType flag slot (slotOf ps first slot) = rw c at (own slot l) in
+            subst (Codable (absBits gmType flag slot) (precBits gmType flag slot) (centre slot)) (sym e) (row-codable gmType flag slot (slotOf ps first slot));
         filled = λ slot l c. rw c at (own slot l);
       }
     where
-      own : (slot : ℕ) → slot < 6 → slotOf ps (6 * r) slot ≡ rightNumber slot
+      own : (slot : ℕ) → slot < 6 → slotOf ps first slot ≡ rightNumber slot
       own slot l =
-          let e : slotAt (getD types r 0) flag ps (6 * r) slot ≡ false = each-fails (slotAt (getD types r 0) flag ps (6 * r)) 6 (each-fails (modelAt types flag ps) (length types) wrong r h) slot l in
-          same-equal (slotOf ps (6 * r) slot) (rightNumber slot) (right (equal (slotOf ps (6 * r) slot) (rightNumber slot)) e)
+          let e : slotAt gmType flag ps first slot ≡ false = each-fails (slotAt gmType flag ps first) 6 wrong slot l in
+          same-equal (slotOf ps first slot) (rightNumber slot) (right (equal (slotOf ps first slot) (rightNumber slot)) e)
+
+pub valid-model : (types : List ℕ) (flag : ℕ) (ps : List ℤ) (r : ℕ) → r < length types → typesOver types ≡ false → modelsWrong types flag ps ≡ false
+    → ValidModel (getD types r 0) flag ps (6 * r)
+unfolding typesOver modelsWrong
+valid-model types flag ps r h known wrong =
+    right-model (getD types r 0) flag ps (6 * r) (ltb-false 3 (getD types r 0) (each-fails (typeAt types) (length types) known r h))
+    (each-fails (modelAt types flag ps) (length types) wrong r h)
 
 pub valid-prior : (qs : List ℤ) (r : ℕ) → 6 * r + 6 ≤ length qs → priorsOut qs ≡ false → ValidPrior qs (6 * r)
 unfolding priorsOut

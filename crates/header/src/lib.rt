@@ -7,7 +7,7 @@ ghost use Prim.Native.Nat.{_+_, _≤_, _<_};
 ghost use lib.ListN.{length, take};
 ghost use Rattle.laws.specs.Buffer.{onto};
 ghost use Rattle.laws.specs.Refusal.{judge};
-ghost use Rattle.bits.specs.Inner.{Room, Wrote, FieldIs, Ready, Put};
+ghost use Rattle.bits.specs.Inner.{Room, Wrote, FieldIs};
 ghost use Rattle.grid.specs.Inner.{PriorIn};
 ghost use Rattle.header.specs.Coefficient.{coefficientBits};
 ghost use Rattle.header.specs.Count.{slotCount, modelCount, headerCount};
@@ -17,7 +17,6 @@ ghost use Rattle.header.specs.Writing.{lengthsWrong, bytesFor, tooShort,
 use bits::BITS_OF_A_BYTE;
 use bits::BitCursor;
 use bits::Field;
-use bits::Pen;
 use grid::IDENTITY;
 use grid::ROTZOOM;
 use grid::TRANSLATION;
@@ -58,20 +57,20 @@ pub fn global_param_length(gm_type: u8, flag: u8, slot: u8, value: i32, prior: i
 }
 
 fn write_global_param(
-    pen: Pen,
+    cursor: BitCursor,
     header: &mut [u8],
     gm_type: u8,
     flag: u8,
     slot: u8,
     value: i32,
     prior: i32,
-) -> Pen
-    requires { ⌜ PriorIn slot prior × Ready (now header) pen (length (coefficientBits «gm_type» flag slot value prior)) ⌝ }
-    ensures { λ r. ⌜ Put (now (header .entry)) pen (coefficientBits «gm_type» flag slot value prior) (now (header .exit)) r ⌝ }
+) -> BitCursor
+    requires { ⌜ PriorIn slot prior × Room (now header) (cursor .at) (length (coefficientBits «gm_type» flag slot value prior)) ⌝ }
+    ensures { λ r. ⌜ Wrote (now (header .entry)) (cursor .at) (coefficientBits «gm_type» flag slot value prior) (now (header .exit)) (r .at) ⌝ }
 {
     let s = grid::symbols_of(gm_type, flag, slot, prior);
     let t = grid::symbol_of(gm_type, flag, slot, value);
-    subexp::encode_unsigned_subexp_with_ref(pen, header, s.mx, s.r, t)
+    subexp::encode_unsigned_subexp_with_ref(cursor, header, s.mx, s.r, t)
 }
 
 // is_global, is_rot_zoom and is_translation, as far as they are written.
@@ -90,16 +89,17 @@ fn type_field(gm_type: u8) -> Field
     Field { n: 3, value: 4 }
 }
 
-fn write_type(pen: Pen, header: &mut [u8], gm_type: u8) -> Pen
-    requires { ⌜ Ready (now header) pen (length (typeBits «gm_type»)) ⌝ }
-    ensures { λ r. ⌜ Put (now (header .entry)) pen (typeBits «gm_type») (now (header .exit)) r ⌝ }
+fn write_type(cursor: BitCursor, header: &mut [u8], gm_type: u8) -> BitCursor
+    requires { ⌜ Room (now header) (cursor .at) (length (typeBits «gm_type»)) ⌝ }
+    ensures { λ r. ⌜ Wrote (now (header .entry)) (cursor .at) (typeBits «gm_type») (now (header .exit)) (r .at) ⌝ }
 {
-    pen.put(header, type_field(gm_type))
+    let field = type_field(gm_type);
+    cursor.write_bits(header, field.n, field.value)
 }
 
 // The slot of the model whose six numbers begin at `first`.
 fn write_slot(
-    pen: Pen,
+    cursor: BitCursor,
     header: &mut [u8],
     gm_type: u8,
     flag: u8,
@@ -107,32 +107,32 @@ fn write_slot(
     prior: &[i32],
     first: usize,
     slot: u8,
-) -> Pen
-    requires { ⌜ ModelReady (now params) (now prior) first × (slot < 6) × Ready (now header) pen (length (slotBits flag (now params) (now prior) «gm_type» first slot)) ⌝ }
-    ensures { λ r. ⌜ Put (now (header .entry)) pen (slotBits flag (now (params .entry)) (now (prior .entry)) «gm_type» first slot) (now (header .exit)) r ⌝ }
+) -> BitCursor
+    requires { ⌜ ModelReady (now params) (now prior) first × (slot < 6) × Room (now header) (cursor .at) (length (slotBits flag (now params) (now prior) «gm_type» first slot)) ⌝ }
+    ensures { λ r. ⌜ Wrote (now (header .entry)) (cursor .at) (slotBits flag (now (params .entry)) (now (prior .entry)) «gm_type» first slot) (now (header .exit)) (r .at) ⌝ }
 {
     let value = params[first + slot as usize];
     let from = prior[first + slot as usize];
-    write_global_param(pen, header, gm_type, flag, slot, value, from)
+    write_global_param(cursor, header, gm_type, flag, slot, value, from)
 }
 
 // The coefficients of the model whose six numbers begin at `first`, in the standard's order: `grid::slots_of`.
 fn write_model(
-    pen: Pen,
+    cursor: BitCursor,
     header: &mut [u8],
     gm_type: u8,
     flag: u8,
     params: &[i32],
     prior: &[i32],
     first: usize,
-) -> Pen
-    requires { ⌜ ModelReady (now params) (now prior) first × Ready (now header) pen (length (modelBits flag (now params) (now prior) «gm_type» first)) ⌝ }
-    ensures { λ r. ⌜ Put (now (header .entry)) pen (modelBits flag (now (params .entry)) (now (prior .entry)) «gm_type» first) (now (header .exit)) r ⌝ }
+) -> BitCursor
+    requires { ⌜ ModelReady (now params) (now prior) first × Room (now header) (cursor .at) (length (modelBits flag (now params) (now prior) «gm_type» first)) ⌝ }
+    ensures { λ r. ⌜ Wrote (now (header .entry)) (cursor .at) (modelBits flag (now (params .entry)) (now (prior .entry)) «gm_type» first) (now (header .exit)) (r .at) ⌝ }
 {
     let slots = grid::slots_of(gm_type);
     let order = slots.order;
     let count = slots.count;
-    let mut next = pen;
+    let mut next = cursor;
     let mut i = 0usize;
     while i < count {
         next = write_slot(next, header, gm_type, flag, params, prior, first, order[i]);
@@ -143,18 +143,18 @@ fn write_model(
 
 // One reference: its type bits, then its coefficients.
 fn write_reference(
-    pen: Pen,
+    cursor: BitCursor,
     header: &mut [u8],
     gm_type: u8,
     flag: u8,
     params: &[i32],
     prior: &[i32],
     first: usize,
-) -> Pen
-    requires { ⌜ ModelReady (now params) (now prior) first × Ready (now header) pen (length (referenceBits flag (now params) (now prior) «gm_type» first)) ⌝ }
-    ensures { λ r. ⌜ Put (now (header .entry)) pen (referenceBits flag (now (params .entry)) (now (prior .entry)) «gm_type» first) (now (header .exit)) r ⌝ }
+) -> BitCursor
+    requires { ⌜ ModelReady (now params) (now prior) first × Room (now header) (cursor .at) (length (referenceBits flag (now params) (now prior) «gm_type» first)) ⌝ }
+    ensures { λ r. ⌜ Wrote (now (header .entry)) (cursor .at) (referenceBits flag (now (params .entry)) (now (prior .entry)) «gm_type» first) (now (header .exit)) (r .at) ⌝ }
 {
-    let next = write_type(pen, header, gm_type);
+    let next = write_type(cursor, header, gm_type);
     write_model(next, header, gm_type, flag, params, prior, first)
 }
 
@@ -175,17 +175,17 @@ fn identities(types: &[u8], r: usize) -> usize
 
 // References 1 to 7, one behind the other. A run of identities is a field of zeros.
 fn write_references(
-    pen: Pen,
+    cursor: BitCursor,
     header: &mut [u8],
     types: &[u8],
     flag: u8,
     params: &[i32],
     prior: &[i32],
-) -> Pen
-    requires { ⌜ HeaderReady (now types) (now params) (now prior) × Ready (now header) pen (length (headerBits (now types) (now params) flag (now prior))) ⌝ }
-    ensures { λ r. ⌜ Put (now (header .entry)) pen (headerBits (now (types .entry)) (now (params .entry)) flag (now (prior .entry))) (now (header .exit)) r ⌝ }
+) -> BitCursor
+    requires { ⌜ HeaderReady (now types) (now params) (now prior) × Room (now header) (cursor .at) (length (headerBits (now types) (now params) flag (now prior))) ⌝ }
+    ensures { λ r. ⌜ Wrote (now (header .entry)) (cursor .at) (headerBits (now (types .entry)) (now (params .entry)) flag (now (prior .entry))) (now (header .exit)) (r .at) ⌝ }
 {
-    let mut next = pen;
+    let mut next = cursor;
     let mut r = 0;
     while r < REFERENCES {
         let n = identities(types, r);
@@ -193,31 +193,11 @@ fn write_references(
             next = write_reference(next, header, types[r], flag, params, prior, SLOTS * r);
             r += 1;
         } else {
-            let zeros = Field {
-                n: n as u32,
-                value: 0,
-            };
-            next = next.put(header, zeros);
+            next = next.write_bits(header, n as u32, 0);
             r += n;
         }
     }
     next
-}
-
-// The same from bit `start` on, with no bit held back.
-fn write_seven(
-    start: usize,
-    header: &mut [u8],
-    types: &[u8],
-    flag: u8,
-    params: &[i32],
-    prior: &[i32],
-) -> BitCursor
-    requires { ⌜ HeaderReady (now types) (now params) (now prior) × Room (now header) start (length (headerBits (now types) (now params) flag (now prior))) ⌝ }
-    ensures { λ r. ⌜ Wrote (now (header .entry)) start (headerBits (now (types .entry)) (now (params .entry)) flag (now (prior .entry))) (now (header .exit)) (r .at) ⌝ }
-{
-    let pen = write_references(Pen::new(start), header, types, flag, params, prior);
-    pen.lift(header)
 }
 
 // How many bits the slot of that model takes.
@@ -401,7 +381,7 @@ fn write_after(
         × (now (header .exit) ≡ bitsPlaced start (headerBits (now (types .entry)) (now (params .entry)) flag (now (prior .entry))) (now (header .entry))) ⌝ }
 {
     let mut page = page_of(before);
-    let end = write_seven(start, &mut page, types, flag, params, prior);
+    let end = write_references(BitCursor::new(start), &mut page, types, flag, params, prior);
     let bits = end.at - start;
     let last = end.byte_align(&mut page);
     copy_bytes(&page, last.at / BITS_OF_A_BYTE, header);

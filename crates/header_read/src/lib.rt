@@ -292,7 +292,7 @@ fn read_references(cursor: BitCursor, header: &[u8], flag: u8, prior: &[i32]) ->
 }
 
 // A refusal: its row's number and zeros.
-fn no_models(refusal: u32) -> Models
+pub fn no_models(refusal: u32) -> Models
     ensures { λ r. ⌜ r ≡ noModels refusal ⌝ }
 {
     let types = [0u8; 7];

@@ -20,7 +20,7 @@ use Rattle.class_set.specs.Set.{chosen}
 use Rattle.class_set.proofs.Chosen.{chosen-count, named-few}
 use Rattle.search.specs.declared.Searched.{Searched}
 use Rattle.search.specs.Refusal as search
-use Rattle.frame_store.specs.Store.{blocksLeft, storeRefusal}
+use Rattle.frame_store.specs.InForm.{storedInLeft, storeRefusalIn}
 use Rattle.header.specs.Writing.{written, bitsPlaced}
 use Rattle.job_task.specs.declared.Settings.{Settings}
 use Rattle.job_task.specs.Task.{Task, Lent, lend, searchTask, searchLent}
@@ -110,7 +110,7 @@ module _ (j : Task) where
   with-none h = answered-refused notModelled (late j) whole h
 
   abbrev finishedOf : Lent → Finished
-  finishedOf l = finished (j .settings) (j .types) (j .models) (j .prior) (words j) (j .classes) (l .blocks) (l .header)
+  finishedOf l = finished (j .settings) (j .form) (j .types) (j .models) (j .prior) (words j) (j .classes) (l .blocks) (l .header)
 
   finished-refused : (l : Lent) → (late j ≡ 0 → ⊥) → finishedOf l ≡ finish (refused (late j)) (l .blocks) (l .header)
   unfolding finished
@@ -122,10 +122,10 @@ module _ (j : Task) where
         rw (bits-written j (r .sound) z (l .header) (r .header-room))
         (ap (λ (n : ℕ). reportOf whole (length (bits j)) n) (words-length j))
 
-    blocks-are : blocksLeft (j .settings .frame) (words j) (j .classes) (l .blocks) ≡ blocksBy j l
+    blocks-are : storedInLeft (j .form) (j .settings .frame) (words j) (j .classes) (l .blocks) ≡ blocksBy j l
     blocks-are =
         let n = length (l .blocks) in
-        left-accepted (storeRefusal (j .settings .frame) (words j) (j .classes) n) (blocksBy j l) (l .blocks) (stored j (r .sound) n (r .blocks-room))
+        left-accepted (storeRefusalIn (j .form) (j .settings .frame) (words j) (j .classes) n) (blocksBy j l) (l .blocks) (stored j (r .sound) n (r .blocks-room))
 
     finished-accepted : finishedOf l ≡ finish (accepted j) (blocksBy j l) (bitsPlaced (j .settings .start) (bits j) (l .header))
     unfolding finished
@@ -145,20 +145,20 @@ module _ (j : Task) (l : Lent) (quiet : early j l ≡ 0) {found : Searched} {lef
       (λ (h : late j ≡ 0 → ⊥). rw (d .buffers, finished-refused j l h) (sym (refused-late j l quiet h)))
       (eq-or-ne (late j) 0)
 
-  pub ended-found : {f : Finished} → f ≡ finished (j .settings) (j .types) (j .models) (j .prior) (take (found .samples) (left .words)) (j .classes) (l .blocks) (l .header)
+  pub ended-found : {f : Finished} → f ≡ finished (j .settings) (j .form) (j .types) (j .models) (j .prior) (take (found .samples) (left .words)) (j .classes) (l .blocks) (l .header)
       → endedBy left f ≡ outcome j l
   ended-found e =
       let s = j .settings in
-      ap (endedBy left) (e ∙ ap (λ (ws : List ℕ). finished s (j .types) (j .models) (j .prior) ws (j .classes) (l .blocks) (l .header)) (found-words j l (ready j l quiet) d)) ∙ by-words
+      ap (endedBy left) (e ∙ ap (λ (ws : List ℕ). finished s (j .form) (j .types) (j .models) (j .prior) ws (j .classes) (l .blocks) (l .header)) (found-words j l (ready j l quiet) d)) ∙ by-words
 
 -- ---- the code's two ways through `finish`, and the call's refusal
 
-module _ (s : Settings) (ts : List ℕ) (ms qs : List ℤ) (ws cs blocks header : List ℕ) {m : Modelled} (e : m ≡ modelled s ts ms (chosen (s .set) ws cs)) where
-  pub finish-refused : (m .refusal ≡ 0 → ⊥) → {report : Report} → report ≡ refused (m .refusal) → finish report blocks header ≡ finished s ts ms qs ws cs blocks header
+module _ (s : Settings) (form : ℕ) (ts : List ℕ) (ms qs : List ℤ) (ws cs blocks header : List ℕ) {m : Modelled} (e : m ≡ modelled s ts ms (chosen (s .set) ws cs)) where
+  pub finish-refused : (m .refusal ≡ 0 → ⊥) → {report : Report} → report ≡ refused (m .refusal) → finish report blocks header ≡ finished s form ts ms qs ws cs blocks header
   unfolding finished
   finish-refused h q = rw (← e, ne-eqb (m .refusal) 0 h) (ap (λ (r : Report). finish r blocks header) q)
 
-  pub finish-written : m .refusal ≡ 0 → {f : Finished} → f ≡ writtenOut m s qs ws cs blocks header → f ≡ finished s ts ms qs ws cs blocks header
+  pub finish-written : m .refusal ≡ 0 → {f : Finished} → f ≡ writtenOut m s form qs ws cs blocks header → f ≡ finished s form ts ms qs ws cs blocks header
   unfolding finished
   finish-written z q = rw (← e, z) q
 

@@ -8,7 +8,7 @@ use lib.IntN.{ℤ}
 use lib.ListN.{length}
 use Rattle.laws.specs.Refusal.{choose}
 use Rattle.class_set.specs.Set.{chosen}
-use Rattle.frame_store.specs.Store.{blocksLeft}
+use Rattle.frame_store.specs.InForm.{storedInLeft}
 use Rattle.header.specs.Writing.{written, headerAfter}
 use Rattle.job_task.specs.declared.Settings.{Settings}
 use Rattle.job_model.specs.declared.Modelled.{Modelled}
@@ -37,18 +37,18 @@ abbrev pub reportOf : Modelled → ℕ → ℕ → Report
 reportOf m bits samples =
     record { refusal = 0; types = m .types; models = m .models; score = m .score; bits = bits; samples = samples }
 
--- a model written out: the words and their classes into blocks, the seven models into the header
-abbrev pub writtenOut : Modelled → Settings → List ℤ → List ℕ → List ℕ → List ℕ → List ℕ → Finished
-writtenOut m s prior ws cs blocks header =
+-- a model written out: the words and their classes into blocks of the form, the seven models into the header
+abbrev pub writtenOut : Modelled → Settings → ℕ → List ℤ → List ℕ → List ℕ → List ℕ → List ℕ → Finished
+writtenOut m s form prior ws cs blocks header =
     finish
     (reportOf m (written (s .start) (m .types) (m .models) (s .flag) prior (length header) .bits) (length ws))
-    (blocksLeft (s .frame) ws cs blocks)
+    (storedInLeft form (s .frame) ws cs blocks)
     (headerAfter (s .start) (m .types) (m .models) (s .flag) prior header)
 
 -- the model written out; a refused one leaves blocks and header as they were
-abbrev pub finishedAs : Modelled → Settings → List ℤ → List ℕ → List ℕ → List ℕ → List ℕ → Finished
-finishedAs m s prior ws cs blocks header = choose (eqb (m .refusal) 0) (writtenOut m s prior ws cs blocks header) (finish (refused (m .refusal)) blocks header)
+abbrev pub finishedAs : Modelled → Settings → ℕ → List ℤ → List ℕ → List ℕ → List ℕ → List ℕ → Finished
+finishedAs m s form prior ws cs blocks header = choose (eqb (m .refusal) 0) (writtenOut m s form prior ws cs blocks header) (finish (refused (m .refusal)) blocks header)
 
 -- the model is of the named words, the blocks of all
-unfoldable pub finished : Settings → List ℕ → List ℤ → List ℤ → List ℕ → List ℕ → List ℕ → List ℕ → Finished
-finished s types models prior ws cs blocks header = finishedAs (modelled s types models (chosen (s .set) ws cs)) s prior ws cs blocks header
+unfoldable pub finished : Settings → ℕ → List ℕ → List ℤ → List ℤ → List ℕ → List ℕ → List ℕ → List ℕ → Finished
+finished s form types models prior ws cs blocks header = finishedAs (modelled s types models (chosen (s .set) ws cs)) s form prior ws cs blocks header

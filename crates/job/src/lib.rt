@@ -2,7 +2,8 @@
 // words of the named classes, grid, score, then the blocks of all words and the header with the model at
 // its reference. In go a frame pair, the settings, a class for each sample, the six other types and
 // models, and the prior; lent are two half planes, words, blocks and header. It calls the public calls
-// alone; its rows are in the crate `job_task`.
+// alone; its rows are in the crate `job_task`. The blocks are of form 2, or of the form that a run holds.
+use forms::FORM2;
 use job_model::Modelled;
 pub use job_outcome::Report;
 pub use job_task::Settings;
@@ -10,7 +11,7 @@ use job_task::Sizes;
 use sample::MOST_SAMPLES;
 ghost use mathlib.Core.Path.{_≡_};
 ghost use Rattle.class_set.specs.Set.{chosen};
-ghost use Rattle.job_task.specs.Task.{task, lend};
+ghost use Rattle.job_task.specs.Task.{task, taskIn, lend};
 ghost use Rattle.job_task.specs.Rows.{early};
 ghost use Rattle.job_model.specs.Modelled.{modelled};
 ghost use Rattle.job_outcome.specs.Outcome.{refused, ended, outcome};
@@ -32,10 +33,11 @@ fn refused(number: u32) -> Report
     }
 }
 
-// The words and their classes into blocks of form 2, the seven models into the header.
+// The words and their classes into blocks of the form, the seven models into the header.
 fn write_out(
     m: Modelled,
     settings: Settings,
+    form: u32,
     prior: &[i32],
     words: &[u32],
     classes: &[u8],
@@ -43,11 +45,11 @@ fn write_out(
     header: &mut [u8],
 ) -> Report
     ensures { λ r. ⌜ inner.finish r (now (blocks .exit)) (now (header .exit)) ≡
-        inner.writtenOut m settings (now (prior .entry)) (now (words .entry)) (now (classes .entry)) (now (blocks .entry)) (now (header .entry)) ⌝ }
+        inner.writtenOut m settings form (now (prior .entry)) (now (words .entry)) (now (classes .entry)) (now (blocks .entry)) (now (header .entry)) ⌝ }
 {
     let types = m.types;
     let models = m.models;
-    frame_store::write_frame(settings.frame, words, classes, &mut *blocks);
+    frame_store::store(form, settings.frame, words, classes, &mut *blocks);
     let w = header::encode_inter_global_motion(
         &types,
         &models,
@@ -85,6 +87,7 @@ fn model_of_named(
 // The model of the named words; a refused one writes no block and no header.
 fn finish(
     settings: Settings,
+    form: u32,
     types: &[u8],
     models: &[i32],
     prior: &[i32],
@@ -95,7 +98,7 @@ fn finish(
 ) -> Report
     requires { ⌜ inner.Naming settings (now types) (now models) (now words) (now classes) ⌝ }
     ensures { λ r. ⌜ inner.finish r (now (blocks .exit)) (now (header .exit)) ≡
-        inner.finished settings (now (types .entry)) (now (models .entry)) (now (prior .entry)) (now (words .entry)) (now (classes .entry)) (now (blocks .entry)) (now (header .entry)) ⌝ }
+        inner.finished settings form (now (types .entry)) (now (models .entry)) (now (prior .entry)) (now (words .entry)) (now (classes .entry)) (now (blocks .entry)) (now (header .entry)) ⌝ }
 {
     let m = model_of_named(settings, types, models, words, classes);
     if m.refusal != 0 {
@@ -104,6 +107,7 @@ fn finish(
     write_out(
         m,
         settings,
+        form,
         prior,
         words,
         classes,
@@ -119,6 +123,7 @@ fn run(
     width: usize,
     height: usize,
     settings: Settings,
+    form: u32,
     classes: &[u8],
     types: &[u8],
     models: &[i32],
@@ -130,10 +135,10 @@ fn run(
     header: &mut [u8],
 ) -> Report
     requires { ⌜ early
-        (task (now input) (now reference) width height settings (now classes) (now types) (now models) (now prior))
+        (taskIn form (now input) (now reference) width height settings (now classes) (now types) (now models) (now prior))
         (lend (now «input_half») (now «ref_half») (now words) (now blocks) (now header)) ≡ 0 ⌝ }
     ensures { λ r. ⌜ ended r (lend (now («input_half» .exit)) (now («ref_half» .exit)) (now (words .exit)) (now (blocks .exit)) (now (header .exit))) ≡ outcome
-        (task (now (input .entry)) (now (reference .entry)) width height settings (now (classes .entry)) (now (types .entry)) (now (models .entry)) (now (prior .entry)))
+        (taskIn form (now (input .entry)) (now (reference .entry)) width height settings (now (classes .entry)) (now (types .entry)) (now (models .entry)) (now (prior .entry)))
         (lend (now («input_half» .entry)) (now («ref_half» .entry)) (now (words .entry)) (now (blocks .entry)) (now (header .entry))) ⌝ }
 {
     let found = search::collect_motion_samples(
@@ -148,6 +153,7 @@ fn run(
     );
     finish(
         settings,
+        form,
         types,
         models,
         prior,
@@ -179,6 +185,48 @@ pub fn job(
         (lend (now («input_half» .entry)) (now («ref_half» .entry)) (now (words .entry)) (now (blocks .entry)) (now (header .entry)))
         (ended r (lend (now («input_half» .exit)) (now («ref_half» .exit)) (now (words .exit)) (now (blocks .exit)) (now (header .exit)))) ⌝ }
 {
+    job_in(
+        input,
+        reference,
+        width,
+        height,
+        settings,
+        FORM2,
+        classes,
+        types,
+        models,
+        prior,
+        input_half,
+        ref_half,
+        words,
+        blocks,
+        header,
+    )
+}
+
+// The same in the form of this number.
+pub fn job_in(
+    input: &[u16],
+    reference: &[u16],
+    width: usize,
+    height: usize,
+    settings: Settings,
+    form: u32,
+    classes: &[u8],
+    types: &[u8],
+    models: &[i32],
+    prior: &[i32],
+    input_half: &mut [u16],
+    ref_half: &mut [u16],
+    words: &mut [u32],
+    blocks: &mut [u8],
+    header: &mut [u8],
+) -> Report
+    ensures { λ r. ⌜ Done
+        (taskIn form (now (input .entry)) (now (reference .entry)) width height settings (now (classes .entry)) (now (types .entry)) (now (models .entry)) (now (prior .entry)))
+        (lend (now («input_half» .entry)) (now («ref_half» .entry)) (now (words .entry)) (now (blocks .entry)) (now (header .entry)))
+        (ended r (lend (now («input_half» .exit)) (now («ref_half» .exit)) (now (words .exit)) (now (blocks .exit)) (now (header .exit)))) ⌝ }
+{
     let sizes = Sizes {
         width,
         height,
@@ -190,7 +238,7 @@ pub fn job(
         blocks: blocks.len(),
         header: header.len(),
     };
-    let refusal = job_task::refusal_of(sizes, settings, classes, types, models, prior);
+    let refusal = job_task::refusal_of(sizes, settings, form, classes, types, models, prior);
     if refusal != 0 {
         return refused(refusal);
     }
@@ -200,6 +248,7 @@ pub fn job(
         width,
         height,
         settings,
+        form,
         classes,
         types,
         models,

@@ -10,21 +10,29 @@ use Rattle.laws.specs.Refusal.{judge, choose}
 use Rattle.class.specs.Class.{lastClass, classOver}
 use Rattle.class_set.specs.Set.{namedCount}
 use Rattle.class_set.proofs.Chosen.{chosen-count}
-use Rattle.job_task.specs.Task.{Task, Lent, task, sizesOf}
-use Rattle.job_task.specs.Rows.{sizeRows, refusalBefore, early}
+use Rattle.job_task.specs.Task.{Task, Lent, taskIn, sizesOf}
+use Rattle.job_task.specs.Rows.{notHeld, sizeRows, refusalBefore, early}
 use Rattle.job_task.proofs.Accepted.{lengths}
 use Rattle.job_outcome.specs.declared.Report.{Report}
 use Rattle.job_outcome.specs.Outcome.{ended, words, named, late, refused, accepted, outcome}
 use Rattle.job_outcome.proofs.Samples.{words-length}
+use Rattle.job_outcome.proofs.Outside.{held-by-four}
 
--- what rows 1, 2 and 4 let pass of planes and classes
+-- what rows 1, 2, 4 and 13 let pass of planes and classes
 pub record LetPass (j : Task) (l : Lent) : Type 0 where
   pub sizes : judge (sizeRows (sizesOf j l) (length (j .classes)) (length (j .types)) (length (j .models)) (length (j .prior))) ≡ 0
   pub low : classOver lastClass (j .classes) ≡ false
+  pub held : notHeld (j .form) (j .classes) ≡ false
+
+-- outside a run rows 1, 2 and 4 are enough
+pub outside-pass : (j : Task) (l : Lent) → j .form ≡ 2
+    → judge (sizeRows (sizesOf j l) (length (j .classes)) (length (j .types)) (length (j .models)) (length (j .prior))) ≡ 0
+    → classOver lastClass (j .classes) ≡ false → LetPass j l
+outside-pass j l second sizes low = record { sizes = sizes; low = low; held = held-by-four j second ∙ low }
 
 -- the job of another frame pair of the same sides, and of other classes
 abbrev pub onOthers : List ℕ → List ℕ → List ℕ → Task → Task
-onOthers input reference classes j = task input reference (j .width) (j .height) (j .settings) classes (j .types) (j .models) (j .prior)
+onOthers input reference classes j = taskIn (j .form) input reference (j .width) (j .height) (j .settings) classes (j .types) (j .models) (j .prior)
 
 -- as many samples as the named classes count
 named-count : (j : Task) (l : Lent) → LetPass j l → length (named j) ≡ namedCount (j .settings .set) (j .classes)
@@ -62,7 +70,7 @@ module _ (j : Task) (l : Lent) (input reference classes : List ℕ) (agree : nam
     same-rows =
         let counts : namedCount (j .settings .set) classes ≡ namedCount (j .settings .set) (j .classes) =
         sym (named-count other l q) ∙ (ap length agree ∙ named-count j l p) in
-        rw (p .sizes, q .sizes, p .low, q .low, counts)
+        rw (p .sizes, q .sizes, p .low, q .low, p .held, q .held, counts)
 
     pub same-report : outcome other l .report ≡ outcome j l .report
     same-report = reported other l ∙ (rw (same-rows, same-late, same-accepted) (sym (reported j l)))

@@ -19,7 +19,8 @@ use Rattle.block.proofs.RoundTrip.{alone-accepted, alone-fields}
 
 module _ (k : Codec) (lawful : Lawful k) (own : codecOf (k .form .number) ≡ k) (frame : ℕ) (xs : List Classed) (after : List ℕ)
     (few : length xs ≤ mostSamples) (storable : Sound (k .last) 0 xs) (words : Words (wordsIn xs)) where
-  form-back : (o : ℕ) → o < blocksOf (k .form) (length xs) → formOf (blockAt (frameBytes k frame xs ++ after) o) ≡ k .form .number
+  -- each says the form's number
+  pub form-back : (o : ℕ) → o < blocksOf (k .form) (length xs) → formOf (blockAt (frameBytes k frame xs ++ after) o) ≡ k .form .number
   form-back o l =
       let b = blockAt (frameBytes k frame xs ++ after) o in
       sound (k .form) (contentRight k 0) (frameOf b) (totalOf b) (ordinalOf b) (drop (blockBytes * o) (frameBytes k frame xs ++ after))

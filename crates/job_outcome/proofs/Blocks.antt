@@ -1,42 +1,52 @@
 -- The job's own blocks, read back: the frame, every block alone, each word and each class; what is read is what was stored.
 -- Assumes nothing.
 use Prim.Native.Nat.{ℕ, _*_, _≤_, _<_}
+use mathlib.Core.Bool.{false}
 use mathlib.Core.List.{List, [], _∷_, append-nil}
+use mathlib.Core.Logic.{⊎-elim}
 use mathlib.Core.Path.{_≡_, refl, sym, ap, _∙_}
 use native.Mathlib.Omega.{arith}
-use borrow.Author.Tests.{le-ltb, eq-eqb, ne-eqb}
-use lib.Dec.{eqb}
+use borrow.Author.Tests.{ltb-false, eqb-false, ne-eqb}
+use lib.Dec.{ltb, eqb}
 use lib.ListN.{length, drop}
 use Rattle.laws.specs.Buffer.{onto}
 use Rattle.laws.specs.Refusal.{choose}
 use Rattle.laws.proofs.Buffer.{onto-front}
+use Rattle.laws.proofs.Cases.{eq-or-ne}
+use Rattle.laws.proofs.Refusal.{neither}
 use Rattle.sample.specs.Word.{mostSamples}
-use Rattle.class.specs.Class.{Classed, wordsIn, classesIn, lastClass}
+use Rattle.class.specs.Class.{Classed, wordsIn, classesIn}
 use Rattle.class.proofs.Samples as class
+use Rattle.layout.specs.Codec.{Codec}
 use Rattle.layout.specs.Form.{blockBytes, blocksOf, countAt}
 use Rattle.layout.proofs.Fitting.{Words}
-use Rattle.form2.specs.Block.{form2, codec2}
-use Rattle.form2.proofs.Lawful.{lawful2}
+use Rattle.layout.proofs.Cut.{ordinal-of-start}
 use Rattle.forms.specs.declared.BlockRead.{BlockRead}
-use Rattle.forms.specs.Forms.{codecOf, readAlone}
-use Rattle.frame_number.proofs.InUse.{not-refused}
+use Rattle.forms.specs.Forms.{codecOf, noForm, formIn, readAlone}
+use Rattle.forms.proofs.Lawful.{first, second, lawful, number-is}
 use Rattle.block.specs.Frame.{frameBytes, samplesIn}
 use Rattle.block.proofs.RoundTrip.{frame-length}
-use Rattle.frame_store.specs.Store.{storeRefusal}
+use Rattle.frame_store.specs.InForm.{storeRefusalIn}
+use Rattle.frame_store.proofs.Rows.{storing}
 use Rattle.frame_read.specs.Read.{codecIn, readBoth, bareWordsLeft, classesLeft}
 use Rattle.frame_read.proofs.Stored.{carried}
-use Rattle.frame_read.proofs.RoundTrip.{reads, read-stored, words-stored, classes-stored}
+use Rattle.frame_read.proofs.RoundTrip.{reads-in, read-stored-in, words-stored-in, classes-stored-in}
 use Rattle.job_task.specs.Task.{Task}
 use Rattle.job_task.proofs.Ready.{Sound}
 use Rattle.job_outcome.specs.Outcome.{Ended, samples, words, classedWords}
-use Rattle.job_outcome.specs.Demand3.{ownBlocks, samplesRead, wordsRead, classesRead, BlocksRead}
+use Rattle.job_outcome.specs.Demand3.{blockForm, ownBlocks, samplesRead, wordsRead, classesRead, BlocksRead}
 use Rattle.job_outcome.proofs.Samples.{words-length, words-few, words-storable, words-bare, words-fit, sample-is}
-use Rattle.job_outcome.proofs.Alone.{alone-read}
+use Rattle.job_outcome.proofs.Alone.{form-back, alone-read}
 
--- form 2 is the one with its number
-own2 : codecOf (codec2 .form .number) ≡ codec2
-unfolding codecOf
-own2 = refl
+-- a form is known by its number
+number-held : (form : ℕ) → noForm form ≡ false → codecOf form .form .number ≡ form
+number-held form f =
+    let q = neither (eqb form 0) (ltb 2 form) f in
+    let some : form ≡ 0 → ⊥ = eqb-false form 0 (q .0) in
+    let last : form ≤ 2 = ltb-false 2 form (q .1) in
+    ⊎-elim (λ (e : form ≡ 1). ap (λ (k : Codec). k .form .number) (first form e) ∙ sym e)
+    (λ (n : form ≡ 1 → ⊥). ap (λ (k : Codec). k .form .number) (second form n) ∙ (let two : _≡_ {A = ℕ} 2 form = omega (arith, some, last, n) in two))
+    (eq-or-ne form 1)
 
 carried-is : (frame : ℕ) (xs : List Classed) → carried frame xs ≡ choose (eqb (length xs) 0) 0 frame
 carried-is frame [] = refl
@@ -58,37 +68,38 @@ module _ (j : Task) (s : Sound j) where
   few : length (classedWords j) ≤ mostSamples
   few = rw (class.classed-length (words j) (j .classes) class-each) (words-few j s)
 
-  sound : class.Sound lastClass 0 (classedWords j)
-  sound = record { in-order = rw words-in (words-storable j s); bare = rw words-in (words-bare j s); held = rw classes-in (s .classed) }
+  sound : class.Sound (codecOf (j .form) .last) 0 (classedWords j)
+  sound = record { in-order = rw words-in (words-storable j s); bare = rw words-in (words-bare j s); held = rw classes-in (s .held) }
 
   fit : Words (words j)
   fit = record { fit = words-fit j s }
 
   -- storing them is never refused
-  module _ (room : ℕ) (enough : blockBytes * blocksOf form2 (samples j) ≤ room) where
-    pub stored : storeRefusal (j .settings .frame) (words j) (j .classes) room ≡ 0
-    unfolding storeRefusal
+  module _ (room : ℕ) (enough : blockBytes * blocksOf (blockForm j) (samples j) ≤ room) where
+    pub stored : storeRefusalIn (j .form) (j .settings .frame) (words j) (j .classes) room ≡ 0
     stored =
-        rw (
-          le-ltb mostSamples (length (words j)) (words-few j s),
-          eq-eqb (length (j .classes)) (length (words j)) class-each,
-          s .classed,
-          words-storable j s,
-          words-bare j s,
-          le-ltb room (blockBytes * blocksOf form2 (length (words j))) (rw (words-length j) enough),
-        )
-        (not-refused (j .settings .frame) (s .used))
+        storing (j .form) (j .settings .frame) (words j) (j .classes) room
+        (record {
+          few-enough = words-few j s;
+          class-each = class-each;
+          known = s .classed;
+          in-order = words-storable j s;
+          bare = words-bare j s;
+          held = s .held;
+          room-enough = rw (words-length j) enough;
+          used = s .used;
+        })
 
-module _ (j : Task) (s : Sound j) (o : Ended) (old : List ℕ) (enough : blockBytes * blocksOf form2 (samples j) ≤ length old)
-    (left : o .left .blocks ≡ onto (frameBytes codec2 (j .settings .frame) (classedWords j)) old) (count : o .report .samples ≡ samples j) where
-  accepted : storeRefusal (j .settings .frame) (words j) (j .classes) (length old) ≡ 0
+module _ (j : Task) (s : Sound j) (o : Ended) (old : List ℕ) (enough : blockBytes * blocksOf (blockForm j) (samples j) ≤ length old)
+    (left : o .left .blocks ≡ onto (frameBytes (codecOf (j .form)) (j .settings .frame) (classedWords j)) old) (count : o .report .samples ≡ samples j) where
+  accepted : storeRefusalIn (j .form) (j .settings .frame) (words j) (j .classes) (length old) ≡ 0
   accepted = stored j s (length old) enough
 
-  bytes-are : ownBlocks j o ≡ frameBytes codec2 (j .settings .frame) (classedWords j)
+  bytes-are : ownBlocks j o ≡ frameBytes (codecOf (j .form)) (j .settings .frame) (classedWords j)
   bytes-are =
-      let all = frameBytes codec2 (j .settings .frame) (classedWords j) in
-      let n : length all ≡ blockBytes * blocksOf form2 (samples j) =
-      frame-length codec2 lawful2 (j .settings .frame) (classedWords j) ∙ ap (λ (n : ℕ). blockBytes * blocksOf form2 n) (samples-count j s) in
+      let all = frameBytes (codecOf (j .form)) (j .settings .frame) (classedWords j) in
+      let n : length all ≡ blockBytes * blocksOf (blockForm j) (samples j) =
+      frame-length (codecOf (j .form)) (lawful (j .form)) (j .settings .frame) (classedWords j) ∙ ap (λ (n : ℕ). blockBytes * blocksOf (blockForm j) n) (samples-count j s) in
       rw (left, ← n) (onto-front all old)
 
   read : (room classRoom : ℕ) → samples j ≤ room → samples j ≤ classRoom
@@ -97,12 +108,12 @@ module _ (j : Task) (s : Sound j) (o : Ended) (old : List ℕ) (enough : blockBy
       let f = j .settings .frame in
       let frame-is : carried f (classedWords j) ≡ choose (eqb (samples j) 0) 0 f = carried-is f (classedWords j) ∙ ap (λ (n : ℕ). choose (eqb n 0) 0 f) (samples-count j s) in
       ap (λ (b : List ℕ). readBoth b room classRoom) bytes-are
-      ∙ (read-stored f (words j) (j .classes) (length old) accepted (fit j s) room classRoom (rw (words-length j) w) (rw (words-length j) c) ∙ rw (frame-is, words-length j))
+      ∙ (read-stored-in (j .form) f (words j) (j .classes) (length old) accepted (fit j s) room classRoom (rw (words-length j) w) (rw (words-length j) c) ∙ rw (frame-is, words-length j))
 
   samples-same : samplesRead j o ≡ classedWords j
   samples-same =
       ap (λ (b : List ℕ). samplesIn (codecIn b) b) bytes-are
-      ∙ reads (j .settings .frame) (words j) (j .classes) (length old) accepted (fit j s) .samples-is
+      ∙ reads-in (j .form) (j .settings .frame) (words j) (j .classes) (length old) accepted (fit j s) .samples-is
 
   same : wordsRead j o ≡ words j
   same = ap wordsIn samples-same ∙ words-in j s
@@ -110,33 +121,44 @@ module _ (j : Task) (s : Sound j) (o : Ended) (old : List ℕ) (enough : blockBy
   same-classes : classesRead j o ≡ j .classes
   same-classes = ap classesIn samples-same ∙ classes-in j s
 
-  every : (k : ℕ) → k < blocksOf form2 (samples j)
-      → readAlone (drop (blockBytes * k) (ownBlocks j o)) ≡ record { refusal = 0; frame = j .settings .frame; ordinal = k; count = countAt form2 (samples j) k }
+  every : (k : ℕ) → k < blocksOf (blockForm j) (samples j)
+      → readAlone (drop (blockBytes * k) (ownBlocks j o)) ≡ record { refusal = 0; frame = j .settings .frame; ordinal = k; count = countAt (blockForm j) (samples j) k }
   every k l =
       let n = samples-count j s in
-      let below : k < blocksOf form2 (length (classedWords j)) = rw n l in
-      let counted : ℕ → BlockRead = λ m. record { refusal = 0; frame = j .settings .frame; ordinal = k; count = countAt form2 m k } in
-      ap (λ (b : List ℕ). readAlone (drop (blockBytes * k) b)) (bytes-are ∙ sym (append-nil (frameBytes codec2 (j .settings .frame) (classedWords j))))
-      ∙ (alone-read codec2 lawful2 own2 (j .settings .frame) (classedWords j) [] (few j s) (sound j s) (rw (words-in j s) (fit j s)) k below ∙ ap counted n)
+      let below : k < blocksOf (blockForm j) (length (classedWords j)) = rw n l in
+      let counted : ℕ → BlockRead = λ m. record { refusal = 0; frame = j .settings .frame; ordinal = k; count = countAt (blockForm j) m k } in
+      ap (λ (b : List ℕ). readAlone (drop (blockBytes * k) b)) (bytes-are ∙ sym (append-nil (frameBytes (codecOf (j .form)) (j .settings .frame) (classedWords j))))
+      ∙ (alone-read (codecOf (j .form)) (lawful (j .form)) (number-is (j .form)) (j .settings .frame) (classedWords j) [] (few j s) (sound j s) (rw (words-in j s) (fit j s)) k below ∙ ap counted n)
+
+  -- a frame that has samples has a first block
+  held : 1 ≤ samples j → formIn (ownBlocks j o) ≡ j .form
+  held some =
+      let bytes = frameBytes (codecOf (j .form)) (j .settings .frame) (classedWords j) in
+      let first-begins : blockForm j .capacity * 0 < length (classedWords j) = omega (arith, samples-count j s, some) in
+      let below : 0 < blocksOf (blockForm j) (length (classedWords j)) = ordinal-of-start (blockForm j) (lawful (j .form) .fits .some-samples) (length (classedWords j)) 0 first-begins in
+      ap formIn (bytes-are ∙ sym (append-nil bytes))
+      ∙ (form-back (codecOf (j .form)) (lawful (j .form)) (number-is (j .form)) (j .settings .frame) (classedWords j) [] (few j s) (sound j s) (rw (words-in j s) (fit j s)) 0 below
+      ∙ number-held (j .form) (s .formed))
 
   kept : (buffer classes : List ℕ) → samples j ≤ length buffer → samples j ≤ length classes
       → bareWordsLeft (ownBlocks j o) buffer (length classes) ≡ onto (wordsRead j o) buffer
   kept buffer classes w c =
       ap (λ (b : List ℕ). bareWordsLeft b buffer (length classes)) bytes-are
-      ∙ (words-stored (j .settings .frame) (words j) (j .classes) (length old) accepted (fit j s) buffer (length classes) (rw (words-length j) w) (rw (words-length j) c)
+      ∙ (words-stored-in (j .form) (j .settings .frame) (words j) (j .classes) (length old) accepted (fit j s) buffer (length classes) (rw (words-length j) w) (rw (words-length j) c)
       ∙ ap (λ (ws : List ℕ). onto ws buffer) (sym same))
 
   kept-classes : (buffer classes : List ℕ) → samples j ≤ length buffer → samples j ≤ length classes
       → classesLeft (ownBlocks j o) (length buffer) classes ≡ onto (classesRead j o) classes
   kept-classes buffer classes w c =
       ap (λ (b : List ℕ). classesLeft b (length buffer) classes) bytes-are
-      ∙ (classes-stored (j .settings .frame) (words j) (j .classes) (length old) accepted (fit j s) (length buffer) classes (rw (words-length j) w) (rw (words-length j) c)
+      ∙ (classes-stored-in (j .form) (j .settings .frame) (words j) (j .classes) (length old) accepted (fit j s) (length buffer) classes (rw (words-length j) w) (rw (words-length j) c)
       ∙ ap (λ (cs : List ℕ). onto cs classes) (sym same-classes))
 
   pub blocks-read : BlocksRead j o
   blocks-read =
       record {
         used = s .used;
+        held = held;
         frame = read;
         every-block = every;
         same = same;

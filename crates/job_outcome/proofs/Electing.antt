@@ -13,7 +13,7 @@ use Rattle.laws.specs.Refusal.{choose}
 use Rattle.header.specs.Writing.{headerBits}
 use Rattle.score.specs.Score.{meanSqResidual}
 use Rattle.quantize.specs.Quantize.{rowFirst}
-use Rattle.job_task.specs.Task.{Task, Lent, task}
+use Rattle.job_task.specs.Task.{Task, Lent, taskIn}
 use Rattle.job_task.specs.Rows.{elects, refusalBefore, early}
 use Rattle.job_model.specs.Assemble.{typesWith, modelsWith}
 use Rattle.job_model.specs.Modelled.{own}
@@ -59,7 +59,7 @@ reportBy j kind p =
 abbrev withCodes : ℕ → ℕ → Task → Task
 withCodes gmType trim j =
     let s = j .settings in
-    task (j .input) (j .reference) (j .width) (j .height)
+    taskIn (j .form) (j .input) (j .reference) (j .width) (j .height)
     (record { frame = s .frame; «gm_type» = gmType; reference = s .reference; flag = s .flag; trim = trim; elect = s .elect; set = s .set; start = s .start })
     (j .classes) (j .types) (j .models) (j .prior)
 

@@ -12,4 +12,5 @@ pub mod Asked
 pub mod Untrimmed
 pub mod Electing
 pub mod Unnamed
+pub mod Outside
 pub mod Agreeing

@@ -6,7 +6,7 @@ use mathlib.Core.Path.{_≡_, refl, sym, ap, _∙_}
 use native.Mathlib.Omega.{arith}
 use lib.ListN.{length}
 use Rattle.laws.proofs.Refusal.{or-else-refused, or-else-none}
-use Rattle.frame_store.specs.Store.{storeRefusal}
+use Rattle.frame_store.specs.InForm.{storeRefusalIn}
 use Rattle.models.specs.Models.{modelWrong, modelsWrong}
 use Rattle.job_model.specs.Modelled.{stored}
 use Rattle.job_model.proofs.Refusals.{model-refusals}
@@ -55,7 +55,7 @@ module _ (j : Task) (l : Lent) where
 
   module _ (quiet : early j l ≡ 0) where
     -- storing refuses nothing, 12 neither
-    pub storing-accepted : storeRefusal (j .settings .frame) (words j) (j .classes) (length (l .blocks)) ≡ 0
+    pub storing-accepted : storeRefusalIn (j .form) (j .settings .frame) (words j) (j .classes) (length (l .blocks)) ≡ 0
     storing-accepted = let r = ready j l quiet in blocks.stored j (r .sound) (length (l .blocks)) (r .blocks-room)
 
     -- no model of a job is wrong, the fitted one neither
@@ -67,12 +67,12 @@ module _ (j : Task) (l : Lent) where
 
     -- ---- other buffers
 
-    module _ (other : Lent) (enough : tooLittle (sizesOf j other) ≡ false) where
+    module _ (other : Lent) (enough : tooLittle (sizesOf j other) (j .form) ≡ false) where
       pub early-again : early j other ≡ 0
       early-again =
-          let q = all-quiet (sizesOf j l) (j .settings) (j .classes) (j .types) (j .models) (j .prior) quiet in
+          let q = all-quiet (sizesOf j l) (j .settings) (j .form) (j .classes) (j .types) (j .models) (j .prior) quiet in
           let few = ready j l quiet .sound .enough in
-          quiet-all (sizesOf j other) (j .settings) (j .classes) (j .types) (j .models) (j .prior)
+          quiet-all (sizesOf j other) (j .settings) (j .form) (j .classes) (j .types) (j .models) (j .prior)
           (record { sizes = q .sizes; codes = q .codes; handed = q .handed; room = rw (enough, few); shutter = q .shutter })
 
       pub same-report : late j ≡ 0 → outcome j other .report ≡ outcome j l .report

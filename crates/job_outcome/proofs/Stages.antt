@@ -86,13 +86,13 @@ module _ (j : Task) (l : Lent) where
   sizes = sizeRows (sizesOf j l) (length (j .classes)) (length (j .types)) (length (j .models)) (length (j .prior))
 
   abbrev codes : List Row
-  codes = codeRows (j .settings) (j .classes) (j .types)
+  codes = codeRows (j .settings) (j .form) (j .classes) (j .types)
 
   abbrev handed : List Row
-  handed = modelRows (j .settings) (j .types) (j .models) (j .prior)
+  handed = modelRows (j .settings) (j .form) (j .classes) (j .types) (j .models) (j .prior)
 
   abbrev room : List Row
-  room = roomRows (sizesOf j l) (j .settings) (j .classes)
+  room = roomRows (sizesOf j l) (j .settings) (j .form) (j .classes)
 
   abbrev shutter : List Row
   shutter = row shutterClosed (closed (j .settings .frame)) ∷ []
@@ -118,13 +118,13 @@ module _ (j : Task) (l : Lent) where
 
   -- a job that elects has no row 15
   pub electing-never-fifteen : elects (j .settings) ≡ true → early j l ≡ 15 → ⊥
-  electing-never-fifteen e = early-never-by 15 (omega arith) tt tt tt (λ q. three-alone (tooLittle (sizesOf j l)) (sym (room-is e) ∙ q)) tt
+  electing-never-fifteen e = early-never-by 15 (omega arith) tt tt tt (λ q. three-alone (tooLittle (sizesOf j l) (j .form)) (sym (room-is e) ∙ q)) tt
     where
       three-alone : (b : Bool) → _≡_ {A = ℕ} (choose b 3 0) 15 → ⊥
       three-alone true q = omega (arith, q)
       three-alone false q = omega (arith, q)
 
-      room-is : elects (j .settings) ≡ true → _≡_ {A = ℕ} (judge room) (choose (tooLittle (sizesOf j l)) 3 0)
+      room-is : elects (j .settings) ≡ true → _≡_ {A = ℕ} (judge room) (choose (tooLittle (sizesOf j l) (j .form)) 3 0)
       room-is e = rw e
 
   -- a number that no early row has is the second stage's

@@ -1,36 +1,24 @@
 -- A job whose set names all five classes is the job without sets, bit for bit: it is refused by the same rows, its model is of all words, and it reports and leaves the same.
 -- Assumes nothing.
-use Prim.Native.Nat.{ℕ, zero, suc}
-use mathlib.Core.Bool.{Bool, true, false}
+use Prim.Native.Nat.{ℕ}
+use mathlib.Core.Bool.{false}
 use mathlib.Core.List.{[], _∷_}
 use mathlib.Core.Logic.{⊎-elim}
 use mathlib.Core.Path.{_≡_, refl, sym, ap, _∙_}
 use borrow.Author.Tests.{ne-eqb}
-use lib.Dec.{ltb}
 use lib.ListN.{length}
-use Rattle.laws.specs.Refusal.{row, judge, orElse, either}
+use Rattle.laws.specs.Refusal.{row, judge}
 use Rattle.laws.proofs.Cases.{eq-or-ne}
 use Rattle.class.specs.Class.{lastClass, classOver}
 use Rattle.class_set.specs.Set.{allClasses, chosen, namedCount}
 use Rattle.class_set.proofs.Chosen.{all-chosen, all-counted}
 use Rattle.job_task.specs.Task.{Task, Lent, sizesOf}
 use Rattle.job_task.specs.Rows.{tooLittle, tooFewToTrim, sizeRows, codeRows, roomRows, refusalBefore, early}
+use Rattle.job_task.proofs.Groups.{or-else-same}
 use Rattle.job_task.proofs.Accepted.{lengths, codes, ready}
 use Rattle.job_outcome.specs.Outcome.{samples, words, named, outcome}
 use Rattle.job_outcome.specs.Unnamed as unnamed
 use Rattle.job_outcome.proofs.Samples.{words-length}
-
-either-false : (b : Bool) → either b false ≡ b
-either-false true = refl
-either-false false = refl
-
--- a group of rows counts only where the one before it is quiet
-or-else-same : {a a' b b' : ℕ} → a ≡ a' → (a ≡ 0 → b ≡ b') → orElse a b ≡ orElse a' b'
-or-else-same {a} {a'} {b} {b'} e f = ap (λ (n : ℕ). orElse n b) e ∙ rest a' (λ z. f (e ∙ z))
-  where
-    rest : (n : ℕ) → (n ≡ 0 → b ≡ b') → orElse n b ≡ orElse n b'
-    rest zero g = g refl
-    rest (suc n) g = refl
 
 module _ (j : Task) (all : j .settings .set ≡ allClasses) where
   -- rows 1, 2 and 4 let the classes pass
@@ -42,16 +30,16 @@ module _ (j : Task) (all : j .settings .set ≡ allClasses) where
     all-samples = ap (λ (n : ℕ). namedCount n (j .classes)) all ∙ (all-counted (j .classes) low ∙ each)
 
   module _ (l : Lent) where
-    codes-are : judge (codeRows (j .settings) (j .classes) (j .types)) ≡ judge (unnamed.codeRows j)
-    codes-are = rw (all, either-false (ltb 1 (j .settings .elect)))
+    codes-are : judge (codeRows (j .settings) (j .form) (j .classes) (j .types)) ≡ judge (unnamed.codeRows j)
+    codes-are = rw all
 
     room-is : judge (sizeRows (sizesOf j l) (length (j .classes)) (length (j .types)) (length (j .models)) (length (j .prior))) ≡ 0
-        → judge (codeRows (j .settings) (j .classes) (j .types)) ≡ 0
-        → judge (roomRows (sizesOf j l) (j .settings) (j .classes)) ≡ judge (unnamed.roomRows j l)
+        → judge (codeRows (j .settings) (j .form) (j .classes) (j .types)) ≡ 0
+        → judge (roomRows (sizesOf j l) (j .settings) (j .form) (j .classes)) ≡ judge (unnamed.roomRows j l)
     room-is a b =
         let n = lengths (sizesOf j l) (length (j .classes)) (length (j .types)) (length (j .models)) (length (j .prior)) a in
-        let c = codes (j .settings) (j .classes) (j .types) b in
-        ap (λ (n : ℕ). judge (row 3 (tooLittle (sizesOf j l)) ∷ row 15 (tooFewToTrim (j .settings) n) ∷ [])) (all-samples (n .classed) (c .classed))
+        let c = codes (j .settings) (j .form) (j .classes) (j .types) b in
+        ap (λ (n : ℕ). judge (row 3 (tooLittle (sizesOf j l) (j .form)) ∷ row 15 (tooFewToTrim (j .settings) n) ∷ [])) (all-samples (n .classed) (c .classed))
 
     pub early-is : early j l ≡ unnamed.early j l
     unfolding refusalBefore

@@ -11,6 +11,7 @@ use Rattle.laws.specs.Refusal.{Row, row, judge, orElse, either, both, choose}
 use Rattle.class.specs.Class.{lastClass, classOver}
 use Rattle.class_set.specs.Set.{namesOver, namesNone, namedCount}
 use Rattle.models.specs.Models.{typesOver, startOver}
+use Rattle.forms.specs.Forms.{noForm}
 use Rattle.frame_number.specs.Shutter.{closedRefusal}
 use Rattle.sample.specs.Sample.{sampleOf}
 use Rattle.fit.specs.declared.Fitted.{Fitted}
@@ -35,7 +36,7 @@ abbrev pub codes : Task → Bool
 codes j =
     either (classOver lastClass (j .classes))
     (either (noType (gmType j))
-    (either (typesOver (j .types)) (either (ltb 1 (j .settings .flag)) (either (ltb 1 (j .settings .trim)) (namesOver (j .settings .set))))))
+    (either (typesOver (j .types)) (either (ltb 1 (j .settings .flag)) (either (ltb 1 (j .settings .trim)) (either (namesOver (j .settings .set)) (noForm (j .form)))))))
 
 abbrev pub codeRows : Task → List Row
 codeRows j =
@@ -47,7 +48,7 @@ codeRows j =
 
 abbrev pub roomRows : Task → Lent → List Row
 roomRows j l =
-    row 3 (tooLittle (sizesOf j l))
+    row 3 (tooLittle (sizesOf j l) (j .form))
     ∷ row 15 (both (trims j) (tooFew (gmType j) (namedCount (j .settings .set) (j .classes))))
     ∷ []
 
@@ -55,7 +56,7 @@ abbrev pub early : Task → Lent → ℕ
 early j l =
     orElse (judge (sizeRows (sizesOf j l) (length (j .classes)) (length (j .types)) (length (j .models)) (length (j .prior))))
     (orElse (judge (codeRows j))
-    (orElse (judge (modelRows (j .settings) (j .types) (j .models) (j .prior)))
+    (orElse (judge (modelRows (j .settings) (j .form) (j .classes) (j .types) (j .models) (j .prior)))
     (orElse (judge (roomRows j l))
     (closedRefusal (j .settings .frame)))))
 

@@ -15,11 +15,11 @@ use Rattle.sample.specs.Word.{rowOf, colOf, vOf, uOf, classOf}
 use Rattle.sample.specs.Sample.{eighthsOf}
 use Rattle.stage.specs.Stage.{Found}
 use Rattle.search.specs.Search.{motion, blockColumns}
+use Rattle.layout.specs.declared.Form.{Form}
 use Rattle.layout.specs.Form.{blockBytes, blocksOf, countAt}
 use Rattle.class.specs.Class as class
 use Rattle.class_set.specs.Set.{chosen}
-use Rattle.form2.specs.Block.{form2}
-use Rattle.forms.specs.Forms.{readAlone}
+use Rattle.forms.specs.Forms.{codecOf, formIn, readAlone}
 use Rattle.frame_number.specs.Shutter.{closed}
 use Rattle.block.specs.Frame.{samplesIn}
 use Rattle.frame_read.specs.Read.{codecIn, readBoth, bareWordsLeft, classesLeft}
@@ -37,9 +37,13 @@ use Rattle.job_outcome.specs.Outcome.{Ended, samples, words, ownType, fi
 
 -- ---- the blocks
 
+-- the form of the job's blocks, by which they are cut
+abbrev pub blockForm : Task → Form
+blockForm j = codecOf (j .form) .form
+
 -- the bytes of the job's own blocks, and nothing after them
 abbrev pub ownBlocks : Task → Ended → List ℕ
-ownBlocks j o = take (blockBytes * blocksOf form2 (samples j)) (o .left .blocks)
+ownBlocks j o = take (blockBytes * blocksOf (blockForm j) (samples j)) (o .left .blocks)
 
 -- the samples that the reader of both forms finds in them: words, and their classes in a second buffer
 abbrev pub samplesRead : Task → Ended → List class.Classed
@@ -71,12 +75,14 @@ pub record SampleIs (j : Task) (i word class : ℕ) : Type 0 where
 pub record BlocksRead (j : Task) (o : Ended) : Type 0 where
   -- the frame number is in use
   pub used : closed (j .settings .frame) ≡ false
+  -- the first block says that they are of the job's form, outside a run form 2; with no samples there is no block
+  pub held : 1 ≤ samples j → formIn (ownBlocks j o) ≡ j .form
   -- reading them as a frame is accepted by any two buffers with room, and gives the number of samples and the frame number; with no samples there is no block to carry it
   pub frame : (room classRoom : ℕ) → samples j ≤ room → samples j ≤ classRoom
       → readBoth (ownBlocks j o) room classRoom ≡ record { refusal = 0; frame = choose (eqb (samples j) 0) 0 (j .settings .frame); samples = samples j }
   -- each block alone is accepted, with the frame number, its place and how many samples it holds
-  pub every-block : (k : ℕ) → k < blocksOf form2 (samples j)
-      → readAlone (drop (blockBytes * k) (ownBlocks j o)) ≡ record { refusal = 0; frame = j .settings .frame; ordinal = k; count = countAt form2 (samples j) k }
+  pub every-block : (k : ℕ) → k < blocksOf (blockForm j) (samples j)
+      → readAlone (drop (blockBytes * k) (ownBlocks j o)) ≡ record { refusal = 0; frame = j .settings .frame; ordinal = k; count = countAt (blockForm j) (samples j) k }
   -- the words are the search's, the classes those handed in
   pub same : wordsRead j o ≡ words j
   pub same-classes : classesRead j o ≡ j .classes

@@ -13,7 +13,7 @@ use Rattle.search.specs.Refusal as search
 use Rattle.fit.specs.declared.Fitted.{Fitted}
 use Rattle.class.specs.Class.{Classed, classed}
 use Rattle.class_set.specs.Set.{chosen}
-use Rattle.form2.specs.Block.{codec2}
+use Rattle.forms.specs.Forms.{codecOf}
 use Rattle.block.specs.Frame.{frameBytes}
 use Rattle.header.specs.Writing.{headerBits, bitsPlaced}
 use Rattle.job_task.specs.Task.{Task, Lent, lend, searchTask, searchLent}
@@ -105,9 +105,9 @@ leftWith j l blocks header = lend (searched j l .inputHalf) (searched j l .refHa
 abbrev pub leftBySearch : Task → Lent → Lent
 leftBySearch j l = leftWith j l (l .blocks) (l .header)
 
--- the samples' blocks of form 2
+-- the samples' blocks, of the job's form
 abbrev pub blocksBy : Task → Lent → List ℕ
-blocksBy j l = onto (frameBytes codec2 (j .settings .frame) (classedWords j)) (l .blocks)
+blocksBy j l = onto (frameBytes (codecOf (j .form)) (j .settings .frame) (classedWords j)) (l .blocks)
 
 -- accepted: the blocks, and the header's bits from the job's start on
 abbrev pub leftByJob : Task → Lent → Lent

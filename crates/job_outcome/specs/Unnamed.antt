@@ -10,6 +10,7 @@ use lib.ListN.{length}
 use Rattle.laws.specs.Refusal.{Row, row, judge, orElse, either}
 use Rattle.class.specs.Class.{lastClass, classOver}
 use Rattle.models.specs.Models.{typesOver, startOver}
+use Rattle.forms.specs.Forms.{noForm}
 use Rattle.frame_number.specs.Shutter.{closedRefusal}
 use Rattle.fit.specs.Fitted.{noType}
 use Rattle.job_task.specs.Task.{Task, Lent, sizesOf}
@@ -25,7 +26,7 @@ codes j =
     let s = j .settings in
     either (classOver lastClass (j .classes))
     (either (unlessElects s (noType (s .«gm_type»)))
-    (either (typesOver (j .types)) (either (ltb 1 (s .flag)) (either (unlessElects s (ltb 1 (s .trim))) (ltb 1 (s .elect))))))
+    (either (typesOver (j .types)) (either (ltb 1 (s .flag)) (either (unlessElects s (ltb 1 (s .trim))) (either (ltb 1 (s .elect)) (noForm (j .form)))))))
 
 abbrev pub codeRows : Task → List Row
 codeRows j =
@@ -36,7 +37,7 @@ codeRows j =
 
 abbrev pub roomRows : Task → Lent → List Row
 roomRows j l =
-    row 3 (tooLittle (sizesOf j l))
+    row 3 (tooLittle (sizesOf j l) (j .form))
     ∷ row 15 (tooFewToTrim (j .settings) (samples j))
     ∷ []
 
@@ -44,7 +45,7 @@ abbrev pub early : Task → Lent → ℕ
 early j l =
     orElse (judge (sizeRows (sizesOf j l) (length (j .classes)) (length (j .types)) (length (j .models)) (length (j .prior))))
     (orElse (judge (codeRows j))
-    (orElse (judge (modelRows (j .settings) (j .types) (j .models) (j .prior)))
+    (orElse (judge (modelRows (j .settings) (j .form) (j .classes) (j .types) (j .models) (j .prior)))
     (orElse (judge (roomRows j l))
     (closedRefusal (j .settings .frame)))))
 

@@ -11,6 +11,7 @@ use Rattle.laws.specs.Refusal.{Row, row, judge, orElse, either}
 use Rattle.class.specs.Class.{lastClass, classOver}
 use Rattle.class_set.specs.Set.{namesOver, namesNone}
 use Rattle.models.specs.Models.{typesOver, startOver}
+use Rattle.forms.specs.Forms.{noForm}
 use Rattle.frame_number.specs.Shutter.{closedRefusal}
 use Rattle.fit.specs.declared.Fitted.{Fitted}
 use Rattle.fit.specs.Fitted.{noType, fitOf, refusalOf}
@@ -26,7 +27,7 @@ use Rattle.job_outcome.specs.Ends.{outcomeBy}
 abbrev pub codes : Task → Bool
 codes j =
     either (classOver lastClass (j .classes))
-    (either (noType (j .settings .«gm_type»)) (either (typesOver (j .types)) (either (ltb 1 (j .settings .flag)) (namesOver (j .settings .set)))))
+    (either (noType (j .settings .«gm_type»)) (either (typesOver (j .types)) (either (ltb 1 (j .settings .flag)) (either (namesOver (j .settings .set)) (noForm (j .form))))))
 
 abbrev pub codeRows : Task → List Row
 codeRows j =
@@ -40,8 +41,8 @@ abbrev pub early : Task → Lent → ℕ
 early j l =
     orElse (judge (sizeRows (sizesOf j l) (length (j .classes)) (length (j .types)) (length (j .models)) (length (j .prior))))
     (orElse (judge (codeRows j))
-    (orElse (judge (modelRows (j .settings) (j .types) (j .models) (j .prior)))
-    (orElse (judge (row 3 (tooLittle (sizesOf j l)) ∷ []))
+    (orElse (judge (modelRows (j .settings) (j .form) (j .classes) (j .types) (j .models) (j .prior)))
+    (orElse (judge (row 3 (tooLittle (sizesOf j l) (j .form)) ∷ []))
     (closedRefusal (j .settings .frame)))))
 
 -- ---- the model: fitted to all named words, refitted and scored over them

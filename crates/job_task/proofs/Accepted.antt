@@ -20,7 +20,7 @@ use Rattle.search.proofs.Rows as search-rows
 use Rattle.fit.specs.Fitted.{noType}
 use Rattle.models.specs.Models.{typesOver}
 use Rattle.layout.specs.Form.{blockBytes, blocksOf}
-use Rattle.form2.specs.Block.{form2}
+use Rattle.forms.specs.Forms.{codecOf, noForm}
 use Rattle.frame_number.specs.Shutter.{closedRefusal}
 use Rattle.frame_number.proofs.InUse.{in-use}
 use Rattle.job_task.specs.declared.Settings.{Settings}
@@ -32,24 +32,24 @@ use Rattle.job_task.proofs.Ready.{Ready}
 
 -- ---- the groups
 
-module _ (z : Sizes) (s : Settings) (classes types : List ℕ) (models prior : List ℤ) where
+module _ (z : Sizes) (s : Settings) (form : ℕ) (classes types : List ℕ) (models prior : List ℤ) where
   pub record AllQuiet : Type 0 where
     pub sizes : judge (sizeRows z (length classes) (length types) (length models) (length prior)) ≡ 0
-    pub codes : judge (codeRows s classes types) ≡ 0
-    pub handed : judge (modelRows s types models prior) ≡ 0
-    pub room : judge (roomRows z s classes) ≡ 0
+    pub codes : judge (codeRows s form classes types) ≡ 0
+    pub handed : judge (modelRows s form classes types models prior) ≡ 0
+    pub room : judge (roomRows z s form classes) ≡ 0
     pub shutter : closedRefusal (s .frame) ≡ 0
 
-  pub all-quiet : refusalBefore z s classes types models prior ≡ 0 → AllQuiet
+  pub all-quiet : refusalBefore z s form classes types models prior ≡ 0 → AllQuiet
   unfolding refusalBefore
   all-quiet e =
       let a = or-else-quiet (judge (sizeRows z (length classes) (length types) (length models) (length prior))) _ e in
-      let b = or-else-quiet (judge (codeRows s classes types)) _ (a .1) in
-      let c = or-else-quiet (judge (modelRows s types models prior)) _ (b .1) in
-      let d = or-else-quiet (judge (roomRows z s classes)) (closedRefusal (s .frame)) (c .1) in
+      let b = or-else-quiet (judge (codeRows s form classes types)) _ (a .1) in
+      let c = or-else-quiet (judge (modelRows s form classes types models prior)) _ (b .1) in
+      let d = or-else-quiet (judge (roomRows z s form classes)) (closedRefusal (s .frame)) (c .1) in
       record { sizes = a .0; codes = b .0; handed = c .0; room = d .0; shutter = d .1 }
 
-  pub quiet-all : AllQuiet → refusalBefore z s classes types models prior ≡ 0
+  pub quiet-all : AllQuiet → refusalBefore z s form classes types models prior ≡ 0
   unfolding refusalBefore
   quiet-all q = rw (q .sizes, q .codes, q .handed, q .room) (q .shutter)
 
@@ -83,9 +83,10 @@ lengths z classes types models prior e =
 
 -- ---- rows 4, 19, 5 and 14
 
-pub record Codes (s : Settings) (classes types : List ℕ) : Type 0 where
+pub record Codes (s : Settings) (form : ℕ) (classes types : List ℕ) : Type 0 where
   pub classed : classOver lastClass classes ≡ false
   pub known : typesOver types ≡ false
+  pub formed : noForm form ≡ false
   pub range : InRange s
 
 -- of a job that doesn't elect
@@ -102,21 +103,23 @@ asked s a e =
     let some : s .«gm_type» ≡ 0 → ⊥ = eqb-false (s .«gm_type») 0 (q .0) in
     record { some = omega arith; last = ltb-false 3 (s .«gm_type») (q .1) }
 
-pub codes : (s : Settings) (classes types : List ℕ) → judge (codeRows s classes types) ≡ 0 → Codes s classes types
-codes s classes types e =
-    let q = quiet (codeRows s classes types) tt e in
+pub codes : (s : Settings) (form : ℕ) (classes types : List ℕ) → judge (codeRows s form classes types) ≡ 0 → Codes s form classes types
+codes s form classes types e =
+    let q = quiet (codeRows s form classes types) tt e in
     let four = neither (classOver lastClass classes) _ (q .0) in
     let kind = neither (unlessElects s (noType (s .«gm_type»))) _ (four .1) in
     let over = neither (typesOver types) _ (kind .1) in
     let flags = neither (ltb 1 (s .flag)) _ (over .1) in
     let trims = neither (unlessElects s (ltb 1 (s .trim))) _ (flags .1) in
-    let last = neither (ltb 1 (s .elect)) (namesOver (s .set)) (trims .1) in
+    let elect = neither (ltb 1 (s .elect)) _ (trims .1) in
+    let last = neither (namesOver (s .set)) (noForm form) (elect .1) in
     let some : s .set ≡ 0 → ⊥ = eqb-false (s .set) 0 (q .1 .0) in
     let five = neither (eqb (s .reference) 0) (ltb 7 (s .reference)) (q .1 .1 .0) in
     let one : s .reference ≡ 0 → ⊥ = eqb-false (s .reference) 0 (five .0) in
     record {
       classed = four .0;
       known = over .0;
+      formed = last .1;
       range = record {
         some-type = λ a. asked s a (kind .0) .some;
         last-type = λ a. asked s a (kind .0) .last;
@@ -124,9 +127,9 @@ codes s classes types e =
         last-reference = ltb-false 7 (s .reference) (five .1);
         flagged = ltb-false 1 (s .flag) (flags .0);
         trimming = λ a. ltb-false 1 (s .trim) (sym (unless-elects s (ltb 1 (s .trim)) a) ∙ trims .0);
-        electing = ltb-false 1 (s .elect) (last .0);
+        electing = ltb-false 1 (s .elect) (elect .0);
         some-class = omega arith;
-        last-class = ltb-false allClasses (s .set) (last .1);
+        last-class = ltb-false allClasses (s .set) (last .0);
         low = omega (arith, ltb-false 7 (s .start) (q .1 .1 .1 .0));
       };
     }
@@ -145,12 +148,12 @@ module _ (j : Task) (l : Lent) where
   pub ready : early j l ≡ 0 → Ready j l
   ready e =
       let z : Sizes = sizesOf j l in
-      let q = all-quiet z (j .settings) (j .classes) (j .types) (j .models) (j .prior) e in
+      let q = all-quiet z (j .settings) (j .form) (j .classes) (j .types) (j .models) (j .prior) e in
       let n = lengths z (length (j .classes)) (length (j .types)) (length (j .models)) (length (j .prior)) (q .sizes) in
-      let c = codes (j .settings) (j .classes) (j .types) (q .codes) in
-      let m = quiet (modelRows (j .settings) (j .types) (j .models) (j .prior)) tt (q .handed) in
-      let needed : ℕ = blockBytes * blocksOf form2 (sampleCount (j .width) (j .height)) in
-      let last = quiet (roomRows z (j .settings) (j .classes)) tt (q .room) in
+      let c = codes (j .settings) (j .form) (j .classes) (j .types) (q .codes) in
+      let m = quiet (modelRows (j .settings) (j .form) (j .classes) (j .types) (j .models) (j .prior)) tt (q .handed) in
+      let needed : ℕ = blockBytes * blocksOf (codecOf (j .form) .form) (sampleCount (j .width) (j .height)) in
+      let last = quiet (roomRows z (j .settings) (j .form) (j .classes)) tt (q .room) in
       let three = neither (search.tooShort (j .width) (j .height) (length (l .inputHalf)) (length (l .refHalf)) (length (l .words))) _ (last .0) in
       let room = neither (ltb (length (l .blocks)) needed) (ltb (length (l .header)) headerBytes) (three .1) in
       let found : search.refusal (searchTask j) (searchLent l) ≡ 0 = search-accepts (searchTask j) (searchLent l) (n .large) (n .planes) (c .classed) (three .0) in
@@ -160,6 +163,8 @@ module _ (j : Task) (l : Lent) where
           low = n .sides .low;
           class-count = n .classed;
           classed = c .classed;
+          formed = c .formed;
+          held = m .1 .1 .0;
           six = n .six;
           numbers = n .numbers;
           places = n .places;

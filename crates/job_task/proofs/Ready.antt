@@ -10,11 +10,11 @@ use Rattle.search.specs.Search.{sampleCount}
 use Rattle.search.specs.Refusal as search
 use Rattle.models.specs.Models.{typesOver, modelsWrong, priorsOut}
 use Rattle.layout.specs.Form.{blockBytes, blocksOf}
-use Rattle.form2.specs.Block.{form2}
+use Rattle.forms.specs.Forms.{codecOf, noForm}
 use Rattle.frame_number.specs.Shutter.{closed}
 use Rattle.job_task.specs.Task.{Task, Lent, searchTask, searchLent}
 use Rattle.job_task.specs.Inner.{InRange}
-use Rattle.job_task.specs.Rows.{otherTypes, otherNumbers, priorNumbers, headerBytes, tooFewToTrim}
+use Rattle.job_task.specs.Rows.{otherTypes, otherNumbers, priorNumbers, headerBytes, notHeld, tooFewToTrim}
 
 -- what goes in
 pub record Sound (j : Task) : Type 0 where
@@ -22,6 +22,8 @@ pub record Sound (j : Task) : Type 0 where
   pub low : j .height ≤ 1024
   pub class-count : length (j .classes) ≡ sampleCount (j .width) (j .height)
   pub classed : classOver lastClass (j .classes) ≡ false
+  pub formed : noForm (j .form) ≡ false
+  pub held : notHeld (j .form) (j .classes) ≡ false
   pub six : length (j .types) ≡ otherTypes
   pub numbers : length (j .models) ≡ otherNumbers
   pub places : length (j .prior) ≡ priorNumbers
@@ -36,5 +38,5 @@ pub record Sound (j : Task) : Type 0 where
 pub record Ready (j : Task) (l : Lent) : Type 0 where
   pub sound : Sound j
   pub searched : search.refusal (searchTask j) (searchLent l) ≡ 0
-  pub blocks-room : blockBytes * blocksOf form2 (sampleCount (j .width) (j .height)) ≤ length (l .blocks)
+  pub blocks-room : blockBytes * blocksOf (codecOf (j .form) .form) (sampleCount (j .width) (j .height)) ≤ length (l .blocks)
   pub header-room : headerBytes ≤ length (l .header)

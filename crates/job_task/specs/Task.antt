@@ -8,13 +8,14 @@ use Rattle.search.specs.Refusal as search
 use Rattle.job_task.specs.declared.Settings.{Settings}
 use Rattle.job_task.specs.declared.Sizes.{Sizes}
 
--- a frame pair, the settings, a class for each sample, the six other types and models, and the prior
+-- a frame pair, the settings, the form of the blocks, a class for each sample, the six other types and models, and the prior
 pub record Task : Type 0 where
   pub input : List ℕ
   pub reference : List ℕ
   pub width : ℕ
   pub height : ℕ
   pub settings : Settings
+  pub form : ℕ
   pub classes : List ℕ
   pub types : List ℕ
   pub models : List ℤ
@@ -28,9 +29,13 @@ pub record Lent : Type 0 where
   pub blocks : List ℕ
   pub header : List ℕ
 
+abbrev pub taskIn : ℕ → List ℕ → List ℕ → ℕ → ℕ → Settings → List ℕ → List ℕ → List ℤ → List ℤ → Task
+taskIn form i r w h s c t m p =
+    record { input = i; reference = r; width = w; height = h; settings = s; form = form; classes = c; types = t; models = m; prior = p }
+
+-- outside a run the blocks are of form 2
 abbrev pub task : List ℕ → List ℕ → ℕ → ℕ → Settings → List ℕ → List ℕ → List ℤ → List ℤ → Task
-task i r w h s c t m p =
-    record { input = i; reference = r; width = w; height = h; settings = s; classes = c; types = t; models = m; prior = p }
+task = taskIn 2
 
 abbrev pub lend : List ℕ → List ℕ → List ℕ → List ℕ → List ℕ → Lent
 lend i r w b h = record { inputHalf = i; refHalf = r; words = w; blocks = b; header = h }

@@ -1,11 +1,11 @@
 // What a job is handed, and the rows of the table of refusals that it meets before its search: 1, 2,
-// 4, 19, 5, 14, 7, 8, 3, 15, 17, in the table's order (docs/RULES.md, 'Job', 'When a call says no'); a
-// job that elects takes no type and always trims, so it has no 15. In go the settings, how long planes and
-// lent buffers are, and the lists that are looked into; out comes the first row that holds, 0 for none.
-// The rows are judged in groups; a group is a function.
+// 4, 19, 5, 14, 7, 8, 13, 3, 15, 17, in the table's order (docs/RULES.md, 'Job', 'When a call says no'); a
+// job that elects takes no type and always trims, so it has no 15, and form 2 holds every class, so 13 is
+// of a run in form 1. In go the settings, the form of the blocks, how long planes and lent buffers are, and
+// the lists that are looked into; out comes the first row that holds, 0 for none. The rows are judged in
+// groups; a group is a function.
 use class::LAST_CLASS;
 use class_set::NO_CLASS;
-use forms::FORM2;
 use header::MOST_BYTES;
 use layout::BLOCK_BYTES;
 use models::NUMBERS;
@@ -44,6 +44,8 @@ const START_OVER: u32 = 14;
 const WRONG_MODEL: u32 = 7;
 
 const PRIOR_OUT: u32 = 8;
+
+const CLASS_NOT_HELD: u32 = 13;
 
 const TOO_LITTLE: u32 = 3;
 
@@ -122,8 +124,8 @@ fn bad_trim(settings: Settings) -> bool
     1 < settings.trim
 }
 
-fn bad_codes(settings: Settings, classes: &[u8], types: &[u8]) -> bool
-    ensures { λ b. ⌜ b ≡ badCodes settings (now (classes .entry)) (now (types .entry)) ⌝ }
+fn bad_codes(settings: Settings, form: u32, classes: &[u8], types: &[u8]) -> bool
+    ensures { λ b. ⌜ b ≡ badCodes settings form (now (classes .entry)) (now (types .entry)) ⌝ }
 {
     if class::some_over(LAST_CLASS, classes) {
         return true;
@@ -143,7 +145,10 @@ fn bad_codes(settings: Settings, classes: &[u8], types: &[u8]) -> bool
     if 1 < settings.elect {
         return true;
     }
-    class_set::names_over(settings.set)
+    if class_set::names_over(settings.set) {
+        return true;
+    }
+    forms::no_form(form)
 }
 
 fn no_reference(reference: u8) -> bool
@@ -155,9 +160,9 @@ fn no_reference(reference: u8) -> bool
     LAST_REFERENCE < reference
 }
 
-fn too_little(sizes: Sizes) -> bool
+fn too_little(sizes: Sizes, form: u32) -> bool
     requires { ⌜ Small (sizes .width) (sizes .height) ⌝ }
-    ensures { λ b. ⌜ b ≡ tooLittle sizes ⌝ }
+    ensures { λ b. ⌜ b ≡ tooLittle sizes form ⌝ }
 {
     if search::refusals::too_short(
         sizes.width,
@@ -169,7 +174,7 @@ fn too_little(sizes: Sizes) -> bool
         return true;
     }
     let samples = sizes.height / BLOCK * (sizes.width / BLOCK);
-    if sizes.blocks < BLOCK_BYTES * forms::blocks_of(FORM2, samples) {
+    if sizes.blocks < BLOCK_BYTES * forms::blocks_of(form, samples) {
         return true;
     }
     sizes.header < MOST_BYTES
@@ -201,10 +206,10 @@ fn sizes_refusal(sizes: Sizes, classes: usize, types: usize, models: usize, prio
     0
 }
 
-fn codes_refusal(settings: Settings, classes: &[u8], types: &[u8]) -> u32
-    ensures { λ r. ⌜ r ≡ judge (codeRows settings (now (classes .entry)) (now (types .entry))) ⌝ }
+fn codes_refusal(settings: Settings, form: u32, classes: &[u8], types: &[u8]) -> u32
+    ensures { λ r. ⌜ r ≡ judge (codeRows settings form (now (classes .entry)) (now (types .entry))) ⌝ }
 {
-    if bad_codes(settings, classes, types) {
+    if bad_codes(settings, form, classes, types) {
         return BAD_CODE;
     }
     if settings.set == 0 {
@@ -219,9 +224,17 @@ fn codes_refusal(settings: Settings, classes: &[u8], types: &[u8]) -> u32
     0
 }
 
-fn models_refusal(settings: Settings, types: &[u8], models: &[i32], prior: &[i32]) -> u32
+// The models, the prior, and the classes against the form.
+fn models_refusal(
+    settings: Settings,
+    form: u32,
+    classes: &[u8],
+    types: &[u8],
+    models: &[i32],
+    prior: &[i32],
+) -> u32
     requires { ⌜ 6 * length (now types) ≤ length (now models) ⌝ }
-    ensures { λ r. ⌜ r ≡ judge (modelRows settings (now (types .entry)) (now (models .entry)) (now (prior .entry))) ⌝ }
+    ensures { λ r. ⌜ r ≡ judge (modelRows settings form (now (classes .entry)) (now (types .entry)) (now (models .entry)) (now (prior .entry))) ⌝ }
 {
     if models::models_wrong(types, settings.flag, models) {
         return WRONG_MODEL;
@@ -229,14 +242,17 @@ fn models_refusal(settings: Settings, types: &[u8], models: &[i32], prior: &[i32
     if models::priors_out(prior) {
         return PRIOR_OUT;
     }
+    if class::some_over(forms::last_class(form), classes) {
+        return CLASS_NOT_HELD;
+    }
     0
 }
 
-fn room_refusal(sizes: Sizes, settings: Settings, classes: &[u8]) -> u32
+fn room_refusal(sizes: Sizes, settings: Settings, form: u32, classes: &[u8]) -> u32
     requires { ⌜ Small (sizes .width) (sizes .height) ⌝ }
-    ensures { λ r. ⌜ r ≡ judge (roomRows sizes settings (now (classes .entry))) ⌝ }
+    ensures { λ r. ⌜ r ≡ judge (roomRows sizes settings form (now (classes .entry))) ⌝ }
 {
-    if too_little(sizes) {
+    if too_little(sizes, form) {
         return TOO_LITTLE;
     }
     if too_few_to_trim(settings, classes) {
@@ -248,26 +264,27 @@ fn room_refusal(sizes: Sizes, settings: Settings, classes: &[u8]) -> u32
 pub fn refusal_of(
     sizes: Sizes,
     settings: Settings,
+    form: u32,
     classes: &[u8],
     types: &[u8],
     models: &[i32],
     prior: &[i32],
 ) -> u32
-    ensures { λ r. ⌜ r ≡ refusalBefore sizes settings (now (classes .entry)) (now (types .entry)) (now (models .entry)) (now (prior .entry)) ⌝ }
+    ensures { λ r. ⌜ r ≡ refusalBefore sizes settings form (now (classes .entry)) (now (types .entry)) (now (models .entry)) (now (prior .entry)) ⌝ }
 {
     let lengths = sizes_refusal(sizes, classes.len(), types.len(), models.len(), prior.len());
     if lengths != 0 {
         return lengths;
     }
-    let codes = codes_refusal(settings, classes, types);
+    let codes = codes_refusal(settings, form, classes, types);
     if codes != 0 {
         return codes;
     }
-    let handed = models_refusal(settings, types, models, prior);
+    let handed = models_refusal(settings, form, classes, types, models, prior);
     if handed != 0 {
         return handed;
     }
-    let room = room_refusal(sizes, settings, classes);
+    let room = room_refusal(sizes, settings, form, classes);
     if room != 0 {
         return room;
     }

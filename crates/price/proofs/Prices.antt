@@ -9,6 +9,7 @@ use lib.Dec.{eqb}
 use lib.IntN.{ℤ}
 use lib.ListN.{length}
 use Rattle.laws.specs.Loops.{sum}
+use Rattle.laws.proofs.Loops.{sum-same}
 use Rattle.grid.specs.Grid.{absBits, precBits, centre}
 use Rattle.grid.specs.Symbols.{symbols, place, priorOut}
 use Rattle.grid.proofs.Symbols.{number-symbol, row-place-below}
@@ -36,6 +37,12 @@ symbols-listed abs p bits three h =
     (λ k. eqb bits (length (subexpBits (symbols abs) k)))
     ∙ codes-listed abs bits three
 
+-- and the counts of all lengths sum to 2 * 2 ^ absBits + 1, the number of symbols
+pub symbols-all : (abs p : ℕ) → 3 ≤ abs → sum (λ j. countOf (λ t. eqb (shortest + j) (length (symbolBits (symbols abs) p t))) (symbols abs)) (lengthsOf abs) ≡ symbols abs
+symbols-all abs p three =
+    counts-sum (λ t. length (symbolBits (symbols abs) p t)) shortest (lengthsOf abs) (symbols abs)
+    (λ t l. (four-bits-at-least abs p t three, omega (arith, twice-absBits-less-one-at-most abs p t three)))
+
 -- and so many ordinals of a slot
 module _ (gmType flag slot : ℕ) (q : ℤ) (inRange : priorOut slot q ≡ false) where
   code-of-ordinal : (t : ℕ) → t < symbols (absBits gmType flag slot)
@@ -56,11 +63,5 @@ module _ (gmType flag slot : ℕ) (q : ℤ) (inRange : priorOut slot q ≡ false
   unfolding ordinalsAt
   ordinals-all =
       let abs : ℕ = absBits gmType flag slot in
-      let three : 3 ≤ abs = absBits-range gmType flag slot .0 in
-      counts-sum (codeLength gmType flag slot q) shortest (lengthsOf abs) (symbols abs)
-      (λ t l.
-      let e : codeLength gmType flag slot q t ≡ length (symbolBits (symbols abs) (place gmType flag slot q) t) = code-of-ordinal t l in
-      rw e (
-        four-bits-at-least abs (place gmType flag slot q) t three,
-        omega (arith, twice-absBits-less-one-at-most abs (place gmType flag slot q) t three),
-      ))
+      sum-same _ _ (lengthsOf abs) (λ j l. count-same _ _ (symbols abs) (λ t k. ap (eqb (shortest + j)) (code-of-ordinal t k)))
+      ∙ symbols-all abs (place gmType flag slot q) (absBits-range gmType flag slot .0)

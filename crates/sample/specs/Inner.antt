@@ -6,7 +6,6 @@ use mathlib.Core.Path.{_≡_}
 use lib.ListN.{getD}
 use lib.Ieee.{Float, nan}
 use Rattle.sample.specs.Word.{sides, motions, classes}
-use Rattle.sample.specs.Sample.{centreOf}
 
 -- fields that a word can hold
 pub record Held (r c v u k : ℕ) : Type 0 where
@@ -16,6 +15,6 @@ pub record Held (r c v u k : ℕ) : Type 0 where
   pub motion-u : u < motions
   pub class : k < classes
 
--- a table of the centres of all rows or columns
-pub record Centres (t : List Float) : Type 0 where
-  pub at : (place : ℕ) → place < sides → getD t place nan ≡ centreOf place
+-- a table of the first n numbers of f
+pub record Tabled (f : ℕ → Float) (n : ℕ) (t : List Float) : Type 0 where
+  pub at : (k : ℕ) → k < n → getD t k nan ≡ f k

@@ -4,10 +4,11 @@
 // (`MotionSample` of the Rust's global_motion.rs).
 ghost use mathlib.Core.Path.{_≡_};
 ghost use Prim.Native.Nat.{_<_};
+ghost use lib.ListN.{length};
 ghost use Rattle.sample.specs.Word.{rowOf, colOf, vOf, uOf, classOf, wordOf, inRange, placeOf, sides, motions};
 ghost use Rattle.sample.specs.Sample.{sampleOf, centreOf, pelsOf};
 ghost use Rattle.sample.specs.Storable.{storableFrom};
-ghost use Rattle.sample.specs.Inner.{Held, Centres};
+ghost use Rattle.sample.specs.Inner.{Held, Tabled};
 
 // The samples of the largest frame, and of the longest list.
 pub const MOST_SAMPLES: usize = 4096;
@@ -149,7 +150,7 @@ pub fn sample_of(word: u32) -> MotionSample
 
 // The centres of all rows or columns of blocks, which a long list of words looks up.
 pub fn centres() -> [f64; 64]
-    ensures { λ r. ⌜ Centres r ⌝ }
+    ensures { λ r. ⌜ Tabled centreOf sides r ⌝ }
 {
     let mut table = [0.0f64; 64];
     let mut place = 0u32;
@@ -162,7 +163,7 @@ pub fn centres() -> [f64; 64]
 
 // The sample of a word, its centre looked up.
 pub fn sample_by(centres: &[f64; 64], word: u32) -> MotionSample
-    requires { ⌜ Centres (now centres) ⌝ }
+    requires { ⌜ Tabled centreOf sides (now centres) ⌝ }
     ensures { λ r. ⌜ r ≡ sampleOf word ⌝ }
 {
     let row = row_of(word) as usize;
@@ -172,5 +173,46 @@ pub fn sample_by(centres: &[f64; 64], word: u32) -> MotionSample
         y: centres[row],
         u: pels_of(u_of(word)),
         v: pels_of(v_of(word)),
+    }
+}
+
+// The motions in pels of all stored ones, which a longer list looks up too.
+pub fn motions() -> [f64; 512]
+    ensures { λ r. ⌜ Tabled pelsOf motions r × (length r ≡ motions) ⌝ }
+{
+    let mut table = [0.0f64; 512];
+    let mut stored = 0u32;
+    while stored < MOTIONS {
+        table[stored as usize] = pels_of(stored);
+        stored += 1;
+    }
+    table
+}
+
+// A stored motion in pels, looked up where the table is whole.
+fn motion_by(table: &[f64], stored: u32) -> f64
+    requires { ⌜ Tabled pelsOf (length (now table)) (now table) ⌝ }
+    requires { ⌜ stored < motions ⌝ }
+    ensures { λ r. ⌜ r ≡ pelsOf stored ⌝ }
+{
+    if table.len() < MOTIONS as usize {
+        return pels_of(stored);
+    }
+    table[stored as usize]
+}
+
+// The sample of a word, its centre looked up, and its motions where their table is whole.
+pub fn sample_from(centres: &[f64; 64], motions: &[f64], word: u32) -> MotionSample
+    requires { ⌜ Tabled centreOf sides (now centres) ⌝ }
+    requires { ⌜ Tabled pelsOf (length (now motions)) (now motions) ⌝ }
+    ensures { λ r. ⌜ r ≡ sampleOf word ⌝ }
+{
+    let row = row_of(word) as usize;
+    let col = col_of(word) as usize;
+    MotionSample {
+        x: centres[col],
+        y: centres[row],
+        u: motion_by(motions, u_of(word)),
+        v: motion_by(motions, v_of(word)),
     }
 }

@@ -9,10 +9,9 @@ use lib.Seq.{set-getD}
 use lib.Ieee.{Float, nan}
 use Rattle.laws.specs.Loops.{run, turns}
 use Rattle.laws.proofs.Loops.{again}
-use Rattle.solve.specs.declared.System.{System}
 use Rattle.solve.specs.declared.Outcome.{Outcome}
 use Rattle.solve.specs.declared.Outcome.the-variants.{Solved, Singular}
-use Rattle.solve.specs.Elimination.{tooSmall, system, entry, pivotOf, exchangeAt, exchangedRows, exchangeRight, exchanged, factorOf, reducedRow, reduceRight, reduceRow, reduced}
+use Rattle.solve.specs.Elimination.{System, tooSmall, system, entry, pivotOf, exchangeAt, exchangedRows, exchangeRight, exchanged, factorOf, reducedRow, reduceRight, reduceRow, reduced}
 use Rattle.solve.specs.Elimination.{Elimination, eliminating, column, columnStep}
 
 -- ---- turns that change nothing

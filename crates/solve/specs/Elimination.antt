@@ -8,7 +8,6 @@ use lib.Ieee.{Float, nan, binary64, lt, eq, neg, ofBits}
 use Rattle.laws.specs.Loops.{run}
 use Rattle.laws.specs.Refusal.{choose}
 use Rattle.laws.specs.Binary64.{_⊖_, _⊗_, _⊘_, nought}
-use Rattle.solve.specs.declared.System.{System}
 use Rattle.solve.specs.declared.Outcome.{Outcome}
 use Rattle.solve.specs.declared.Outcome.the-variants.{Solved, Singular}
 
@@ -25,6 +24,10 @@ abbrev pub tooSmall : Float → Bool
 tooSmall pivot = lt (absOf pivot) leastPivot
 
 -- a matrix and its right side
+pub record System : Type 0 where
+  pub a : List Float
+  pub b : List Float
+
 abbrev pub system : List Float → List Float → System
 system a b = record { a = a; b = b }
 

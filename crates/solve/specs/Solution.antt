@@ -6,11 +6,9 @@ use lib.ListN.{getD, set, replicate}
 use lib.Ieee.{Float, nan}
 use Rattle.laws.specs.Loops.{run}
 use Rattle.laws.specs.Binary64.{_⊖_, _⊗_, _⊘_, nought}
-use Rattle.solve.specs.declared.System.{System}
 use Rattle.solve.specs.declared.Outcome.{Outcome}
 use Rattle.solve.specs.declared.Outcome.the-variants.{Solved, Singular}
-use Rattle.solve.specs.declared.Solution.{Solution}
-use Rattle.solve.specs.Elimination.{entry, right, Elimination, eliminated, unlessSingular}
+use Rattle.solve.specs.Elimination.{System, entry, right, Elimination, eliminated, unlessSingular}
 
 abbrev pub residueStep : List Float → List Float → ℕ → ℕ → Float → Float
 residueStep a x row k acc = acc ⊖ entry a row k ⊗ getD x k nan
@@ -30,8 +28,16 @@ unknownStep size s i x = unknownAt size s (size - 1 - i) x
 abbrev pub zeros : List Float
 zeros = replicate 4 nought
 
-unfoldable pub unknowns : ℕ → System → List Float
-unknowns size s = run (unknownStep size s) 0 size zeros
+unfoldable pub unknownsFrom : ℕ → System → List Float → List Float
+unknownsFrom size s x = run (unknownStep size s) 0 size x
+
+abbrev pub unknowns : ℕ → System → List Float
+unknowns size s = unknownsFrom size s zeros
+
+-- the outcome, and the unknowns beside it: zeros where the system is singular
+pub record Solution : Type 0 where
+  pub outcome : Outcome
+  pub x : List Float
 
 abbrev pub solution : Outcome → List Float → Solution
 solution o x = record { outcome = o; x = x }

@@ -9,34 +9,14 @@ ghost use Rattle.solve.specs.Elimination.{absOf, tooSmall, system, pivot
 ghost use Rattle.solve.specs.Elimination.{exchangedRows, exchangeRight, exchanged, factorOf};
 ghost use Rattle.solve.specs.Elimination.{reducedRow, reduceRight, reduced};
 ghost use Rattle.solve.specs.Elimination.{eliminating, column, eliminated};
-ghost use Rattle.solve.specs.Solution.{residueOf, unknownStep, unknowns, solution, solved};
+ghost use Rattle.solve.specs.Solution.{residueOf, unknownStep, unknownsFrom, solution, solved};
 
 // docs/RULES.md, 'Fits and score': the binary64 nearest 1e-9, below which a pivot is refused.
 const LEAST_PIVOT: f64 = 1e-9;
 
-// A matrix, row by row, four entries to a row, and its right side. A system of three unknowns uses
-// the first three of each.
-pub struct System {
-    pub a: [f64; 16],
-    pub b: [f64; 4],
-}
-
 pub enum Outcome {
     Solved,
     Singular,
-}
-
-// The unknowns, zeros where the system is singular.
-pub struct Solution {
-    pub outcome: Outcome,
-    pub x: [f64; 4],
-}
-
-// The unknowns of two right sides of one matrix.
-pub struct Solutions {
-    pub outcome: Outcome,
-    pub x: [f64; 4],
-    pub y: [f64; 4],
 }
 
 fn abs(x: f64) -> f64
@@ -120,26 +100,6 @@ fn exchange(size: usize, col: usize, pivot: usize, a: &mut [f64; 16], b: &mut [f
     exchange_right(col, pivot, b);
 }
 
-fn exchange_pair(
-    size: usize,
-    col: usize,
-    pivot: usize,
-    a: &mut [f64; 16],
-    b: &mut [f64; 4],
-    c: &mut [f64; 4],
-)
-    requires { ⌜ (size ≤ 4) × (col < 4) × (pivot < 4) ⌝ }
-    ensures { λ _. ⌜ system (now (a .exit)) (now (b .exit)) ≡ exchanged size col pivot (system (now (a .entry)) (now (b .entry))) ⌝ }
-    ensures { λ _. ⌜ system (now (a .exit)) (now (c .exit)) ≡ exchanged size col pivot (system (now (a .entry)) (now (c .entry))) ⌝ }
-{
-    if pivot == col {
-        return;
-    }
-    exchange_rows(size, col, pivot, a);
-    exchange_right(col, pivot, b);
-    exchange_right(col, pivot, c);
-}
-
 // A row less its multiple of the pivot row, from the pivot's column on; the answer is the factor.
 fn reduce_row(size: usize, col: usize, row: usize, a: &mut [f64; 16]) -> f64
     requires { ⌜ (size ≤ 4) × (col < 4) × (row < 4) ⌝ }
@@ -179,21 +139,6 @@ fn reduce_below(size: usize, col: usize, a: &mut [f64; 16], b: &mut [f64; 4])
     }
 }
 
-// With a second right side: each is reduced as if it were alone.
-fn reduce_below_pair(size: usize, col: usize, a: &mut [f64; 16], b: &mut [f64; 4], c: &mut [f64; 4])
-    requires { ⌜ (size ≤ 4) × (col < size) ⌝ }
-    ensures { λ _. ⌜ system (now (a .exit)) (now (b .exit)) ≡ reduced size col (system (now (a .entry)) (now (b .entry))) ⌝ }
-    ensures { λ _. ⌜ system (now (a .exit)) (now (c .exit)) ≡ reduced size col (system (now (a .entry)) (now (c .entry))) ⌝ }
-{
-    let mut row = col + 1;
-    while row < size {
-        let factor = reduce_row(size, col, row, a);
-        reduce_right(col, row, factor, b);
-        reduce_right(col, row, factor, c);
-        row += 1;
-    }
-}
-
 // Brings the pivot to the diagonal and reduces the rows below it.
 fn eliminate_column(size: usize, col: usize, a: &mut [f64; 16], b: &mut [f64; 4]) -> Outcome
     requires { ⌜ (size ≤ 4) × (col < size) ⌝ }
@@ -208,26 +153,6 @@ fn eliminate_column(size: usize, col: usize, a: &mut [f64; 16], b: &mut [f64; 4]
     Outcome::Solved
 }
 
-fn eliminate_column_pair(
-    size: usize,
-    col: usize,
-    a: &mut [f64; 16],
-    b: &mut [f64; 4],
-    c: &mut [f64; 4],
-) -> Outcome
-    requires { ⌜ (size ≤ 4) × (col < size) ⌝ }
-    ensures { λ r. ⌜ eliminating (system (now (a .exit)) (now (b .exit))) r ≡ column size col (system (now (a .entry)) (now (b .entry))) ⌝ }
-    ensures { λ r. ⌜ eliminating (system (now (a .exit)) (now (c .exit))) r ≡ column size col (system (now (a .entry)) (now (c .entry))) ⌝ }
-{
-    let pivot = pivot_of(size, a, col);
-    if too_small(a[pivot * 4 + col]) {
-        return Outcome::Singular;
-    }
-    exchange_pair(size, col, pivot, a, b, c);
-    reduce_below_pair(size, col, a, b, c);
-    Outcome::Solved
-}
-
 // A refused column ends the elimination.
 fn eliminate(size: usize, a: &mut [f64; 16], b: &mut [f64; 4]) -> Outcome
     requires { ⌜ size ≤ 4 ⌝ }
@@ -236,25 +161,6 @@ fn eliminate(size: usize, a: &mut [f64; 16], b: &mut [f64; 4]) -> Outcome
     let mut col = 0usize;
     while col < size {
         let outcome = eliminate_column(size, col, a, b);
-        match outcome {
-            Outcome::Singular => return Outcome::Singular,
-            Outcome::Solved => {
-                col += 1;
-            }
-        }
-    }
-    Outcome::Solved
-}
-
-// The pivots depend on the matrix alone, so two right sides share one elimination.
-fn eliminate_pair(size: usize, a: &mut [f64; 16], b: &mut [f64; 4], c: &mut [f64; 4]) -> Outcome
-    requires { ⌜ size ≤ 4 ⌝ }
-    ensures { λ r. ⌜ eliminating (system (now (a .exit)) (now (b .exit))) r ≡ eliminated size (system (now (a .entry)) (now (b .entry))) ⌝ }
-    ensures { λ r. ⌜ eliminating (system (now (a .exit)) (now (c .exit))) r ≡ eliminated size (system (now (a .entry)) (now (c .entry))) ⌝ }
-{
-    let mut col = 0usize;
-    while col < size {
-        let outcome = eliminate_column_pair(size, col, a, b, c);
         match outcome {
             Outcome::Singular => return Outcome::Singular,
             Outcome::Solved => {
@@ -288,73 +194,31 @@ fn unknown_step(size: usize, a: &[f64; 16], b: &[f64; 4], i: usize, x: &mut [f64
     x[row] = residue_of(size, a, b, x, row) / a[row * 4 + row];
 }
 
-fn back_substitute(size: usize, a: &[f64; 16], b: &[f64; 4]) -> [f64; 4]
+fn back_substitute(size: usize, a: &[f64; 16], b: &[f64; 4], x: &mut [f64; 4])
     requires { ⌜ size ≤ 4 ⌝ }
-    ensures { λ r. ⌜ r ≡ unknowns size (system (now (a .entry)) (now (b .entry))) ⌝ }
+    ensures { λ _. ⌜ now (x .exit) ≡ unknownsFrom size (system (now (a .entry)) (now (b .entry))) (now (x .entry)) ⌝ }
 {
-    let mut x = [0.0f64; 4];
     let mut i = 0usize;
     while i < size {
-        unknown_step(size, a, b, i, &mut x);
+        unknown_step(size, a, b, i, x);
         i += 1;
     }
-    x
 }
 
-// A system of one right side.
-pub fn solve_linear(size: usize, s: System) -> Solution
+// A matrix of three or four rows, four entries to a row, and its right side: the unknowns are left in `x`, zeros where a pivot
+// is refused.
+pub fn solve_linear(size: usize, a: &mut [f64; 16], b: &mut [f64; 4], x: &mut [f64; 4]) -> Outcome
     requires { ⌜ size ≤ 4 ⌝ }
-    ensures { λ r. ⌜ r ≡ solved size s ⌝ }
+    ensures { λ r. ⌜ solution r (now (x .exit)) ≡ solved size (system (now (a .entry)) (now (b .entry))) ⌝ }
+    ensures { λ r. ⌜ eliminating (system (now (a .exit)) (now (b .exit))) r ≡ eliminated size (system (now (a .entry)) (now (b .entry))) ⌝ }
 {
-    let mut a = s.a;
-    let mut b = s.b;
-    let outcome = eliminate(size, &mut a, &mut b);
+    *x = [0.0f64; 4];
+    let outcome = eliminate(size, a, b);
     match outcome {
-        Outcome::Singular => {
-            let x = [0.0f64; 4];
-            Solution {
-                outcome: Outcome::Singular,
-                x,
-            }
-        }
+        Outcome::Singular => Outcome::Singular,
         Outcome::Solved => {
-            let x = back_substitute(size, &a, &b);
-            Solution {
-                outcome: Outcome::Solved,
-                x,
-            }
-        }
-    }
-}
-
-// The system of a matrix and its right side, and that of the same matrix and another right side.
-pub fn solve_pair(size: usize, s: System, other: [f64; 4]) -> Solutions
-    requires { ⌜ size ≤ 4 ⌝ }
-    ensures { λ r. ⌜ solution (r .outcome) (r .x) ≡ solved size s ⌝ }
-    ensures { λ r. ⌜ solution (r .outcome) (r .y) ≡ solved size (system (s .a) other) ⌝ }
-{
-    let mut a = s.a;
-    let mut b = s.b;
-    let mut c = other;
-    let outcome = eliminate_pair(size, &mut a, &mut b, &mut c);
-    match outcome {
-        Outcome::Singular => {
-            let x = [0.0f64; 4];
-            let y = [0.0f64; 4];
-            Solutions {
-                outcome: Outcome::Singular,
-                x,
-                y,
-            }
-        }
-        Outcome::Solved => {
-            let x = back_substitute(size, &a, &b);
-            let y = back_substitute(size, &a, &c);
-            Solutions {
-                outcome: Outcome::Solved,
-                x,
-                y,
-            }
+            back_substitute(size, a, b, x);
+            Outcome::Solved
         }
     }
 }

@@ -2,10 +2,10 @@
 -- Assumes nothing.
 use Prim.Native.Nat.{ℕ, zero, suc, _+_, _-_, _*_, _%_, _^_, _≤_, _<_}
 use mathlib.Core.Bool.{Bool, true, false}
-use mathlib.Core.List.{List, _∷_, _++_}
+use mathlib.Core.List.{List, [], _∷_, _++_, append-assoc}
 use mathlib.Core.Path.{_≡_, refl, ap, sym, _∙_, subst}
 use native.Mathlib.Decide.{decLe}
-use native.Mathlib.Nat.{le-refl, mod-eq-of-lt, pow-suc}
+use native.Mathlib.Nat.{le-refl, pow-suc}
 use native.Mathlib.Numerals.{add-one}
 use native.Mathlib.Omega.{arith}
 use borrow.Author.Tests.{leb-true, leb-false, le-leb, lt-leb}
@@ -14,12 +14,11 @@ use lib.Pow.{pow-pos, high}
 use Rattle.laws.specs.Refusal.{choose}
 use Rattle.bits.specs.Fields.{field, fieldBits}
 use Rattle.bits.specs.Ns.{Taken, ns, nsBits}
-use Rattle.bits.specs.Inner.{FieldIs}
 use Rattle.bits.proofs.Fields.{fieldBits-low}
-use Rattle.bits.proofs.Words.{zero-in-front}
+use Rattle.bits.proofs.Words.{field-behind}
 use Rattle.bits.specs.declared.BitCursor.{BitCursor}
 use Rattle.subexp.specs.declared.RungRead.{RungRead}
-use Rattle.subexp.specs.Inner.{Rung, rungCode, behind, ClimbIs, rungBits, rungStart, rungStep, reach, lastRung, climbs}
+use Rattle.subexp.specs.Inner.{Rung, rungCode, lastBits, stopBits, behind, ClimbIs, rungBits, rungStart, rungStep, reach, lastRung, climbs}
 use Rattle.subexp.specs.Ladder.{climb, climbBits, counted, subexp, subexpBits}
 use Rattle.subexp.proofs.Ladder.{bits-last, bits-stop, bits-more, climb-last, climb-more, climb-stop}
 use Rattle.subexp.proofs.Rungs.{next-start, step-pos, le-start, few-rungs}
@@ -31,6 +30,20 @@ ones (suc i) =
     let e : 2 ^ suc i - 1 ≡ 1 * 2 ^ i + (2 ^ i - 1) = omega (arith, pow-suc 2 i, pow-pos i) in
     let less : 2 ^ i - 1 < 2 ^ i = omega (arith, pow-pos i) in
     rw (e, high 1 i less, fieldBits-low 1 (2 ^ i - 1) i i (le-refl i), ones i)
+
+-- ones and the zero that ends them, as a field
+ones-stop : (i : ℕ) → fieldBits (i + 1) (2 * 2 ^ i - 2) ≡ replicate i 1 ++ 0 ∷ []
+ones-stop i =
+    let e : 2 * 2 ^ i - 2 ≡ (2 ^ i - 1) * 2 + 0 = omega (arith, pow-pos i) in
+    ap (fieldBits (i + 1)) e ∙ field-behind i (2 ^ i - 1) (record { n = 1; value = 0 }) (replicate i 1) (0 ∷ []) (ones i) (record { bits = refl; low = omega arith })
+
+-- what is written of a code, field by field, by what the code has computed of the rung
+module _ (v i p m : ℕ) (ep : p ≡ 2 ^ i) (em : m ≡ rungStart i) where
+  pub last-fields : (S : ℕ) → fieldBits i (p - 1) ++ nsBits (S - m) (v - m) ≡ lastBits S v i
+  last-fields S = rw (ep, em, ones i)
+
+  pub stop-fields : (b : ℕ) → b ≡ rungBits i → fieldBits (i + 1) (2 * p - 2) ++ fieldBits b (v - m) ≡ stopBits v i
+  stop-fields b eb = rw (ep, em, eb, ones-stop i) (append-assoc (replicate i 1) (0 ∷ []) (fieldBits (rungBits i) (v - rungStart i)))
 
 one-more : (i : ℕ) (xs : List ℕ) → replicate i 1 ++ 1 ∷ xs ≡ replicate (i + 1) 1 ++ xs
 one-more zero xs = refl
@@ -105,16 +118,12 @@ module _ (S v i m : ℕ) (em : m ≡ rungStart i) where
   stop-code b eb e = rw (e, em, eb)
 
 -- a number of the first rung, which isn't the last one
-pub first-code : (S v : ℕ) → v < 8 → 24 < S → S ≤ 65536 → FieldIs (record { n = 4; value = v }) (subexpBits S v)
+pub first-code : (S v : ℕ) → v < 8 → 24 < S → S ≤ 65536 → 0 ∷ fieldBits 3 v ≡ subexpBits S v
 first-code S v near more small =
     let e : lastRung S 0 ≡ false = lt-leb S 24 more in
     let stop : climbs S v 0 ≡ false = rw e (lt-leb 8 v near) in
     let r : Rung S v 0 = there S v 0 (omega arith) small stop (at-the-foot S v (omega arith)) in
-    let m : v % 2 ^ 3 ≡ v = mod-eq-of-lt near in
-    record {
-      bits = ap (fieldBits 4) (sym m) ∙ zero-in-front 3 v ∙ ap (λ (x : ℕ). 0 ∷ fieldBits 3 x) (let o : v ≡ v - 0 = omega arith in o) ∙ sym (stop-code S v 0 0 refl 3 refl e) ∙ sym (r .bits);
-      low = omega arith;
-    }
+    ap (λ (x : ℕ). 0 ∷ fieldBits 3 x) (let o : v ≡ v - 0 = omega arith in o) ∙ sym (stop-code S v 0 0 refl 3 refl e) ∙ sym (r .bits)
 
 -- the bits passed and those of what is left
 abbrev pub after : ℕ → Taken → Taken

@@ -39,6 +39,13 @@ climbs S v i = choose (lastRung S i) false (leb (rungStart i + rungStep i) v)
 abbrev pub rungCode : ℕ → ℕ → ℕ → List ℕ
 rungCode S v i = choose (lastRung S i) (nsBits (S - rungStart i) (v - rungStart i)) (0 ∷ fieldBits (rungBits i) (v - rungStart i))
 
+-- the code that ends on rung i, where that is the last and where it isn't
+abbrev pub lastBits : ℕ → ℕ → ℕ → List ℕ
+lastBits S v i = replicate i 1 ++ nsBits (S - rungStart i) (v - rungStart i)
+
+abbrev pub stopBits : ℕ → ℕ → List ℕ
+stopBits v i = replicate i 1 ++ 0 ∷ fieldBits (rungBits i) (v - rungStart i)
+
 -- the number read on rung i at position k, of a code that began at j
 abbrev pub behind : ℕ → ℕ → ℕ → Taken → Taken
 behind j i k t = record { value = rungStart i + t .value; bits = k - j + t .bits }

@@ -7,14 +7,12 @@ ghost use mathlib.Core.Path.{_≡_};
 ghost use Prim.Native.Nat.{_+_, _*_, _^_, _≤_, _<_};
 ghost use lib.ListN.{length};
 ghost use Rattle.bits.specs.Bits.{bitAt};
-ghost use Rattle.bits.specs.Inner.{Ready, Put, FieldIs, ReadIs};
+ghost use Rattle.bits.specs.Inner.{Room, Wrote, ReadIs};
 ghost use Rattle.subexp.specs.Recenter.{recenter, inverseRecenter, codeOf, symbolOf};
-ghost use Rattle.subexp.specs.Inner.{rungBits, rungStart, rungStep, lastRung, climbs, Rung, OnRung, rungCode, ClimbIs, LastIs};
+ghost use Rattle.subexp.specs.Inner.{rungBits, rungStart, rungStep, lastRung, Rung, OnRung, rungCode, lastBits, stopBits, ClimbIs, LastIs};
 ghost use Rattle.subexp.specs.Ladder.{subexp, subexpBits};
 ghost use Rattle.subexp.specs.Coefficient.{symbol, symbolBits};
 use bits::BitCursor;
-use bits::Field;
-use bits::Pen;
 use bits::Read;
 
 // k of clause 5.9.28: the bits that count the numbers of the first rung.
@@ -91,70 +89,56 @@ fn is_last(num_syms: u32, i: u32) -> bool
     num_syms <= rung_start(i) + 3 * rung_step(i)
 }
 
-fn climbs(num_syms: u32, v: u32, i: u32) -> bool
-    requires { ⌜ i ≤ 16 ⌝ }
-    ensures { λ r. ⌜ r ≡ climbs «num_syms» v i ⌝ }
-{
-    if is_last(num_syms, i) {
-        return false;
-    }
-    rung_start(i) + rung_step(i) <= v
-}
-
 // The rung on which the code of v ends.
 fn rung_of(num_syms: u32, v: u32) -> u32
     requires { ⌜ (v < «num_syms») × («num_syms» ≤ 65536) ⌝ }
     ensures { λ r. ⌜ Rung «num_syms» v r ⌝ }
 {
-    let mut i = 0u32;
-    while climbs(num_syms, v, i) {
-        i += 1;
+    let last = last_rung(num_syms);
+    if v < FIRST_RUNG {
+        return 0;
     }
-    i
+    let i = bits::bit_length(v) - 3;
+    if i < last {
+        return i;
+    }
+    last
 }
 
-// The code of v on rung i, as one field: on the last rung the ns code, on the others a subexp_more_bits
-// of 0 and subexp_bits.
-fn rung_field(num_syms: u32, v: u32, i: u32) -> Field
+// The code of v on the last rung: the ones of the rungs passed are one field, and the number is an ns code.
+fn write_last(cursor: BitCursor, buffer: &mut [u8], num_syms: u32, v: u32, i: u32) -> BitCursor
+    requires { ⌜ OnRung «num_syms» v i × Room (now buffer) (cursor .at) (length (lastBits «num_syms» v i)) ⌝ }
+    ensures { λ r. ⌜ Wrote (now (buffer .entry)) (cursor .at) (lastBits «num_syms» v i) (now (buffer .exit)) (r .at) ⌝ }
+{
+    let mk = rung_start(i);
+    let ones = bits::power(i) - 1;
+    let next = cursor.write_bits(buffer, i, ones);
+    next.write_ns(buffer, num_syms - mk, v - mk)
+}
+
+// On another rung: those ones and a subexp_more_bits of 0 are one field, and subexp_bits is one.
+fn write_stop(cursor: BitCursor, buffer: &mut [u8], v: u32, i: u32) -> BitCursor
+    requires { ⌜ (i ≤ 13) × (rungStart i ≤ v) × Room (now buffer) (cursor .at) (length (stopBits v i)) ⌝ }
+    ensures { λ r. ⌜ Wrote (now (buffer .entry)) (cursor .at) (stopBits v i) (now (buffer .exit)) (r .at) ⌝ }
+{
+    let mk = rung_start(i);
+    let b2 = rung_bits(i);
+    let ones = 2 * bits::power(i) - 2;
+    let next = cursor.write_bits(buffer, i + 1, ones);
+    next.write_bits(buffer, b2, v - mk)
+}
+
+// How many bits the code of v takes on rung i, behind the ones.
+fn rung_length(num_syms: u32, v: u32, i: u32) -> u32
     requires { ⌜ OnRung «num_syms» v i ⌝ }
-    ensures { λ r. ⌜ FieldIs r (rungCode «num_syms» v i) × (r .n ≤ 19) ⌝ }
+    ensures { λ r. ⌜ (r ≡ length (rungCode «num_syms» v i)) × (r ≤ 19) ⌝ }
 {
     let mk = rung_start(i);
     if is_last(num_syms, i) {
-        return bits::ns_field(num_syms - mk, v - mk);
+        let field = bits::ns_field(num_syms - mk, v - mk);
+        return field.n;
     }
-    let b2 = rung_bits(i);
-    Field {
-        n: 1 + b2,
-        value: (v - mk) % bits::power(b2),
-    }
-}
-
-// The code of v as one field: as many subexp_more_bits of 1 as rungs are passed, then the code on its rung.
-fn rungs_field(num_syms: u32, v: u32) -> Field
-    requires { ⌜ (v < «num_syms») × («num_syms» ≤ 65536) ⌝ }
-    ensures { λ r. ⌜ FieldIs r (subexpBits «num_syms» v) × (r .n ≤ 32) ⌝ }
-{
-    let i = rung_of(num_syms, v);
-    let code = rung_field(num_syms, v, i);
-    let ones = bits::power(i) - 1;
-    Field {
-        n: i + code.n,
-        value: ones * bits::power(code.n) + code.value,
-    }
-}
-
-// The same. A number of the first rung, of more symbols than end there, is a subexp_more_bits of 0 and three bits.
-fn subexp_field(num_syms: u32, v: u32) -> Field
-    requires { ⌜ (v < «num_syms») × («num_syms» ≤ 65536) ⌝ }
-    ensures { λ r. ⌜ FieldIs r (subexpBits «num_syms» v) × (r .n ≤ 32) ⌝ }
-{
-    if v < FIRST_RUNG {
-        if FIRST_REACH < num_syms {
-            return Field { n: 4, value: v };
-        }
-    }
-    rungs_field(num_syms, v)
+    1 + rung_bits(i)
 }
 
 // How many bits the code of v takes.
@@ -162,15 +146,26 @@ pub fn subexp_length(num_syms: u32, v: u32) -> u32
     requires { ⌜ (v < «num_syms») × («num_syms» ≤ 65536) ⌝ }
     ensures { λ r. ⌜ (r ≡ length (subexpBits «num_syms» v)) × (r ≤ 64) ⌝ }
 {
-    let field = subexp_field(num_syms, v);
-    field.n
+    let i = rung_of(num_syms, v);
+    i + rung_length(num_syms, v, i)
 }
 
-pub fn encode_subexp(pen: Pen, buffer: &mut [u8], num_syms: u32, v: u32) -> Pen
-    requires { ⌜ (v < «num_syms») × («num_syms» ≤ 65536) × Ready (now buffer) pen (length (subexpBits «num_syms» v)) ⌝ }
-    ensures { λ r. ⌜ Put (now (buffer .entry)) pen (subexpBits «num_syms» v) (now (buffer .exit)) r ⌝ }
+// A number of the first rung, of more symbols than end there, is a subexp_more_bits of 0 and three bits.
+pub fn encode_subexp(cursor: BitCursor, buffer: &mut [u8], num_syms: u32, v: u32) -> BitCursor
+    requires { ⌜ (v < «num_syms») × («num_syms» ≤ 65536) × Room (now buffer) (cursor .at) (length (subexpBits «num_syms» v)) ⌝ }
+    ensures { λ r. ⌜ Wrote (now (buffer .entry)) (cursor .at) (subexpBits «num_syms» v) (now (buffer .exit)) (r .at) ⌝ }
 {
-    pen.put(buffer, subexp_field(num_syms, v))
+    if v < FIRST_RUNG {
+        if FIRST_REACH < num_syms {
+            let next = cursor.write_bits(buffer, 1, 0);
+            return next.write_bits(buffer, SUBEXP_K, v);
+        }
+    }
+    let i = rung_of(num_syms, v);
+    if is_last(num_syms, i) {
+        return write_last(cursor, buffer, num_syms, v, i);
+    }
+    write_stop(cursor, buffer, v, i)
 }
 
 // The rung on which a code ends, whether that is the last one, and the cursor behind what was read
@@ -287,12 +282,18 @@ pub fn unsigned_subexp_length(mx: u32, r: u32, v: u32) -> u32
     subexp_length(mx, code_of(mx, r, v))
 }
 
-pub fn encode_unsigned_subexp_with_ref(pen: Pen, buffer: &mut [u8], mx: u32, r: u32, v: u32) -> Pen
-    requires { ⌜ (r < mx) × (v < mx) × (mx ≤ 65536) × Ready (now buffer) pen (length (symbolBits mx r v)) ⌝ }
-    ensures { λ next. ⌜ Put (now (buffer .entry)) pen (symbolBits mx r v) (now (buffer .exit)) next ⌝ }
+pub fn encode_unsigned_subexp_with_ref(
+    cursor: BitCursor,
+    buffer: &mut [u8],
+    mx: u32,
+    r: u32,
+    v: u32,
+) -> BitCursor
+    requires { ⌜ (r < mx) × (v < mx) × (mx ≤ 65536) × Room (now buffer) (cursor .at) (length (symbolBits mx r v)) ⌝ }
+    ensures { λ next. ⌜ Wrote (now (buffer .entry)) (cursor .at) (symbolBits mx r v) (now (buffer .exit)) (next .at) ⌝ }
 {
     let x = code_of(mx, r, v);
-    encode_subexp(pen, buffer, mx, x)
+    encode_subexp(cursor, buffer, mx, x)
 }
 
 pub fn decode_unsigned_subexp_with_ref(cursor: BitCursor, bytes: &[u8], mx: u32, r: u32) -> Read

@@ -9,7 +9,6 @@ use lent_trim::ToTrim;
 use libc::STDOUT_FILENO;
 use sample::MotionSample;
 use solve::Outcome;
-use solve::System;
 use trim::Trimmed;
 
 // The lists.
@@ -348,7 +347,12 @@ fn replay_samples(list: i32, flag: u8) -> bool {
     translation && rotzoom && affine
 }
 
-fn next_entries(list: i32) -> System {
+struct Entries {
+    a: [f64; 16],
+    b: [f64; 4],
+}
+
+fn next_entries(list: i32) -> Entries {
     let mut a = [0.0f64; 16];
     let mut i = 0usize;
     while i < 16 {
@@ -360,7 +364,7 @@ fn next_entries(list: i32) -> System {
     let b2 = replay::next_float(list);
     let b3 = replay::next_float(list);
     let b = [b0, b1, b2, b3];
-    System { a, b }
+    Entries { a, b }
 }
 
 fn refusal_of_outcome(outcome: Outcome) -> u32 {
@@ -372,14 +376,16 @@ fn refusal_of_outcome(outcome: Outcome) -> u32 {
 
 fn replay_system(list: i32) -> bool {
     let size = (replay::next_word(list) % 5) as usize;
-    let solution = solve::solve_linear(size, next_entries(list));
+    let entries = next_entries(list);
+    let mut a = entries.a;
+    let mut b = entries.b;
+    let mut x = [0.0f64; 4];
+    let outcome = solve::solve_linear(size, &mut a, &mut b, &mut x);
     let refusal = replay::next_word(list);
     let x0 = replay::next_bits(list);
     let x1 = replay::next_bits(list);
     let x2 = replay::next_bits(list);
     let x3 = replay::next_bits(list);
-    let x = solution.x;
-    let outcome = solution.outcome;
     refusal_of_outcome(outcome) == refusal
         && replay::same_float(x[0], x0)
         && replay::same_float(x[1], x1)

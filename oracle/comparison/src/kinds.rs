@@ -3,11 +3,12 @@
 use crate::inputs::{self, Scene, float, number, prior, sides, stored_model};
 use crate::random::Random;
 use belt::{
-    Buffers, ClassSet, Elected, Fitted, Frame, Kind as FrameKind, Lent, Model, MotionSample, Refusal, Report, Settings,
-    StoredModel, Task, Trimmed, TrimmedModel,
+    Buffers, ClassSet, Elected, Fitted, Frame, Kind as FrameKind, Lent, Model, MotionSample, Refusal, Report, Run,
+    RunReader, Settings, StoredModel, Task, Trimmed, TrimmedModel,
 };
 use oracle::blocks::{self, BLOCK, Form, ONE, TWO};
-use oracle::{Models, SINGULAR, TOO_FEW, practice};
+use oracle::run::NOT_HELD;
+use oracle::{Models, SINGULAR, TOO_FEW, practice, run};
 use std::fmt::{Debug, Write};
 
 /// An input that is being made, in words for the one that shows a difference.
@@ -30,7 +31,7 @@ pub struct Kind {
     pub compare: fn(&mut Case) -> Result<(), String>,
 }
 
-pub const KINDS: [Kind; 38] = [
+pub const KINDS: [Kind; 41] = [
     Kind { name: "search", share: 4, compare: search },
     Kind { name: "fit translation", share: 4, compare: |case| fit(case, 1) },
     Kind { name: "fit rotation-zoom", share: 4, compare: |case| fit(case, 2) },
@@ -54,6 +55,7 @@ pub const KINDS: [Kind; 38] = [
     Kind { name: "samples, trimmed fit", share: 8, compare: trimmed_fit_samples },
     Kind { name: "samples, trimmed model", share: 8, compare: trimmed_model_samples },
     Kind { name: "samples, election", share: 8, compare: election_samples },
+    Kind { name: "samples, the six calls by class", share: 10, compare: samples_by_class },
     Kind { name: "quantize_global_param", share: 8, compare: grid },
     Kind { name: "header written", share: 8, compare: header_written },
     Kind { name: "header read", share: 6, compare: header_read },
@@ -61,9 +63,11 @@ pub const KINDS: [Kind; 38] = [
     Kind { name: "key frame", share: 4, compare: key_frame },
     Kind { name: "price list", share: 1, compare: price_list },
     Kind { name: "price of a frame", share: 4, compare: frame_price },
-    Kind { name: "job", share: 6, compare: |case| job(case, 0, 0) },
-    Kind { name: "job that trims", share: 6, compare: |case| job(case, 1, 0) },
+    Kind { name: "job", share: 6, compare: |case| job(case, 0, 0, None) },
+    Kind { name: "job that trims", share: 6, compare: |case| job(case, 1, 0, None) },
     Kind { name: "job that elects", share: 6, compare: electing_job },
+    Kind { name: "job in a run", share: 6, compare: job_in_a_run },
+    Kind { name: "run of frames", share: 8, compare: run_of_frames },
     Kind { name: "blocks of form 2, by docs/RULES.md", share: 4, compare: stored_frame },
     Kind { name: "blocks of form 1, by docs/RULES.md", share: 4, compare: old_frame },
     Kind { name: "shear, by clause 7.11.3.6", share: 6, compare: shear },
@@ -304,21 +308,26 @@ fn classed(case: &mut Case, mut words: Vec<u32>) -> Classed {
         }
         *word |= random.below(4) as u32;
     }
+    spoil(random, &mut words, &mut classes, inputs::STILL);
+    case.note("set", set);
+    case.note("classes", &classes);
+    case.note("words", &words);
+    Classed { set, words, classes }
+}
+
+/// At times the list becomes too long, a class one that there isn't, or the classes too many or too few.
+fn spoil<T: Clone>(random: &mut Random, list: &mut Vec<T>, classes: &mut Vec<u8>, more: T) {
     if random.one_in(60) {
-        words.resize(inputs::MOST_SAMPLES + 1, inputs::STILL);
-        classes.resize(words.len(), 0);
+        list.resize(inputs::MOST_SAMPLES + 1, more);
+        classes.resize(list.len(), 0);
     }
     if random.one_in(30) && !classes.is_empty() {
         let place = random.below(classes.len());
         classes[place] = inputs::LAST_CLASS + 1 + random.below(251) as u8;
     }
     if random.one_in(30) {
-        classes.resize(random.below(words.len() + 3), 0);
+        classes.resize(random.below(list.len() + 3), 0);
     }
-    case.note("set", set);
-    case.note("classes", &classes);
-    case.note("words", &words);
-    Classed { set, words, classes }
 }
 
 /// Whether a set names one of the five classes.
@@ -332,6 +341,21 @@ fn named_samples(set: u8, words: &[u32], classes: &[u8]) -> Vec<[f64; 4]> {
     pairs.map(|(&word, _)| oracle::sample_of(word)).collect()
 }
 
+/// The row of the rules that a set, so many samples and their classes have, where the call's own codes are right or not.
+fn row_by_class(set: u8, samples: usize, classes: &[u8], codes_are_right: bool) -> Result<(), u32> {
+    if samples > inputs::MOST_SAMPLES {
+        return Err(TOO_LARGE);
+    }
+    if samples != classes.len() {
+        return Err(WRONG_LENGTH);
+    }
+    let no_such_class = classes.iter().any(|&class| class > inputs::LAST_CLASS);
+    if !codes_are_right || no_such_class || set > inputs::ALL_CLASSES {
+        return Err(NO_SUCH_CODE);
+    }
+    if set == 0 { Err(NO_CLASS) } else { Ok(()) }
+}
+
 impl Classed {
     fn set(&self) -> ClassSet {
         ClassSet::from_bits(self.set)
@@ -339,19 +363,7 @@ impl Classed {
 
     /// The samples that the Rust is handed, or the row of the rules before it, where the call's own codes are these.
     fn samples(&self, codes_are_right: bool) -> Result<Vec<[f64; 4]>, u32> {
-        if self.words.len() > inputs::MOST_SAMPLES {
-            return Err(TOO_LARGE);
-        }
-        if self.words.len() != self.classes.len() {
-            return Err(WRONG_LENGTH);
-        }
-        let no_such_class = self.classes.iter().any(|&class| class > inputs::LAST_CLASS);
-        if !codes_are_right || no_such_class || self.set > inputs::ALL_CLASSES {
-            return Err(NO_SUCH_CODE);
-        }
-        if self.set == 0 {
-            return Err(NO_CLASS);
-        }
+        row_by_class(self.set, self.words.len(), &self.classes, codes_are_right)?;
         Ok(named_samples(self.set, &self.words, &self.classes))
     }
 }
@@ -524,6 +536,49 @@ fn trimmed_model_samples(case: &mut Case) -> Result<(), String> {
     case.note("samples", &samples);
     let ours = row(belt::quantize_trimmed_samples(kind, flag, &lent(&samples)));
     same_trimmed_model(case, ours, oracle::trimmed_or_row(kind, flag == 1, &samples))
+}
+
+/// All six calls by a set over one list of samples; some that the set doesn't name become any others.
+fn samples_by_class(case: &mut Case) -> Result<(), String> {
+    let mut samples = inputs::samples_to_elect(&mut case.random);
+    let random = &mut case.random;
+    let bits_named = inputs::any_class_set(random);
+    let mut classes = inputs::classes(random, samples.len());
+    for (sample, &class) in samples.iter_mut().zip(&classes) {
+        if !named(bits_named, class) && random.one_in(2) {
+            *sample = std::array::from_fn(|_| float(random));
+        }
+    }
+    spoil(random, &mut samples, &mut classes, [0.5; 4]);
+    case.note("set", bits_named);
+    case.note("classes", &classes);
+    case.note("samples", &samples);
+    let (kind, flag, right) = codes(case);
+    let params = to_score(case);
+    let pairs = samples.iter().zip(&classes).filter(|&(_, &class)| named(bits_named, class));
+    let own: Vec<[f64; 4]> = pairs.map(|(&sample, _)| sample).collect();
+    let numbers =
+        oracle::fit(kind.clamp(1, 3), &own).unwrap_or_else(|| std::array::from_fn(|_| float(&mut case.random)));
+    case.note("numbers", numbers);
+
+    let (set, list) = (ClassSet::from_bits(bits_named), lent(&samples));
+    let theirs = |right| row_by_class(bits_named, samples.len(), &classes, right);
+    let a_type = (1..=3).contains(&kind);
+    let ours = row(belt::fit_samples_by_class(set, kind, &list, &classes));
+    let rust = theirs(a_type).and_then(|()| oracle::fit(kind, &own).ok_or(SINGULAR));
+    let ours = ours.map(|fitted| (fitted.gm_type, fitted.numbers.map(bits)));
+    same("bits of the numbers", ours, rust.map(|numbers| (kind, carried(kind, numbers))))?;
+    let ours = row(belt::quantize_samples_by_class(set, &Fitted { gm_type: kind, numbers }, flag, &list, &classes));
+    same("model", ours, theirs(right).map(|()| rust_quantized(kind, flag, numbers, &own)))?;
+    let ours = row(belt::score_samples_by_class(set, &Model(params), &list, &classes)).map(bits);
+    same("bits of the score", ours, theirs(true).map(|()| bits(oracle::score(&params, &own))))?;
+    let ours = row(belt::fit_trimmed_samples_by_class(set, kind, &list, &classes));
+    same_trimmed(case, ours, kind, theirs(a_type).and_then(|()| oracle::trimmed_or_row(kind, false, &own)))?;
+    let ours = row(belt::quantize_trimmed_samples_by_class(set, kind, flag, &list, &classes));
+    same_trimmed_model(case, ours, theirs(right).and_then(|()| oracle::trimmed_or_row(kind, flag == 1, &own)))?;
+    let ours = row(belt::elect_samples_by_class(set, flag, &list, &classes));
+    case.accepted = ours.is_ok();
+    same("type, model, bits of the score", ours.map(elected), theirs(flag < 2).and_then(|()| rust_elected(flag, &own)))
 }
 
 fn score(case: &mut Case) -> Result<(), String> {
@@ -778,14 +833,23 @@ fn own_of_the_rust(settings: Settings, samples: &[[f64; 4]]) -> Result<(u8, [i32
     Ok((gm_type, Model(model).row_first(gm_type).0, oracle::score(&model, samples)))
 }
 
-/// The composition of the Rust's answers: what a job reports and leaves.
-fn job_of_the_rust(pair: &Pair, settings: Settings, header: &Header, left: &mut Buffers) -> Result<Report, u32> {
+/// The composition of the Rust's answers: what a job reports and leaves, its blocks in a form.
+fn job_of_the_rust(
+    pair: &Pair,
+    settings: Settings,
+    header: &Header,
+    form: Form,
+    left: &mut Buffers,
+) -> Result<Report, u32> {
     let Settings { frame, gm_type, reference, flag, trim, elect, set, start } = settings;
     if set.bits() > inputs::ALL_CLASSES {
         return Err(NO_SUCH_CODE);
     }
     if set.bits() == 0 {
         return Err(NO_CLASS);
+    }
+    if pair.classes.iter().any(|&class| class > form.last_class) {
+        return Err(NOT_HELD);
     }
     let trims = trim == 1 && elect == 0;
     let named = pair.classes.iter().filter(|&&class| named(set.bits(), class)).count();
@@ -804,7 +868,7 @@ fn job_of_the_rust(pair: &Pair, settings: Settings, header: &Header, left: &mut 
     let (mut bytes, bits) = full.written(start);
     keep_before(start, &mut bytes, &left.header);
     left.header[..bytes.len()].copy_from_slice(&bytes);
-    let stored = blocks::write(TWO, frame, &blocks::classed(&words, &pair.classes));
+    let stored = blocks::write(form, frame, &blocks::classed(&words, &pair.classes));
     left.blocks[..stored.len()].copy_from_slice(&stored);
     Ok(Report { types: full.types, models: full.params.map(StoredModel), score, bits, samples: words.len() })
 }
@@ -812,18 +876,31 @@ fn job_of_the_rust(pair: &Pair, settings: Settings, header: &Header, left: &mut 
 /// A type and a trim code of any number go in with an election, which looks at neither.
 fn electing_job(case: &mut Case) -> Result<(), String> {
     let trim = case.random.bits() as u8;
-    job(case, trim, 1)
+    job(case, trim, 1, None)
 }
 
-fn job(case: &mut Case, trim: u8, elect: u8) -> Result<(), String> {
-    let pair = pair(case);
+/// A job in a run of either form, with the prior and the flag of its header; mostly without film in form 1.
+fn job_in_a_run(case: &mut Case) -> Result<(), String> {
+    let form = case.random.pick(&[ONE, TWO]);
+    let (trim, elect) = (case.random.below(2) as u8, case.random.below(2) as u8);
+    case.note("form", form.number);
+    job(case, trim, elect, Some(form))
+}
+
+/// A job outside, or in a run that holds a form.
+fn job(case: &mut Case, trim: u8, elect: u8, held: Option<Form>) -> Result<(), String> {
+    let mut pair = pair(case);
     let header = header(case);
     let random = &mut case.random;
+    if held == Some(ONE) && !random.one_in(8) {
+        pair.classes.iter_mut().for_each(|class| *class = (*class).min(ONE.last_class));
+    }
     let settings = Settings {
         frame: frame_number(random),
         gm_type: if elect == 1 { random.bits() as u8 } else { 1 + random.below(3) as u8 },
         reference: 1 + random.below(7) as u8,
-        flag: header.flag,
+        // in a run the settings' own isn't looked at
+        flag: if held.is_some() { random.bits() as u8 } else { header.flag },
         trim,
         elect,
         set: if random.one_in(2) { ClassSet::ALL } else { ClassSet::from_bits(inputs::any_class_set(random)) },
@@ -836,6 +913,7 @@ fn job(case: &mut Case, trim: u8, elect: u8) -> Result<(), String> {
     let others = |i: &usize| *i != place;
     let types: Vec<u8> = (0..7).filter(others).map(|i| header.types[i]).collect();
     let models: Vec<StoredModel> = (0..7).filter(others).map(|i| StoredModel(header.params[i])).collect();
+    let prior = header.prior.map(StoredModel);
     let task = Task {
         input: &pair.input,
         reference: &pair.reference,
@@ -845,18 +923,188 @@ fn job(case: &mut Case, trim: u8, elect: u8) -> Result<(), String> {
         classes: &pair.classes,
         types: &types,
         models: &models,
-        prior: &header.prior.map(StoredModel),
+        prior: &prior,
     };
-    let report = row(belt::job(&task, &mut ours.lend()));
+    let mut after = prior;
+    let report = row(match held {
+        None => belt::job(&task, &mut ours.lend()),
+        Some(form) => {
+            let mut run = Run::of_parts(prior, header.flag, u32::from(form.number));
+            let report = run.job(&Task { prior: &[], ..task }, &mut ours.lend());
+            after = *run.prior();
+            same("flag and form of the run", (run.flag(), run.form()), (header.flag, u32::from(form.number)))?;
+            report
+        }
+    });
     case.accepted = report.is_ok();
     let parts = |report: Report| (report.types, report.models, bits(report.score), report.bits, report.samples);
-    let rust = job_of_the_rust(&pair, settings, &header, &mut theirs);
+    let rust_settings = Settings { flag: header.flag, ..settings };
+    let rust = job_of_the_rust(&pair, rust_settings, &header, held.unwrap_or(TWO), &mut theirs);
+    let moved = rust.as_ref().map_or(prior, |report| report.models);
+    same("prior of the run", after, if held.is_some() { moved } else { prior })?;
     same("types, models, bits of the score, header bits, samples", report.map(parts), rust.map(parts))?;
     same_list("half plane of the input", &ours.input_half, &theirs.input_half)?;
     same_list("half plane of the reference", &ours.ref_half, &theirs.ref_half)?;
     same_list("words", &ours.words, &theirs.words)?;
     same_list("blocks", &ours.blocks, &theirs.blocks)?;
     same_list("header", &ours.header, &theirs.header)
+}
+
+/// A run begun or handed in, good or bad, and random events; beside it the same by the Rust's header writer and reader,
+/// with the prior carried by hand, and a reader that is handed what was accepted.
+fn run_of_frames(case: &mut Case) -> Result<(), String> {
+    let (mut ours, mut reader, mut theirs) = match begun(case)? {
+        Some(run) => run,
+        None => return Ok(()),
+    };
+    let mut last = ([0; 7], [oracle::IDENTITY; 7]);
+    for event in 0..1 + case.random.below(12) {
+        case.note("event", event);
+        match case.random.below(8) {
+            0 | 1 => switch(case, &mut ours, &mut reader, &mut theirs)?,
+            2 => store(case, &ours, &theirs)?,
+            3 => read_beside(case, &reader, theirs)?,
+            _ => frame(case, &mut ours, &mut reader, &mut theirs, &mut last)?,
+        }
+        let parts = (ours.prior().map(|model| model.0), ours.flag(), ours.form());
+        same("the run", parts, (theirs.prior, theirs.flag, theirs.form))?;
+        let reads = (reader.prior().map(|model| model.0), reader.flag(), reader.form());
+        same("the reader", reads, parts)?;
+    }
+    Ok(())
+}
+
+/// The run, its reader and the one carried by hand; none where its start is refused.
+fn begun(case: &mut Case) -> Result<Option<(Run, RunReader, run::Run)>, String> {
+    let random = &mut case.random;
+    let mut flag = random.below(2) as u8;
+    let mut form = 1 + random.below(2) as u32;
+    if random.one_in(16) {
+        flag = random.pick(&[2, 255]);
+    }
+    if random.one_in(16) {
+        form = random.pick(&[0, 3, u32::MAX]);
+    }
+    let handed = random.one_in(4);
+    case.note("flag, form", (flag, form));
+    if !handed {
+        let theirs = run::Run::start(flag, form);
+        let ours = row(Run::start(flag, form));
+        case.accepted = ours.is_ok();
+        same("start", ours.map(|run| run.prior().map(|model| model.0)), theirs.map(|run| run.prior))?;
+        let reader = row(RunReader::start(flag, form));
+        return Ok(ours.ok().zip(reader.ok()).zip(theirs.ok()).map(|((run, reader), theirs)| (run, reader, theirs)));
+    }
+    let mut prior = std::array::from_fn(|_| inputs::prior(&mut case.random, &oracle::IDENTITY));
+    if case.random.one_in(4) {
+        let (reference, slot) = (case.random.below(7), case.random.below(6));
+        prior[reference][slot] = number(&mut case.random);
+    }
+    case.note("prior", prior);
+    let models = prior.map(StoredModel);
+    let runs = (Run::of_parts(models, flag, form), RunReader::of_parts(models, flag, form));
+    Ok(Some((runs.0, runs.1, run::Run { prior, flag, form })))
+}
+
+fn switch(case: &mut Case, ours: &mut Run, reader: &mut RunReader, theirs: &mut run::Run) -> Result<(), String> {
+    let code = case.random.pick(&[0, 1, 0, 1, 2, 3, 255]);
+    case.note("switch", code);
+    let switched = row(ours.switch(code));
+    same("switch", switched, theirs.switch(code))?;
+    if switched.is_ok() {
+        same("switch of the reader", row(reader.switch(code)), Ok(()))?;
+    }
+    Ok(())
+}
+
+/// Models on the grid of the flag, those of the frame before, or identities, at times with a fault.
+fn frame(
+    case: &mut Case,
+    ours: &mut Run,
+    reader: &mut RunReader,
+    theirs: &mut run::Run,
+    last: &mut ([u8; 7], Models),
+) -> Result<(), String> {
+    let random = &mut case.random;
+    let kind = if random.one_in(5) { FrameKind::Key } else { FrameKind::Inter };
+    let key = kind == FrameKind::Key;
+    let (types, models) = match (key && !random.one_in(8), random.below(6)) {
+        (true, _) | (_, 0) => ([0; 7], [oracle::IDENTITY; 7]),
+        (_, 1) => *last,
+        _ => {
+            let types: [u8; 7] = std::array::from_fn(|_| random.below(4) as u8);
+            (types, types.map(|kind| stored_model(random, kind, theirs.flag == 1)))
+        }
+    };
+    let (mut types, mut models) = (types.to_vec(), models.to_vec());
+    let mut start = start(random);
+    let mut room = belt::HEADER_BYTES + random.below(8);
+    match random.below(30) {
+        0 => types.truncate(random.below(7)),
+        1 => models.truncate(random.below(7)),
+        2 => types[random.below(7)] = random.bits() as u8,
+        3 => start = random.pick(&[8, 9, usize::MAX]),
+        4 => models[random.below(7)][random.below(6)] = number(random),
+        5..=7 => room = random.below(40),
+        _ => *last = (std::array::from_fn(|i| types[i]), std::array::from_fn(|i| models[i])),
+    }
+    let before = random.bytes(room);
+    case.note("kind, start, room", (kind, start, room));
+    case.note("types, models", (&types, &models));
+    let (mut after, mut left) = (before.clone(), before);
+    let stored: Vec<StoredModel> = models.iter().map(|&model| StoredModel(model)).collect();
+    let written = row(ours.frame(kind, &types, &stored, start, &mut after));
+    same("bits", written, theirs.frame(key, &types, &models.concat(), start, &mut left))?;
+    same_list("bytes", &after, &left)?;
+    if let Ok(bits) = written {
+        let read = row(reader.read(kind, &after, start));
+        let read = read.map(|read| (read.types.to_vec(), read.models.to_vec(), read.bits));
+        same("models recovered", read, Ok((types, stored, bits)))?;
+    }
+    Ok(())
+}
+
+/// Any bytes by a reader that goes no further.
+fn read_beside(case: &mut Case, reader: &RunReader, mut theirs: run::Run) -> Result<(), String> {
+    let random = &mut case.random;
+    let kind = if random.one_in(3) { FrameKind::Key } else { FrameKind::Inter };
+    let length = random.pick(&[0, 1, 9, 40, 140]);
+    let (bytes, at) = (random.bytes(length), random.below(20));
+    case.note("read", (kind, &bytes, at));
+    let mut beside = *reader;
+    let read = row(beside.read(kind, &bytes, at));
+    let read = read.map(|read| (read.types, read.models.map(|model| model.0), read.bits));
+    same("types, models and bits", read, theirs.read(kind == FrameKind::Key, &bytes, at))?;
+    same("prior of the reader", beside.prior().map(|model| model.0), theirs.prior)
+}
+
+fn store(case: &mut Case, ours: &Run, theirs: &run::Run) -> Result<(), String> {
+    let random = &mut case.random;
+    let mut words = inputs::rising_words(random);
+    let mut classes = classes_of(random, words.len());
+    let number = frame_number(random);
+    if random.one_in(8) && !words.is_empty() {
+        let place = random.below(words.len());
+        match random.below(4) {
+            0 => words[place] |= 1 + random.below(3) as u32,
+            1 => words[place] = random.bits() as u32,
+            2 => classes[place] = random.bits() as u8,
+            _ => classes.truncate(place),
+        }
+    }
+    let needed = BLOCK * theirs.form_held().blocks_of(words.len());
+    let room = if random.one_in(8) { random.below(needed + 1) } else { needed + random.below(700) };
+    let before = random.bytes(room);
+    case.note("store: frame, room", (number, room));
+    case.note("words", &words);
+    case.note("classes", &classes);
+    let (mut after, mut left) = (before.clone(), before);
+    same(
+        "blocks stored",
+        row(ours.store(number, &words, &classes, &mut after)),
+        theirs.store(number, &words, &classes, &mut left),
+    )?;
+    same_list("bytes stored", &after, &left)
 }
 
 /// A class for each word, at times none of film, so that form 1 can hold them.

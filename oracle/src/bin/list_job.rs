@@ -11,8 +11,8 @@
 //! sum of each, how many words, and the words.
 
 use oracle::blocks::{self, TWO};
-use oracle::list::{Lcg, List};
-use oracle::{Elected, IDENTITY, Models};
+use oracle::list::{self, Lcg, List};
+use oracle::{Elected, IDENTITY, Models, TOO_FEW};
 use std::{env, io};
 
 const SEED: u32 = 7;
@@ -23,10 +23,6 @@ const HALF_PELS: usize = 9250;
 const WORDS: usize = 150;
 const BLOCK_BYTES: usize = 1100;
 const HEADER_BYTES: usize = 140;
-
-/// Refusals of a job that the composition meets.
-const SINGULAR: u32 = 6;
-const TOO_FEW: u32 = 15;
 
 /// Classes 0 to 4; class c is bit c.
 const ALL: u8 = 0b11111;
@@ -69,22 +65,12 @@ impl Picture {
         if self.kind == 2 { (first, mapped) } else { (mapped, first) }
     }
 
-    /// Smooth, and nowhere the same along a line: every block's place can be found.
     fn bowl(&self) -> Vec<u16> {
-        self.pels(|r, c| (r, c))
+        list::bowl(self.width, self.height, |r, c| (r, c))
     }
 
     fn seen(&self) -> Vec<u16> {
-        self.pels(self.place)
-    }
-
-    fn pels(&self, place: impl Fn(i32, i32) -> (i32, i32)) -> Vec<u16> {
-        let pel = |i: usize| {
-            let (r, c) = place((i / self.width) as i32, (i % self.width) as i32);
-            let (r, c) = (r.clamp(0, self.height as i32 - 1), c.clamp(0, self.width as i32 - 1));
-            ((r - 31).pow(2) + 2 * (c - 29).pow(2)) as u16
-        };
-        (0..self.width * self.height).map(pel).collect()
+        list::bowl(self.width, self.height, self.place)
     }
 }
 
@@ -147,7 +133,7 @@ impl Case {
         let reference = 1 + lcg.below(7) as u8;
         let high = lcg.below(2) == 1;
         let start = usize::from(lcg.below(8));
-        let (types, params) = models(high, lcg);
+        let (types, params) = lcg.models(high);
         let others = (0..7).filter(|&i| i != usize::from(reference) - 1);
         Self {
             frame,
@@ -156,7 +142,7 @@ impl Case {
             start,
             types: others.clone().map(|i| types[i]).collect(),
             params: others.flat_map(|i| params[i]).collect(),
-            prior: prior(lcg).concat(),
+            prior: lcg.prior().concat(),
             ..Self::plain(picture, kind, trim)
         }
     }
@@ -413,7 +399,7 @@ fn answered(case: &Case) -> (Vec<u32>, Result<Elected, u32>) {
     if trims && samples.len() < oracle::least_samples(case.kind) {
         return (Vec::new(), Err(TOO_FEW));
     }
-    (words, own_model(case.kind, high, trims, &samples))
+    (words, oracle::own_model(case.kind, high, trims, &samples))
 }
 
 /// The report of an accepted job, its blocks and its header.
@@ -437,71 +423,7 @@ fn push_done(list: &mut List, case: &Case, words: &[u32], own: Elected) {
     list.push(bits as u32);
     let blocks = blocks::write(TWO, case.frame, &blocks::classed(words, &case.classes));
     list.push((blocks.len() / 4) as u32);
-    push_bytes(list, &blocks);
+    list.push_bytes(&blocks);
     list.push(header.len() as u32);
-    push_bytes(list, &header);
-}
-
-/// The fit of a job that doesn't elect, on the grid and as stored, after trimming or of all samples.
-fn own_model(kind: u8, high: bool, trims: bool, samples: &[[f64; 4]]) -> Result<Elected, u32> {
-    let model = match trims {
-        true => oracle::trimmed(kind, high, samples).map(|trimmed| trimmed.params),
-        false => oracle::fit(kind, samples).map(|fitted| oracle::quantize_model(&fitted, kind, high, samples)),
-    };
-    let mut params = model.ok_or(SINGULAR)?;
-    let score = oracle::score(&params, samples);
-    if kind == 1 {
-        params.swap(0, 1);
-    }
-    Ok(Elected { kind, params, score })
-}
-
-/// Bytes as words, zeros up to a whole one.
-fn push_bytes(list: &mut List, bytes: &[u8]) {
-    for part in bytes.chunks(4) {
-        let mut word = [0; 4];
-        word[..part.len()].copy_from_slice(part);
-        list.push(u32::from_be_bytes(word));
-    }
-}
-
-/// Seven models on the grid, of types drawn at random; the fitted one replaces one of them.
-fn models(high: bool, lcg: &mut Lcg) -> ([u8; 7], Models) {
-    let types = std::array::from_fn(|_| lcg.below(4) as u8);
-    let params = std::array::from_fn(|i| {
-        let mut model = IDENTITY;
-        let slots: &[usize] = match types[i] {
-            0 => &[],
-            1 => &[0, 1],
-            2 => &[0, 1, 2, 3],
-            _ => &[0, 1, 2, 3, 4, 5],
-        };
-        for &slot in slots {
-            let reach = if slot < 2 { 4_300_000 } else { 8_400 };
-            let value = IDENTITY[slot] + lcg.word() as i32 % reach;
-            model[slot] = oracle::quantize_global_param(types[i], high, slot, value);
-        }
-        if types[i] == 2 {
-            model[4] = -model[3];
-            model[5] = model[2];
-        }
-        model
-    });
-    (types, params)
-}
-
-/// A prior anywhere in range, its ends now and then.
-fn prior(lcg: &mut Lcg) -> Models {
-    std::array::from_fn(|_| {
-        std::array::from_fn(|slot| {
-            let reach: i32 = if slot < 2 { 4_194_304 } else { 8_192 };
-            let offset = match lcg.below(8) {
-                0 => reach,
-                1 => -reach,
-                2 => 0,
-                _ => lcg.word() as i32 % (reach + 1),
-            };
-            IDENTITY[slot] + offset
-        })
-    })
+    list.push_bytes(&header);
 }

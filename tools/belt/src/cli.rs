@@ -1,6 +1,7 @@
 //! The words of a command line, what the help says of each, and the manual page.
 
 use crate::failure::Failure;
+use crate::frames::Part;
 use crate::output;
 use clap::{Args, CommandFactory, Parser, Subcommand, ValueEnum};
 use clap_complete::Shell;
@@ -13,7 +14,8 @@ const STATUS: &str = "Exit status:
   0  It is done. A warning doesn't change that.
   1  The library refuses; its number and its text are on standard error. No file is written.
   2  A file or a word is bad, or can't be read or written, or memory ran out; standard error has one line that says \
-what and where. No file is written, not even a part of one.";
+what and where. No file is written, not even a part of one.
+  3  With 'belt track --strict': all is done and written, but a pair is warned of, unexplained or bad.";
 
 /// The motion core from a command line
 ///
@@ -41,7 +43,7 @@ pub enum Command {
     /// Finds the motion of each 16×16 block, and says where the load went from the first picture to the second: shift in
     /// pels, zoom, angle, and how many blocks agree of those that can tell their motion. What was measured is the motion
     /// that most of them share, whatever the light does; what is stored is the header's model, on its grid, as the library
-    /// elects it on the pictures as they are. The status is measured, still, unexplained (no motion is to be trusted; the
+    /// elects it among the same blocks. The status is measured, still, unexplained (no motion is to be trusted; the
     /// warnings say why, and what to do), flat or no-blocks; only what is measured or still has numbers.
     ///
     /// How it was found is elected, robust (by the blocks that can tell), half-size (at half the size) or shifted (the
@@ -55,6 +57,41 @@ pub enum Command {
   belt measure frames/ --json
   belt measure clip.y4m#0 clip.y4m#1 --type affine --crop 0,0,1024,512")]
     Measure(Measure),
+    /// How the load moved through a clip, from each frame to the next
+    ///
+    /// Measures each frame of a clip against the next, as 'belt measure' does, and says a line for each pair: where the load
+    /// went, with its speed where rate or scale are known. At the end: pairs by their status, the speed in the median and
+    /// from 5 to 95 %, the path, and the pair that is worst. A frame that is cut or damaged makes its pairs bad, with the
+    /// reason, and the clip goes on; a load that stood still has the speed 0.
+    ///
+    /// The clip is a Y4M file, or a pipe (-), a folder of pictures by name, or pictures one by one; each frame is read once.
+    /// Frames are counted from 0 over all of it. Time is that of a pair's second frame. The table has a column for each
+    /// name that the JSON has; a speed's direction is 0 degrees to the right and 90 down.
+    #[command(after_long_help = "Examples:
+  ffmpeg -i clip.mp4 -pix_fmt gray -f yuv4mpegpipe - | belt track - --csv out.csv --plot out.svg --mm-per-pel 0.4
+  belt track frames/ --fps 50 --crop 0,120,640,240 --json
+  belt track clip.y4m --from 100 --to 200 --strict --quiet
+  belt track clip.y4m --blocks clip.blocks --headers clip.headers --key 250")]
+    Track(Track),
+    /// A recording of 'belt track', read back
+    ///
+    /// Reads the file of headers that 'belt track --headers' wrote, and with --blocks the samples too, and says for each
+    /// frame what was stored: key frame or pair, the pair's frames in the clip, its status, the model, the bits. Each
+    /// model is written again and must give the same header, each frame's samples the same blocks. The first that
+    /// is damaged, cut or doesn't belong to the other file is named with its byte, and ends it.
+    #[command(after_long_help = "Examples:
+  belt replay clip.headers --blocks clip.blocks
+  belt replay clip.headers --json")]
+    Replay {
+        /// The headers; - is standard input
+        headers: PathBuf,
+        /// The sample blocks of the same recording; - is standard input
+        #[arg(long, value_name = "FILE")]
+        blocks: Option<PathBuf>,
+        /// One JSON object in one line for each record, for programs
+        #[arg(long)]
+        json: bool,
+    },
     /// A short clip of a belt, drawn, measured and told
     ///
     /// Draws a belt that pans and creeps, with a piece that rolls on its own and film that flutters, measures each pair of
@@ -177,6 +214,85 @@ pub struct Header {
     pub prior: Option<PathBuf>,
 }
 
+/// What is seen of the pictures, and how closely.
+#[derive(Args, Debug)]
+pub struct Seen {
+    /// Measure only this part of the pictures, in pels: W wide and H high, from column X and row Y on
+    #[arg(long, value_name = "X,Y,W,H", value_parser = numbers::<usize, 4, ','>, allow_hyphen_values = true)]
+    pub crop: Option<[usize; 4]>,
+    /// Measure the pictures at half their sides, or halved N times; the motion is said in pels of the original, blocks and
+    /// header are of the halved pictures
+    #[arg(long, value_name = "N", num_args = 0..=1, require_equals = true, default_missing_value = "1",
+          value_parser = clap::value_parser!(u32).range(1..=6))]
+    pub halve: Option<u32>,
+    /// A picture of the same sides: blocks with a pel of it that isn't black are left out of what is measured
+    #[arg(long, value_name = "FILE")]
+    pub mask: Option<PathBuf>,
+    /// One search, neither the way back nor coarser pictures: faster, and more is unexplained
+    #[arg(long)]
+    pub fast: bool,
+}
+
+impl Seen {
+    /// The part that is measured.
+    pub fn part(&self) -> Part {
+        Part { window: self.crop, halvings: self.halve.unwrap_or(0) }
+    }
+}
+
+#[derive(Args, Debug)]
+pub struct Track {
+    /// A Y4M clip, pictures, or folders of them; - is standard input
+    #[arg(required = true, value_name = "CLIP")]
+    pub places: Vec<PathBuf>,
+    #[command(flatten)]
+    pub seen: Seen,
+    /// The first frame that is taken, counted from 0
+    #[arg(long, value_name = "N", default_value_t = 0)]
+    pub from: u64,
+    /// The last frame that is taken; all if it isn't given
+    #[arg(long, value_name = "N")]
+    pub to: Option<u64>,
+    /// Take one frame of N: of a load that creeps, frames further apart
+    #[arg(long, value_name = "N", default_value_t = 1, value_parser = clap::value_parser!(u64).range(1..))]
+    pub every: u64,
+    /// The frames a second; if it isn't given, what the clip says
+    #[arg(long, value_name = "RATE", value_parser = above_0)]
+    pub fps: Option<f64>,
+    /// The millimetres of the belt that a pel shows: speeds and lengths are then in millimetres
+    #[arg(long, value_name = "MM", value_parser = above_0)]
+    pub mm_per_pel: Option<f64>,
+    /// How many pairs are measured at once; as many as there are processors if it isn't given
+    #[arg(long, value_name = "N", value_parser = clap::value_parser!(u16).range(1..=256))]
+    pub threads: Option<u16>,
+    /// A table with a row for each pair
+    #[arg(long, value_name = "FILE")]
+    pub csv: Option<PathBuf>,
+    /// A plot of speed and path over time, as SVG
+    #[arg(long, value_name = "FILE")]
+    pub plot: Option<PathBuf>,
+    /// Store the samples of each pair as blocks of 512 bytes; their frame numbers go from 1 to 65535 and begin again
+    #[arg(long, value_name = "FILE")]
+    pub blocks: Option<PathBuf>,
+    /// Store the elected model of each pair as a header of a run of frames, which takes its prior from the pair before; a
+    /// bad pair is stored as such. 'belt replay' reads it
+    #[arg(long, value_name = "FILE")]
+    pub headers: Option<PathBuf>,
+    /// A key frame ahead of every N pairs sets the prior back, so that headers can be read from there on; 0: ahead of the
+    /// first pair alone
+    #[arg(long, value_name = "N", default_value_t = 0, requires = "headers")]
+    pub key: u64,
+    /// One JSON object in one line for each pair, for programs, in the place of words
+    #[arg(long)]
+    pub json: bool,
+    /// No line for each pair and no progress, but the summary
+    #[arg(long)]
+    pub quiet: bool,
+    /// End with status 3 where a pair is warned of, unexplained or bad
+    #[arg(long)]
+    pub strict: bool,
+}
+
 #[derive(Args, Debug)]
 pub struct Measure {
     /// Pictures, or folders of them
@@ -192,20 +308,8 @@ pub struct Measure {
     /// fitted so
     #[arg(long)]
     pub trim: bool,
-    /// Measure only this part of the pictures, in pels: W wide and H high, from column X and row Y on
-    #[arg(long, value_name = "X,Y,W,H", value_parser = numbers::<usize, 4, ','>, allow_hyphen_values = true)]
-    pub crop: Option<[usize; 4]>,
-    /// Measure the pictures at half their sides, or halved N times; the motion is said in pels of the original, blocks and
-    /// header are of the halved pictures
-    #[arg(long, value_name = "N", num_args = 0..=1, require_equals = true, default_missing_value = "1",
-          value_parser = clap::value_parser!(u32).range(1..=6))]
-    pub halve: Option<u32>,
-    /// A picture of the same sides: blocks with a pel of it that isn't black are left out of what is measured
-    #[arg(long, value_name = "FILE")]
-    pub mask: Option<PathBuf>,
-    /// One search, neither the way back nor coarser pictures: faster, and more is unexplained
-    #[arg(long)]
-    pub fast: bool,
+    #[command(flatten)]
+    pub seen: Seen,
     /// A block agrees with the model of --type within this distance, in pels of what is measured
     #[arg(long, value_name = "PELS", default_value_t = 0.25, value_parser = distance, requires = "gm_type")]
     pub within: f64,
@@ -267,6 +371,11 @@ fn numbers<T: FromStr, const N: usize, const BETWEEN: char>(text: &str) -> Resul
     let parts: Option<Vec<T>> = text.split(BETWEEN).map(|part| part.trim().parse().ok()).collect();
     let what = || format!("it isn't {N} whole numbers with '{BETWEEN}' between them");
     parts.and_then(|parts| <[T; N]>::try_from(parts).ok()).ok_or_else(what)
+}
+
+fn above_0(text: &str) -> Result<f64, String> {
+    let number = text.parse().ok().filter(|number: &f64| *number > 0.0 && number.is_finite());
+    number.ok_or_else(|| "it isn't a number above 0".into())
 }
 
 fn distance(text: &str) -> Result<f64, String> {
@@ -358,11 +467,11 @@ mod tests {
 
     #[test]
     fn a_number_behind_halve_is_its_own() {
-        assert_eq!(measure(&["--halve", "a", "b"]).halve, Some(1));
-        assert_eq!(measure(&["a", "b", "--halve"]).halve, Some(1));
+        assert_eq!(measure(&["--halve", "a", "b"]).seen.halve, Some(1));
+        assert_eq!(measure(&["a", "b", "--halve"]).seen.halve, Some(1));
         let three = measure(&["--halve", "3", "a", "b"]);
-        assert_eq!((three.halve, three.places.len()), (Some(3), 2));
-        assert_eq!(measure(&["a", "b"]).halve, None);
+        assert_eq!((three.seen.halve, three.places.len()), (Some(3), 2));
+        assert_eq!(measure(&["a", "b"]).seen.halve, None);
     }
 
     #[test]

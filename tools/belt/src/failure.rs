@@ -10,6 +10,8 @@ pub enum Failure {
     Bad { place: String, what: String },
     /// The library refuses: status 1.
     Refused { place: String, refusal: Refusal, advice: String },
+    /// It is all done, but not all of it is as strictly as it was asked for: status 3.
+    Strict { what: String },
 }
 
 impl Failure {
@@ -37,10 +39,21 @@ impl Failure {
         }
     }
 
+    /// What is wrong, without where.
+    pub fn what(&self) -> String {
+        match self {
+            Failure::Bad { what, .. } => what.clone(),
+            Failure::Refused { refusal, advice, .. } if advice.is_empty() => format!("refused, {refusal}"),
+            Failure::Refused { refusal, advice, .. } => format!("refused, {refusal}; {advice}"),
+            Failure::Strict { what } => what.clone(),
+        }
+    }
+
     pub fn status(&self) -> u8 {
         match self {
             Failure::Bad { .. } => 2,
             Failure::Refused { .. } => 1,
+            Failure::Strict { .. } => 3,
         }
     }
 }
@@ -48,9 +61,8 @@ impl Failure {
 impl fmt::Display for Failure {
     fn fmt(&self, f: &mut fmt::Formatter<'_>) -> fmt::Result {
         let line = match self {
-            Failure::Bad { place, what } => format!("{place}: {what}"),
-            Failure::Refused { place, refusal, advice } if advice.is_empty() => format!("{place}: refused, {refusal}"),
-            Failure::Refused { place, refusal, advice } => format!("{place}: refused, {refusal}; {advice}"),
+            Failure::Bad { place, .. } | Failure::Refused { place, .. } => format!("{place}: {}", self.what()),
+            Failure::Strict { what } => what.clone(),
         };
         f.write_str(&one_line(&line))
     }

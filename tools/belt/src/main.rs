@@ -1,8 +1,9 @@
 //! belt: the motion core from a command line.
 //!
 //! Pictures, blocks and headers come in (`frames`, `lists`), the library is asked (`measure`, by `way`), and the answer
-//! goes out in words, as JSON (`report`) or as a picture (`picture`). `cli` has the words that are taken and their help;
-//! the manual page is made of it. Whatever goes wrong is a [`failure::Failure`]: one line and a status.
+//! goes out in words, as JSON (`report`) or as a picture (`picture`); a clip is recorded too (`recorded`). `cli` has the
+//! words that are taken and their help; the manual page is made of it. Whatever goes wrong is a [`failure::Failure`]: one
+//! line and a status.
 
 mod cli;
 mod commands;
@@ -13,9 +14,12 @@ mod lists;
 mod measure;
 mod memory;
 mod model;
+mod ordered;
 mod output;
 mod picture;
+mod recorded;
 mod report;
+mod tracked;
 mod way;
 
 use std::io::{self, Write};

@@ -2,11 +2,11 @@
 
 use crate::failure::Failure;
 use crate::frames::Frame;
-use crate::model::{Asked, IDENTITY, Map};
+use crate::model::{self, Asked, IDENTITY};
 use crate::report::words;
 use crate::way::{Answer, Question, Warning};
 use belt::{Buffers, ClassSet, IDENTITIES, Motion, Refusal, Report, Sample, Settings, StoredModel, Task};
-use track::{Common, Refused, Status};
+use track::{Common, Model, Planes, Refused, Status};
 
 /// The share of blocks that stand still, or don't, from which on they are a part of the picture.
 const PART: f64 = 0.05;
@@ -35,6 +35,25 @@ pub struct Job {
     pub within: f64,
     /// Neither the way back nor coarser planes.
     pub fast: bool,
+}
+
+impl Job {
+    /// The job that elects and stores for the first reference, as the first of a run.
+    pub fn electing(mask: Option<Frame>, fast: bool) -> Job {
+        Job {
+            asked: Asked::Elected,
+            frame: 1,
+            reference: 1,
+            flag: 1,
+            start: 0,
+            prior: IDENTITIES,
+            classes: None,
+            set: ClassSet::ALL,
+            mask,
+            within: 0.25,
+            fast,
+        }
+    }
 }
 
 /// A block of the picture: what was found, and how far the answer's model is from it.
@@ -67,7 +86,8 @@ pub struct Measured {
     pub report: Report,
     pub blocks: Vec<Block>,
     pub warnings: Vec<Warning>,
-    /// The frame's sample blocks.
+    /// The samples' words, and the blocks that they are stored in.
+    pub samples: Vec<u32>,
     pub sample_blocks: Vec<u8>,
     /// The header's bytes, from the start's byte on.
     pub header: Vec<u8>,
@@ -83,13 +103,42 @@ pub fn judge_sides(width: usize, height: usize) -> Result<(), Refusal> {
 
 /// Runs the job on two pictures of the same sides.
 pub fn measure(job: &Job, input: &Frame, reference: &Frame) -> Result<Measured, Failure> {
+    let planes = Planes::of(&input.lent(), &reference.lent());
+    measure_planes(job, input, reference, planes)
+}
+
+/// The same where their light was taken away already.
+pub fn measure_planes(
+    job: &Job,
+    input: &Frame,
+    reference: &Frame,
+    planes: Result<Planes, Refused>,
+) -> Result<Measured, Failure> {
     let (width, height) = (input.width, input.height);
     let settings = Settings { set: job.set, ..job.asked.settings(job.frame, job.reference, job.flag, job.start) };
     let unsorted = vec![belt::UNSORTED; belt::sample_count(width, height)];
     let mut buffers = Buffers::new(width, height);
+    if let Some(Frame { name, whole: (own_width, own_height), .. }) =
+        job.mask.as_ref().filter(|mask| mask.whole != input.whole)
+    {
+        let (width, height) = input.whole;
+        let what = format!("the mask has {own_width}×{own_height} pels, and {} {width}×{height}", input.name);
+        return Err(Failure::bad(name, what));
+    }
+    let pair = format!("{} to {}", input.name, reference.name);
+    let refused = |refused| match refused {
+        Refused::Library(refusal) => Failure::refused(&pair, refusal),
+        other => Failure::bad(&pair, other),
+    };
+    let planes = planes.map_err(refused)?;
+    // whoever names a type has the library's own fit of it
+    let searched = match job.asked {
+        Asked::Elected => [planes.first(), planes.second()],
+        _ => [&input.pels[..], &reference.pels],
+    };
     let task = Task {
-        input: &input.pels,
-        reference: &reference.pels,
+        input: searched[0],
+        reference: searched[1],
         width,
         height,
         settings,
@@ -98,7 +147,6 @@ pub fn measure(job: &Job, input: &Frame, reference: &Frame) -> Result<Measured, 
         models: &IDENTITIES[..6],
         prior: &job.prior,
     };
-    let pair = format!("{} to {}", input.name, reference.name);
     let report = belt::job(&task, &mut buffers.lend()).map_err(|refusal| Failure::refused(&pair, refusal))?;
     let place = usize::from(job.reference) - 1;
     let stored_type = report.types[place];
@@ -108,18 +156,21 @@ pub fn measure(job: &Job, input: &Frame, reference: &Frame) -> Result<Measured, 
     let left_out = |(&word, &class): (&u32, &u8)| !job.set.names(class) || masked(word);
     let some = job.mask.is_some() || job.set != ClassSet::ALL;
     let mask: Option<Vec<bool>> = some.then(|| stored.iter().zip(task.classes).map(left_out).collect());
-    let question = Question { asked: job.asked, fast: job.fast, within: job.within, mask: mask.as_deref(), stored };
-    let answer = question.answer(input, reference).map_err(|refused| match refused {
-        Refused::Library(refusal) => Failure::refused(&pair, refusal),
-        other => Failure::bad(&pair, other),
-    })?;
-    let searched = if answer.words.is_empty() { stored } else { &answer.words };
+    let (asked, fast, within) = (job.asked, job.fast, job.within);
+    let question = Question { asked, fast, within, mask: mask.as_deref(), stored, sides: (width, height) };
+    let answer = question.answer(&planes).map_err(refused)?;
     let block = |(at, &word): (usize, &u32)| {
         let sample = Sample::of_word(word);
         let Sample { x, y, motion, .. } = sample;
-        Block { x, y, motion, off: answer.map.off(&sample), masked: mask.as_ref().is_some_and(|mask| mask[at]) }
+        Block {
+            x,
+            y,
+            motion,
+            off: model::off(&answer.model, &sample),
+            masked: mask.as_ref().is_some_and(|mask| mask[at]),
+        }
     };
-    let blocks = searched.iter().enumerate().map(block).collect();
+    let blocks = stored.iter().enumerate().map(block).collect();
     let mut measured = Measured {
         input: input.name.clone(),
         reference: reference.name.clone(),
@@ -134,6 +185,7 @@ pub fn measure(job: &Job, input: &Frame, reference: &Frame) -> Result<Measured, 
         report,
         blocks,
         warnings: Vec::new(),
+        samples: buffers.words,
         sample_blocks: buffers.blocks,
         header: buffers.header,
     };
@@ -164,24 +216,26 @@ fn warnings(measured: &Measured) -> Vec<Warning> {
 
 /// What is to be known of a part that moves otherwise.
 fn part(measured: &Measured) -> Option<Warning> {
-    let Answer { status, usable, shares, .. } = &measured.answer;
+    let Answer { status, usable, shares, standing, .. } = &measured.answer;
     let (still, rest) = (shares.still, words::rest(measured));
     let together = |share: f64| share >= TOGETHER_SHARE && share * *usable as f64 >= TOGETHER;
     let moves = 1.0 - still >= PART
         && shares.commonest.is_some_and(|Common { motion, share }| together(share) && moves(motion));
+    let part_still = |share: f64| {
+        let share = words::per_cent(share);
+        let text = format!(
+            "a part stands still, {share} of the blocks that can tell their motion: cut it off with --crop, or leave it out \
+             with --mask; {rest}"
+        );
+        Some(Warning { name: "part-still", text })
+    };
     match status {
         Status::Still if moves => Some(Warning {
             name: "part-moves",
             text: format!("a part moved on its own: {rest}; --crop measures it alone"),
         }),
-        Status::Measured | Status::Unexplained if moves && still >= PART + measured.slow() => Some(Warning {
-            name: "part-still",
-            text: format!(
-                "a part stands still, {} of the blocks that can tell their motion: cut it off with --crop, or leave it out \
-                 with --mask; {rest}",
-                words::per_cent(still)
-            ),
-        }),
+        Status::Measured if moves && *standing >= PART => part_still(*standing),
+        Status::Unexplained if moves && still >= PART => part_still(still),
         _ => None,
     }
 }
@@ -202,15 +256,6 @@ impl Measured {
         self.answer.agree as f64 / self.answer.usable.max(1) as f64
     }
 
-    /// The share of the blocks that what was measured hardly moves; 0 where nothing was.
-    fn slow(&self) -> f64 {
-        let is_slow = |block: &&Block| !moves(self.answer.map.motion_at(block.x, block.y));
-        match self.answer.status {
-            Status::Measured => self.used().filter(is_slow).count() as f64 / self.used().count().max(1) as f64,
-            _ => 0.0,
-        }
-    }
-
     /// The commonest motion of the blocks that don't stand still, in pels of the picture.
     pub fn commonest(&self) -> Option<Common> {
         let times = self.times as f64;
@@ -223,25 +268,29 @@ impl Measured {
         self.answer.predicted.map(|pels| pels * self.times as f64)
     }
 
-    /// The model that was measured, in pels of the picture.
-    pub fn map(&self) -> Map {
-        self.answer.map.magnified(self.times)
+    /// The mean square of how far the blocks that agree are off, in square pels of the picture.
+    pub fn score(&self) -> Option<f64> {
+        self.answer.score.map(|score| score * (self.times * self.times) as f64)
     }
 
-    /// A model's motion in the middle of the picture, in pels of the picture that it is a model of.
-    pub fn middle_of(&self, map: Map, times: usize) -> Motion {
-        let middle = |side: usize| ((side * times) as f64 - 1.0) / 2.0;
-        map.motion_at(middle(self.width), middle(self.height))
+    /// The model that was measured, in pels of the picture.
+    pub fn model(&self) -> Model {
+        (0..self.times.trailing_zeros()).fold(self.answer.model, |model, _| model.doubled())
     }
 
     /// What was measured, in the middle of the picture.
     pub fn middle(&self) -> Motion {
-        self.middle_of(self.map(), self.times)
+        self.model().middle(self.width * self.times, self.height * self.times)
     }
 
     /// What is stored, in pels of what was measured.
-    pub fn stored_map(&self) -> Map {
-        Map::of_grid(self.stored)
+    pub fn stored_model(&self) -> Model {
+        model::of_grid(self.stored_type, self.stored)
+    }
+
+    /// What is stored, in the middle of what was measured.
+    pub fn stored_middle(&self) -> Motion {
+        self.stored_model().middle(self.width, self.height)
     }
 
     pub fn is_stored_still(&self) -> bool {
@@ -277,8 +326,7 @@ pub mod tests {
     /// A job that fits a type, or elects one for the identity.
     pub fn job(kind: u8) -> Job {
         let asked = if kind == IDENTITY { Asked::Elected } else { Asked::Plain(kind) };
-        let (prior, classes, set, mask) = (IDENTITIES, None, ClassSet::ALL, None);
-        Job { asked, frame: 1, reference: 1, flag: 1, start: 0, prior, classes, set, mask, within: 0.25, fast: false }
+        Job { asked, ..Job::electing(None, false) }
     }
 
     fn names(found: &Measured) -> Vec<&str> {

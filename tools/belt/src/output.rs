@@ -127,6 +127,10 @@ pub struct Files {
     prints: bool,
 }
 
+/// A file among those that wait.
+#[derive(Clone, Copy)]
+pub struct At(usize);
+
 struct Waiting {
     name: String,
     target: Target,
@@ -186,15 +190,26 @@ impl Files {
     /// Writes a file that waits for its name.
     pub fn add(&mut self, path: &Path, bytes: &[u8]) -> Result<(), Failure> {
         let file = self.create(path)?;
-        file.write_all(bytes).map_err(|error| Failure::bad(shown_output(path), error))
+        self.append(file, bytes)
+    }
+
+    /// Writes on in a file that waits.
+    pub fn append(&mut self, At(file): At, bytes: &[u8]) -> Result<(), Failure> {
+        let Waiting { name, file, .. } = &mut self.waiting[file];
+        file.write_all(bytes).map_err(|error| Failure::bad(&*name, error))
     }
 
     /// A file that waits for its name, to be written.
-    pub fn create(&mut self, path: &Path) -> Result<&mut impl Write, Failure> {
+    pub fn create(&mut self, path: &Path) -> Result<At, Failure> {
         let name = shown_output(path);
         let waiting = waiting(path, &name).map_err(|error| Failure::bad(&name, error))?;
         self.waiting.push(waiting);
-        Ok(&mut self.waiting.last_mut().expect("it was pushed").file)
+        Ok(At(self.waiting.len() - 1))
+    }
+
+    /// A file that waits.
+    pub fn file(&mut self, At(file): At) -> &mut impl Write {
+        &mut self.waiting[file].file
     }
 
     /// Gives each file its name: all of them or none.
@@ -273,6 +288,8 @@ fn target(path: &Path) -> io::Result<(Target, Option<fs::Permissions>)> {
     // a link's own file is replaced, not the link
     let target = match fs::canonicalize(path) {
         Ok(target) => target,
+        // /dev/stdout is a link to what has no name where that is a pipe
+        Err(_) if fs::metadata(path).is_ok() => return Ok((Target::Device(path.into()), None)),
         Err(_) if fs::symlink_metadata(path).is_ok_and(|data| data.is_symlink()) => {
             return Err(io::Error::other("a link to a file that isn't there"));
         }

@@ -1,13 +1,13 @@
 //! How an answer is found for a pair of pictures: what is said to have been measured, apart from what is stored.
 //!
-//! The crate `track` answers. Where a type is named, that type is fitted instead to the samples that are stored, and it
-//! counts if at least half of them agree; of `track` it then takes how the blocks moved, and no more.
+//! The crate `track` answers, by the samples that are stored, of pictures without their light: one search serves both.
+//! Where a type is named, the samples are of the pictures as they are, that type is fitted to them, and it counts if at
+//! least half of them agree; of `track` it then takes how these blocks moved, and no more.
 
-use crate::frames::Frame;
-use crate::model::{self, Asked, Map};
+use crate::model::{self, Asked};
 use crate::report::words;
 use belt::{Motion, Sample};
-use track::{Options, Refused, Shares, Status};
+use track::{Model, Options, Planes, Refused, Shares, Status};
 
 /// Below this root of the mean square of the motion over the picture, in pels, a load of a named type stands still.
 const STILL: f64 = 1.0 / 16.0;
@@ -51,13 +51,12 @@ pub struct Warning {
     pub text: String,
 }
 
-/// What was found. Unless the status is known, `map` is a guess.
+/// What was found. Unless the status is known, the model is a guess.
 #[derive(Clone, Debug)]
 pub struct Answer {
     pub status: Status,
     pub how: How,
-    pub gm_type: u8,
-    pub map: Map,
+    pub model: Model,
     /// How many blocks agree, of how many that can tell their motion, of how many: those of half planes where the answer
     /// is theirs.
     pub agree: usize,
@@ -65,14 +64,16 @@ pub struct Answer {
     pub blocks: usize,
     /// They agree within so many pels.
     pub within: f64,
+    /// The mean square of the distance between the model and the blocks that agree, in square pels, where it is known.
+    pub score: Option<f64>,
     /// The error to be expected, in pels, where it is known.
     pub predicted: Option<f64>,
     /// Why the model isn't to be trusted.
     pub warnings: Vec<Warning>,
     /// How the blocks moved, whatever the model.
     pub shares: Shares,
-    /// The words of the search; none where there was none.
-    pub words: Vec<u32>,
+    /// The share of the blocks that stood still where the model moves.
+    pub standing: f64,
 }
 
 /// What an answer is sought by.
@@ -84,50 +85,48 @@ pub struct Question<'a> {
     pub within: f64,
     /// For each block, whether it is left out.
     pub mask: Option<&'a [bool]>,
-    /// The samples that are stored, one for each block.
+    /// The samples that are stored, one for each block of the planes.
     pub stored: &'a [u32],
+    /// The sides of the planes.
+    pub sides: (usize, usize),
 }
 
 impl Question<'_> {
-    /// The answer of two pictures of the same sides.
-    pub fn answer(&self, input: &Frame, reference: &Frame) -> Result<Answer, Refused> {
-        let [first, second] = [input, reference].map(|frame| {
-            let Frame { width, height, most, .. } = *frame;
-            track::Frame { pels: &frame.pels, width, height, most }
-        });
-        let fast = self.fast || self.asked != Asked::Elected;
-        let mut answer = tracked(track::measure(&first, &second, &Options { fast, mask: self.mask })?, self.within);
+    /// The answer of two planes.
+    pub fn answer(&self, planes: &Planes) -> Result<Answer, Refused> {
+        let options = Options { fast: self.fast || self.asked != Asked::Elected, mask: self.mask };
+        let mut answer = tracked(planes.measure(Some(self.stored), &options)?, self.within);
         if answer.blocks > 0 && self.mask.is_some_and(|mask| mask.iter().all(|out| *out)) {
             answer.status = Status::NoBlocks;
             answer.warnings.clear();
         }
         Ok(match self.asked {
             Asked::Elected => answer,
-            Asked::Plain(kind) => self.named(kind, How::Plain, answer, input),
-            Asked::Trimmed(kind) => self.named(kind, How::Trimmed, answer, input),
+            Asked::Plain(kind) => self.named(kind, How::Plain, answer),
+            Asked::Trimmed(kind) => self.named(kind, How::Trimmed, answer),
         })
     }
 
     /// The answer of a named type, by the samples of the blocks that aren't masked.
-    fn named(&self, kind: u8, how: How, tracked: Answer, input: &Frame) -> Answer {
+    fn named(&self, kind: u8, how: How, tracked: Answer) -> Answer {
         let is_kept = |at: usize| !self.mask.is_some_and(|mask| mask[at]);
         let kept = self.stored.iter().enumerate().filter(|(at, _)| is_kept(*at));
         let kept: Vec<u32> = kept.map(|(_, &word)| word).collect();
-        let near = |map: Map| -> Vec<u32> {
-            kept.iter().copied().filter(|&word| map.off(&Sample::of_word(word)) <= self.within).collect()
+        let near = |model: &Model| -> Vec<u32> {
+            kept.iter().copied().filter(|&word| model::off(model, &Sample::of_word(word)) <= self.within).collect()
         };
         let first = match how {
-            How::Trimmed => belt::fit_trimmed(kind, &kept).ok().map(|trimmed| Map::of_fit(&trimmed.fitted)),
-            _ => Map::fitted(kind, &kept),
+            How::Trimmed => belt::fit_trimmed(kind, &kept).ok().and_then(|trimmed| Model::of_fitted(&trimmed.fitted)),
+            _ => model::fitted(kind, &kept),
         };
-        let own = first.map(near).unwrap_or_default();
-        let fitted = if own.is_empty() { None } else { Map::fitted(kind, &own) };
-        let map = fitted.or(first).unwrap_or(Map::IDENTITY);
-        let (agree, usable) = (if fitted.is_some() { near(map).len() } else { own.len() }, kept.len());
+        let own = first.as_ref().map(near).unwrap_or_default();
+        let fitted = if own.is_empty() { None } else { model::fitted(kind, &own) };
+        let model = fitted.or(first).unwrap_or(Model { gm_type: kind, ..Model::IDENTITY });
+        let (agree, usable) = (if fitted.is_some() { near(&model).len() } else { own.len() }, kept.len());
         let status = match tracked.status {
             status @ (Status::Flat | Status::NoBlocks) => status,
             _ if fitted.is_none() || (agree as f64) < FEW * usable as f64 => Status::Unexplained,
-            _ if map.root_mean_square(input.width, input.height) <= STILL => Status::Still,
+            _ if model.rms(self.sides.0, self.sides.1) <= STILL => Status::Still,
             _ => Status::Measured,
         };
         let warnings = match status {
@@ -138,16 +137,16 @@ impl Question<'_> {
         Answer {
             status,
             how,
-            gm_type: kind,
-            map,
+            model,
             agree,
             usable,
             blocks: self.stored.len(),
             within: self.within,
+            score: None,
             predicted: None,
             warnings,
             shares: tracked.shares,
-            words: Vec::new(),
+            standing: tracked.standing,
         }
     }
 }
@@ -166,17 +165,17 @@ fn tracked(found: track::Answer, within: f64) -> Answer {
     Answer {
         status: found.status,
         how: How::Tracked(found.how),
-        gm_type: found.model.gm_type,
-        map: Map(found.model.numbers),
+        model: found.model,
         agree: found.agree,
         usable: found.usable,
         blocks: found.blocks,
         // of flat pictures none is known
         within: if found.within > 0.0 { half * found.within } else { within },
+        score: Some(half * half * found.score),
         predicted: Some(found.predicted).filter(|pels| pels.is_finite() && found.status.is_known()),
         warnings: found.warnings.iter().map(warning).collect(),
         shares: found.shares,
-        words: found.words,
+        standing: found.standing,
     }
 }
 

@@ -101,7 +101,7 @@ fn two_pictures_that_do_not_go_together() {
     bad(
         &folder,
         &["measure", "still.pgm"],
-        "measure: it takes two pictures or more, not 1; of a Y4M file, clip.y4m#0 and clip.y4m#1",
+        "measure: it takes two pictures or more, not 1; 'belt track' measures a clip, clip.y4m#0 is a frame",
     );
     bad(&folder, &["measure", "-", "-"], "standard input: it can be read once alone");
     std::fs::create_dir(folder.path("nothing")).unwrap();

@@ -113,6 +113,8 @@ fn a_dash_is_standard_output() {
     let output = folder.command(&["convert", "blocks", "-", "--to", "1"]).output().unwrap();
     assert_eq!((output.stdout.len(), output.stdout[2]), (512, 1));
     assert!(folder.names().iter().all(|name| !name.ends_with(".part")));
+    let said = run(&folder, "\"$0\" measure still.pgm pan.pgm --json --models /dev/stdout | grep -c reference");
+    assert_eq!((said.out.as_str(), said.error.as_str()), ("8\n", ""), "a line of JSON and seven of models");
 }
 
 /// All or none: the second file can't be named, and the first is as it was.

@@ -3,6 +3,7 @@
 mod tool;
 
 use serde_json::Value;
+use tool::drawn::{HEIGHT, blurred, brighter, load, noisy, over, pgm};
 use tool::{Folder, json, noise, number, smooth, warnings};
 
 fn pair(folder: &Folder, words: &[&str]) -> Value {
@@ -124,71 +125,6 @@ fn what_is_not_explained_has_no_numbers() {
     }
 }
 
-/// The sides of the drawn belt.
-const WIDTH: usize = 320;
-const HEIGHT: usize = 240;
-
-/// A loaded belt that went so far: smooth noise of three widths.
-fn load(seed: u64, [right, down]: [f64; 2]) -> Vec<f64> {
-    let grain = |x: f64, y: f64, width: u64| {
-        let [x, y] = [x as i64 as u64, y as i64 as u64];
-        let h = x.wrapping_mul(0x9E37_79B9_7F4A_7C15) ^ y.wrapping_mul(0xC2B2_AE3D_27D4_EB4F) ^ seed << 17 ^ width << 7;
-        let h = (h ^ h >> 29).wrapping_mul(0xBF58_476D_1CE4_E5B9);
-        ((h ^ h >> 32).wrapping_mul(0x94D0_49BB_1331_11EB) >> 40) as f64 / f64::from(1 << 24) - 0.5
-    };
-    let smooth = |t: f64| t * t * (3.0 - 2.0 * t);
-    let noise = |x: f64, y: f64, width: u64| {
-        let (x, y) = (x / width as f64, y / width as f64);
-        let (left, top) = (x.floor(), y.floor());
-        let (across, along) = (smooth(x - left), smooth(y - top));
-        let row = |y: f64| grain(left, y, width) * (1.0 - across) + grain(left + 1.0, y, width) * across;
-        row(top) * (1.0 - along) + row(top + 1.0) * along
-    };
-    let pel = |i: usize| {
-        let (x, y) = ((i % WIDTH) as f64 - right + 2000.0, (i / WIDTH) as f64 - down + 2000.0);
-        128.0 + 70.0 * noise(x, y, 4) + 70.0 * noise(x, y, 9) + 60.0 * noise(x, y, 23)
-    };
-    (0..WIDTH * HEIGHT).map(pel).collect()
-}
-
-/// Of two pictures, the one where the other isn't.
-fn over(below: Vec<f64>, above: &[f64], is_above: impl Fn(usize, usize) -> bool) -> Vec<f64> {
-    let pel = |(i, pel): (usize, f64)| if is_above(i % WIDTH, i / WIDTH) { above[i] } else { pel };
-    below.into_iter().enumerate().map(pel).collect()
-}
-
-/// The mean of three by three, so many times.
-fn blurred(pels: Vec<f64>, times: usize) -> Vec<f64> {
-    let once = |pels: Vec<f64>| {
-        let at = |x: usize, y: usize| pels[y.min(HEIGHT - 1) * WIDTH + x.min(WIDTH - 1)];
-        let around = |i: usize| {
-            let (x, y) = (i % WIDTH, i / WIDTH);
-            let places = (0..9).map(|j| at((x + j % 3).saturating_sub(1), (y + j / 3).saturating_sub(1)));
-            places.sum::<f64>() / 9.0
-        };
-        (0..pels.len()).map(around).collect()
-    };
-    (0..times).fold(pels, |pels, _| once(pels))
-}
-
-/// Noise of about this deviation: the sum of four numbers.
-fn noisy(pels: Vec<f64>, mut state: u32, deviation: f64) -> Vec<f64> {
-    let mut any = || {
-        state = state.wrapping_mul(1_664_525).wrapping_add(1_013_904_223);
-        f64::from(state >> 8) / f64::from(1 << 24) - 0.5
-    };
-    pels.into_iter().map(|pel| pel + deviation * 1.73 * (0..4).map(|_| any()).sum::<f64>()).collect()
-}
-
-fn brighter(pels: Vec<f64>, times: f64, more: f64) -> Vec<f64> {
-    pels.into_iter().map(|pel| times * pel + more).collect()
-}
-
-fn pgm(pels: Vec<f64>) -> Vec<u8> {
-    let head = format!("P5 {WIDTH} {HEIGHT} 255\n").into_bytes();
-    head.into_iter().chain(pels.into_iter().map(|pel| pel.round().clamp(0.0, 255.0) as u8)).collect()
-}
-
 /// Writes a pair and measures it.
 fn drawn(folder: &Folder, first: Vec<f64>, second: Vec<f64>, words: &[&str]) -> Value {
     folder.write("a.pgm", pgm(first));
@@ -281,8 +217,6 @@ fn says_one_thing(found: &Value, text: &str) {
     assert!(agree <= usable && usable <= blocks, "{found}");
     let counts = format!("\n  agreement  {agree} of {usable} block");
     assert_eq!(text.contains(&counts), known, "{text}");
-    let otherwise = found["how"] == "elected" && found["measured"]["type"] != found["stored"]["type"];
-    assert_eq!(text.contains(", elected once the pictures' light is taken away\n"), otherwise, "{text}");
     let listed = found["warnings"].as_array().unwrap();
     assert_eq!(text.matches("\nwarning: ").count(), listed.len(), "{text}");
     for warning in listed {
@@ -327,11 +261,15 @@ fn the_demo_finds_what_it_drew() {
     names.sort();
     assert_eq!(names, ["clip.y4m", "measured.png", "motion.csv", "motion.svg"]);
     let mut table = csv::Reader::from_path(folder.path("here/motion.csv")).unwrap();
+    let names = table.headers().unwrap().clone();
     let mut pairs = 0;
     for row in table.records().map(Result::unwrap) {
-        let pels = |column: usize| row[column].parse::<f64>().unwrap_or_else(|_| panic!("{row:?}"));
-        assert!((pels(4) - pels(6)).abs() < 0.1 && (pels(5) - pels(7)).abs() < 0.1, "{row:?}");
-        assert_eq!(&row[1] == "still", pels(6) == 0.0, "{row:?}");
+        let cell = |name: &str| &row[names.iter().position(|own| own == name).unwrap()];
+        let pels = |name: &str| cell(name).parse::<f64>().unwrap_or_else(|_| panic!("{row:?}"));
+        for (found, drawn) in [("right_pels", "drawn_right"), ("down_pels", "drawn_down")] {
+            assert!((pels(found) - pels(drawn)).abs() < 0.1, "{row:?}");
+        }
+        assert_eq!(cell("status") == "still", pels("drawn_right") == 0.0, "{row:?}");
         pairs += 1;
     }
     assert_eq!(pairs, 24);

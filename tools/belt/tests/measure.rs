@@ -50,7 +50,12 @@ fn what_was_drawn_is_found() {
         if gm_type != "identity" {
             let trimmed = measured(&folder, name, &["--type", gm_type, "--trim"]);
             assert_eq!((&json["how"], &trimmed["how"]), (&Value::from("elected"), &Value::from("trimmed")));
-            assert_eq!((&trimmed["stored"], &trimmed["header"]), (&json["stored"], &json["header"]));
+            // the one of the pictures without their light, the other as they are
+            assert_eq!(trimmed["stored"]["type"], json["stored"]["type"]);
+            for (part, by) in [("right_pels", 0.1), ("down_pels", 0.1), ("zoom", 0.001), ("angle_degrees", 0.05)] {
+                let [own, other] = [&trimmed, &json].map(|found| found["stored"][part].as_f64().unwrap());
+                near(own, other, by, part);
+            }
         }
     }
 }
@@ -144,7 +149,7 @@ fn a_set_says_which_blocks_are_measured() {
         };
         assert_eq!(json["stored"]["numbers"], serde_json::json!(model.0), "{json}");
         let score = belt::score_by_class(set, &model.x_first(code), &words, &kinds).unwrap();
-        assert_eq!(json["stored"]["score_square_pels"], score);
+        near(json["stored"]["score_square_pels"].as_f64().unwrap(), score, 1e-12, "score");
         assert_eq!(json["blocks"], 80);
         assert!(json["usable"].as_u64() <= Some(60), "{json}");
     }
@@ -203,7 +208,7 @@ fn what_is_stored_reads_back_as_the_report() {
             assert_eq!(kinds[..], classes);
             let model = read.models[reference - 1].x_first(code);
             let score = belt::mean_sq_residual(&model, &words).unwrap();
-            assert_eq!(json["stored"]["score_square_pels"], score);
+            near(json["stored"]["score_square_pels"].as_f64().unwrap(), score, 1e-12, "score");
             if fit.contains(&"--trim") {
                 assert_eq!(Ok(model), belt::quantize_trimmed(code, flag, &words).map(|trimmed| trimmed.model));
             }

@@ -1,9 +1,10 @@
 #!/usr/bin/env python3
-"""mutate.py BELT [COUNT [SEED]]: runs of the tool on damaged pictures, blocks, headers, lists and command lines.
+"""mutate.py BELT [COUNT [SEED]]: runs of the tool on damaged pictures, blocks, headers, recordings, lists and command lines.
 
-Each run must end with 0, 1 or 2 and never by a signal, say one line where it isn't 0, leave no file then and no
-temporary file ever. A 0 must be right: every block that was listed or converted is whole, every PNG file that was
-measured passes its checks, and the numbers of JSON go with their status.
+Each run must end with 0, 1 or 2 (or 3, with --strict) and never by a signal, say one line where it isn't 0, leave no file
+but by 0 and 3, and no temporary file ever. A 0 must be right: every block that was listed or converted is whole, every PNG file that was
+measured passes its checks, the numbers of JSON go with their status, what was recorded is replayed, and no recording is that
+differs in a byte from the one that was made.
 Prints how many ended how; ends with 1 at the first run that is wrong, whose files are then left.
 """
 
@@ -21,7 +22,7 @@ import zlib
 
 import draw
 
-STATUSES = {"measured", "still", "unexplained", "flat", "no-blocks"}
+STATUSES = {"measured", "still", "unexplained", "flat", "no-blocks", "bad"}
 
 
 def png(width, height, depth, colour, rows, interlaced=0):
@@ -49,7 +50,7 @@ def seeds(belt, folder):
         "b.pgm": draw.pgm(width, height, 255, moved),
         "deep.pgm": draw.pgm(width, height, 4095, [16 * p for p in pels]),
         "c.ppm": b"P6\n48 32\n255\n" + b"".join(colour),
-        "clip.y4m": draw.y4m(width, height, [pels, moved]),
+        "clip.y4m": draw.y4m(width, height, [pels, moved, pels, moved]),
         "grey.png": png(width, height, 8, 0, rows),
         "rgb.png": png(width, height, 8, 2, colour),
         "deep.png": png(width, height, 16, 0, deep),
@@ -63,7 +64,9 @@ def seeds(belt, folder):
     assert made.returncode == 0, made
     blocks = (folder / "blocks").read_bytes()
     (folder / "blocks").write_bytes(blocks * 3)
-    return sorted([*files, "blocks"])
+    made = subprocess.run([belt, "track", "clip.y4m", "--blocks", "recorded", "--headers", "headers", "--key", "2"], cwd=folder, capture_output=True)
+    assert made.returncode == 0, made
+    return sorted([*files, "blocks", "recorded", "headers"])
 
 
 def damaged(data):
@@ -97,6 +100,9 @@ def words_of(kind, name, out):
     other = "b.pgm" if name != "deep.pgm" else "deep.pgm"
     if kind == "blocks":
         return random.choice([["list", name], ["list", name, "--csv"], ["convert", name, out, "--to", random.choice("12")]])
+    if kind in ("headers", "recorded"):
+        place = [name, "--blocks", "recorded"] if kind == "headers" else ["headers", "--blocks", name]
+        return ["replay", *(place[:1] if kind == "headers" and random.random() < 0.3 else place), *random.choice([[], ["--json"]])]
     if kind == "header":
         at = ["--at", str(random.choice([0, 0, 1, 7, 60, 10**9, 2**63]))]
         return ["read-header", name, *random.choice([[], ["--json"], ["--hex"], ["--key"]]), *at]
@@ -104,6 +110,12 @@ def words_of(kind, name, out):
         return random.choice([["price", name], ["measure", "a.pgm", "b.pgm", "--prior", name, "--models", out], ["read-header", "header", "--prior", name]])
     if kind == "classes":
         return ["measure", "a.pgm", "b.pgm", "--classes", name, "--blocks", out]
+    if random.random() < (0.7 if kind == "clip.y4m" else 0.2):
+        places = [name] if kind == "clip.y4m" else random.choice([[name, other], [other, name, other]])
+        more = random.choice([[], ["--strict"], ["--every", "2"], ["--from", "1"], ["--fast"], ["--halve"], ["--mask", name], ["--crop", "3,2,40,28"]])
+        record = ["--blocks", out, "--headers", out + ".h", *random.choice([[], ["--key", "1"], ["--key", "2"]])]
+        stores = random.choice([[], record, ["--csv", out], ["--plot", out], ["--csv", out, "--plot", out + ".svg", "--mm-per-pel", "2"]])
+        return ["track", *places, *random.choice([[], ["--json"], ["--json"], ["--quiet"]]), *more, *stores]
     if kind == "clip.y4m":
         name += random.choice(["", "#0", "#1", "#2"])
     pair = random.choice([[name, other], [other, name], [name, name]])
@@ -112,7 +124,8 @@ def words_of(kind, name, out):
     return ["measure", *pair, "--json", *more, *stores]
 
 
-WORDS = ["measure", "list", "convert", "read-header", "practice", "price", "demo2", "man", "help", "completions", "a.pgm", "b.pgm",
+WORDS = ["measure", "track", "track", "--strict", "--quiet", "--every", "--from", "--plot", "--fps", "--mm-per-pel", "--threads", "--fast",
+    "--headers", "--key", "replay", "headers", "clip.y4m", "list", "convert", "read-header", "practice", "price", "demo2", "man", "help", "completions", "a.pgm", "b.pgm",
     "blocks", "header", "models", "o", "o2", "-", "--", "--json", "--csv", "--hex", "--key", "--trim", "--type", "affine", "rotzoom",
     "--crop", "0,0,32,32", "1,2,3", "-1,0,9,9", "--halve", "2", "99", "--mask", "--within", "0.5", "nan", "1e400", "--classes",
     "--frame", "0", "65535", "65536", "--reference", "7", "8", "--start", "--precision", "low", "--prior", "--picture", "o.png", "o.svg",
@@ -120,15 +133,23 @@ WORDS = ["measure", "list", "convert", "read-header", "practice", "price", "demo
     "2,2", "-24,24", "25,0", "--seed", "4294967295", "--slot", "5", "", "\n", "é", "\udcff", "--version", "--help", "bash", "a.pgm#0", "clip.y4m#1", "/dev/null", "."]
 
 
-def holds(kind, words, said, folder):
+def holds(belt, kind, words, said, folder):
     """Whether a status of 0 is right."""
     out = said.stdout
-    if words[0] == "measure" and "--json" in words and out.strip():
+    if words[0] in ("measure", "track") and "--json" in words and "-" not in words and "--help" not in words and out.strip():
         for line in out.decode().splitlines():
             found = json.loads(line)
             known = found["status"] in ("measured", "still")
-            if found["status"] not in STATUSES or known != (found["measured"]["right_pels"] is not None):
+            if found["status"] not in STATUSES or known != (found.get("measured", found)["right_pels"] is not None):
                 return "a status that contradicts its numbers"
+            if (found["status"] == "bad") != bool(found.get("reason")):
+                return "a bad pair without its reason"
+    if kind and "--headers" in words:
+        again = subprocess.run([belt, "replay", "out.h", "--blocks", "out", "--json"], cwd=folder, capture_output=True)
+        if again.returncode != 0 or b'"record":"pair"' not in again.stdout:
+            return f"a recording that isn't replayed: {again}"
+    if kind in ("headers", "recorded") and (folder / "damaged").read_bytes() != (folder / kind).read_bytes():
+        return "a damaged recording was replayed"
     if kind == "blocks":
         data = (folder / "damaged").read_bytes()
         for at in range(0, len(data), 512):
@@ -175,18 +196,19 @@ def one(belt, folder, names, number):
     said = subprocess.run([belt, *encoded], cwd=folder, capture_output=True, stdin=subprocess.DEVNULL, timeout=60)
     left = set(os.listdir(folder)) - before
     wrong = None
-    if said.returncode not in (0, 1, 2):
+    done = said.returncode == 0 or said.returncode == 3 and "--strict" in words
+    if said.returncode not in (0, 1, 2) and not done:
         wrong = f"status {said.returncode}"
     elif b"panicked" in said.stderr:
         wrong = "a panic"
     elif said.returncode != 0 and said.stderr.count(b"\n") != 1:
         wrong = "not one line on standard error"
-    elif said.returncode != 0 and left:
+    elif not done and left:
         wrong = f"left {left}"
     elif any(name.endswith((".part", ".old")) for name in left):
         wrong = f"left {left}"
-    elif said.returncode == 0:
-        wrong = holds(kind, words, said, folder)
+    elif done:
+        wrong = holds(belt, kind, words, said, folder)
     for name in left:
         path = folder / name
         shutil.rmtree(path) if path.is_dir() else path.unlink()

@@ -3,7 +3,7 @@
 use crate::attempt::{Attempt, Reached};
 use crate::cloud::Cloud;
 use crate::model::Model;
-use crate::shares::{Shares, shares};
+use crate::shares::{Shares, shares, standing};
 use crate::warning::Warning;
 use belt::{Elected, Motion, StoredModel};
 
@@ -105,6 +105,8 @@ pub struct Answer {
     pub warnings: Vec<Warning>,
     /// How the blocks moved, whatever the model.
     pub shares: Shares,
+    /// The share of the blocks that can tell their motion which stood still where the model moves by over half a pel.
+    pub standing: f64,
     /// How many searches of the whole frame were made; one of half planes is a quarter.
     pub searches: f64,
     /// The words of the search at full size, one for each whole block: what [`belt::elect`] and drawings take.
@@ -132,6 +134,7 @@ impl Answer {
             predicted: f64::INFINITY,
             warnings: Vec::new(),
             shares: Shares::NONE,
+            standing: 0.0,
             searches: 0.0,
             words: Vec::new(),
             elected: Elected { gm_type: 0, model: StoredModel::IDENTITY, score: 0.0 },
@@ -141,7 +144,7 @@ impl Answer {
     /// The answer of what was reached another way, or else of the full size with its warnings.
     pub(crate) fn of(full: Attempt, reached: Option<Reached>, width: usize, height: usize, searches: f64) -> Self {
         let Attempt { found: full, warnings } = full;
-        let shares = shares(&full.usable);
+        let (shares, usable) = (shares(&full.usable), full.usable.clone());
         let (words, elected) = (full.words.clone(), full.elected);
         let plain = if full.is_elected { How::Elected } else { How::Robust };
         let (found, model, predicted, how, warnings) = match reached {
@@ -175,6 +178,7 @@ impl Answer {
             predicted,
             warnings,
             shares,
+            standing: standing(&usable, &model),
             searches,
             words,
             elected,

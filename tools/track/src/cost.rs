@@ -4,7 +4,7 @@ use crate::cloud::Cloud;
 use crate::model::Model;
 use crate::plane::Pair;
 use crate::search::Search;
-use crate::{Frame, found, left, normalise, refit, texture};
+use crate::{Detail, Frame, found, left, normalise, refit, texture};
 use std::fs;
 
 const RUNS: u32 = 60;
@@ -40,10 +40,11 @@ fn cost() {
     };
     let pels = [frame(0.0, 0.0), frame(-5.3, 2.2)];
     let [first, second] = [&pels[0], &pels[1]].map(|pels| Frame { pels, width, height, most: 255 });
-    let (earlier, later) = timed("normalise", || normalise::normalised(&first, &second));
+    let details = timed("details", || [&first, &second].map(|frame| Detail::of(frame).unwrap()));
+    let (earlier, later) = timed("planes", || normalise::planes(&details[0], &details[1]));
     let kept = vec![true; 1200];
     let pair = Pair { first: &earlier, second: &later, kept: &kept };
-    let words = timed("search", || Search::new(1200).words(pair).unwrap());
+    let words = timed("search", || Search::new(1200, None).words(pair).unwrap());
     timed("elect", || belt::elect(1, &words).unwrap());
     let usable = timed("texture", || texture::usable(pair, &words));
     let cloud: Cloud = usable.iter().map(|&block| words[block]).collect();
@@ -54,6 +55,6 @@ fn cost() {
     timed("left", || left::by_model(pair, &found.model));
     timed("left still", || left::by_model(pair, &Model::IDENTITY));
     timed("voted", || found::voted(pair, &cloud, &[]));
-    timed("found", || found::Found::of(pair, &[], &mut Search::new(1200)).unwrap());
+    timed("found", || found::Found::of(pair, &[], &mut Search::new(1200, None)).unwrap());
     timed("all", || crate::measure(&first, &second, &crate::Options::default()).unwrap());
 }

@@ -45,12 +45,13 @@ mod warning;
 
 pub use answer::{Answer, How, Status};
 pub use model::Model;
+pub use normalise::Detail;
 pub use refused::Refused;
 pub use shares::{Common, Shares};
 pub use warning::Warning;
 
 use attempt::{Attempt, coarser};
-use plane::Pair;
+use plane::{Pair, Plane};
 use search::Search;
 
 /// A grey frame, row by row.
@@ -64,12 +65,6 @@ pub struct Frame<'a> {
     pub height: usize,
     /// The value of white, such as 255 or 65,535.
     pub most: u16,
-}
-
-impl Frame<'_> {
-    fn is_flat(&self) -> bool {
-        self.pels.iter().all(|pel| *pel == self.pels[0])
-    }
 }
 
 /// What a measurement is told beside its frames.
@@ -87,38 +82,78 @@ pub struct Options<'a> {
 ///
 /// [`Refused`] where the frames are too large or unlike, or a list has the wrong length.
 pub fn measure(first: &Frame<'_>, second: &Frame<'_>, options: &Options<'_>) -> Result<Answer, Refused> {
-    let blocks = judged(first, second, options)?;
-    if blocks == 0 {
-        return Ok(Answer::nothing(Status::NoBlocks, 0));
-    }
-    if first.is_flat() || second.is_flat() {
-        return Ok(Answer::nothing(Status::Flat, blocks));
-    }
-    let kept: Vec<bool> = options.mask.map_or(vec![true; blocks], |mask| mask.iter().map(|out| !out).collect());
-    let (earlier, later) = normalise::normalised(first, second);
-    let pair = Pair { first: &earlier, second: &later, kept: &kept };
-    let mut search = Search::new(blocks);
-    let full = Attempt::of(pair, !options.fast, &mut search)?;
-    let reached = if full.is_trusted() || options.fast { None } else { coarser(pair, &full, &mut search)? };
-    Ok(Answer::of(full, reached, first.width, first.height, search.spent()))
+    Planes::of(first, second)?.measure(None, options)
 }
 
-/// How many blocks there are, where the frames can be measured.
-fn judged(first: &Frame<'_>, second: &Frame<'_>, options: &Options<'_>) -> Result<usize, Refused> {
-    for Frame { pels, width, height, .. } in [first, second] {
-        if *width.max(height) > belt::MOST_SIDE {
-            return Err(Refused::TooLarge);
-        }
-        if pels.len() != width * height {
-            return Err(Refused::Pels { given: pels.len(), wanted: width * height });
-        }
+/// Two frames without their light: the planes that are searched.
+#[derive(Clone, Debug)]
+pub struct Planes {
+    first: Plane,
+    second: Plane,
+    /// What is said where nothing can be measured.
+    nothing: Option<Status>,
+}
+
+impl Planes {
+    /// Takes the light away from two frames.
+    ///
+    /// # Errors
+    ///
+    /// [`Refused`] where the frames are too large or unlike, or have the wrong number of pels.
+    pub fn of(first: &Frame<'_>, second: &Frame<'_>) -> Result<Self, Refused> {
+        Self::between(&Detail::of(first)?, &Detail::of(second)?)
     }
-    if (first.width, first.height) != (second.width, second.height) {
-        return Err(Refused::Unlike);
+
+    /// The same of frames without their light: in a clip that is taken away once from each.
+    ///
+    /// # Errors
+    ///
+    /// [`Refused::Unlike`] where they have different sides.
+    pub fn between(first: &Detail, second: &Detail) -> Result<Self, Refused> {
+        if (first.width, first.height) != (second.width, second.height) {
+            return Err(Refused::Unlike);
+        }
+        let nothing = if belt::sample_count(first.width, first.height) == 0 {
+            Some(Status::NoBlocks)
+        } else {
+            (first.is_flat || second.is_flat).then_some(Status::Flat)
+        };
+        let (first, second) = normalise::planes(first, second);
+        Ok(Self { first, second, nothing })
     }
-    let wanted = belt::sample_count(first.width, first.height);
-    match options.mask {
-        Some(mask) if mask.len() != wanted => Err(Refused::Mask { given: mask.len(), wanted }),
-        _ => Ok(wanted),
+
+    /// The pels of the first, for whoever searches them: at most 8,191 each.
+    pub fn first(&self) -> &[u16] {
+        &self.first.pels
+    }
+
+    /// The pels of the second.
+    pub fn second(&self) -> &[u16] {
+        &self.second.pels
+    }
+
+    /// Measures the motion from the first to the second. `words` are those of [`belt::collect_motion_samples`] on
+    /// these planes, where they were searched already: they aren't searched again.
+    ///
+    /// # Errors
+    ///
+    /// [`Refused`] where a list has the wrong length.
+    pub fn measure(&self, words: Option<&[u32]>, options: &Options<'_>) -> Result<Answer, Refused> {
+        let wanted = self.first.blocks();
+        if let Some(given) = options.mask.map(<[bool]>::len).filter(|given| *given != wanted) {
+            return Err(Refused::Mask { given, wanted });
+        }
+        if let Some(given) = words.map(<[u32]>::len).filter(|given| *given != wanted) {
+            return Err(Refused::Words { given, wanted });
+        }
+        if let Some(status) = self.nothing {
+            return Ok(Answer::nothing(status, wanted));
+        }
+        let kept: Vec<bool> = options.mask.map_or(vec![true; wanted], |mask| mask.iter().map(|out| !out).collect());
+        let pair = Pair { first: &self.first, second: &self.second, kept: &kept };
+        let mut search = Search::new(wanted, words);
+        let full = Attempt::of(pair, !options.fast, &mut search)?;
+        let reached = if full.is_trusted() || options.fast { None } else { coarser(pair, &full, &mut search)? };
+        Ok(Answer::of(full, reached, self.first.width, self.first.height, search.spent()))
     }
 }

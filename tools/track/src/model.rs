@@ -39,7 +39,7 @@ impl Model {
     }
 
     /// What a fit of the library says, if all of it is finite.
-    pub(crate) fn of_fitted(fitted: &Fitted) -> Option<Self> {
+    pub fn of_fitted(fitted: &Fitted) -> Option<Self> {
         let [m0, m1, m2, m3, ..] = fitted.numbers;
         let model = match fitted.gm_type {
             TRANSLATION => Self::translation(m0, m1),
@@ -122,7 +122,7 @@ impl Model {
     }
 
     /// The same motion on planes of twice the sides: a pel of a half plane lies between two.
-    pub(crate) fn doubled(&self) -> Self {
+    pub fn doubled(&self) -> Self {
         let [m0, m1, m2, m3, m4, m5] = self.numbers;
         let (m0, m1) = (2.0 * m0 - 0.5 * (m2 - 1.0 + m3), 2.0 * m1 - 0.5 * (m4 + m5 - 1.0));
         Self { numbers: [m0, m1, m2, m3, m4, m5], ..*self }

@@ -1,7 +1,7 @@
 //! Frames without their light: smoothed, their slow brightness taken away, the second brought to the first's contrast.
 
-use crate::Frame;
 use crate::plane::Plane;
+use crate::{Frame, Refused};
 
 /// The value that stands for the brightness around.
 const MIDDLE: f64 = 4096.0;
@@ -21,48 +21,68 @@ const MOST_CONTRAST: f64 = 2.0;
 /// Sums are made in so many lanes.
 const LANES: usize = 8;
 
-/// A frame less the brightness around each pel.
-struct Detail {
+/// A frame less the brightness around each pel: what is measured of it against the frame before and the one behind.
+#[derive(Clone, Debug)]
+pub struct Detail {
+    pub(crate) width: usize,
+    pub(crate) height: usize,
     /// Whole numbers of a [`WINDOW`]th of a [`WEIGHTS`]th of the frame's own unit.
     values: Vec<i32>,
     /// What a unit of the values is, of [`SCALE`].
     unit: f64,
+    /// The standard deviation, of [`SCALE`].
+    deviation: f64,
+    /// Whether all pels have one value.
+    pub(crate) is_flat: bool,
 }
 
 impl Detail {
-    fn of(frame: &Frame<'_>) -> Self {
-        let values = less_around(&smoothed(frame), frame.width, frame.height);
-        Self { values, unit: SCALE / f64::from(frame.most.max(1)) / f64::from(WEIGHTS * WINDOW) }
-    }
-
-    /// The standard deviation.
-    fn deviation(&self) -> f64 {
-        let (mut plain, mut square) = ([0i64; LANES], [0f64; LANES]);
-        for values in self.values.chunks(LANES) {
-            for (lane, &value) in values.iter().enumerate() {
-                plain[lane] += i64::from(value);
-                square[lane] += f64::from(value) * f64::from(value);
-            }
+    /// Takes the light away from a frame.
+    ///
+    /// # Errors
+    ///
+    /// [`Refused`] where the frame is too large, or has the wrong number of pels.
+    pub fn of(frame: &Frame<'_>) -> Result<Self, Refused> {
+        let &Frame { pels, width, height, most } = frame;
+        if width.max(height) > belt::MOST_SIDE {
+            return Err(Refused::TooLarge);
         }
-        let count = self.values.len().max(1) as f64;
-        let mean = plain.iter().sum::<i64>() as f64 / count;
-        (square.iter().sum::<f64>() / count - mean * mean).max(0.0).sqrt() * self.unit
+        if pels.len() != width * height {
+            return Err(Refused::Pels { given: pels.len(), wanted: width * height });
+        }
+        let values = if pels.is_empty() { Vec::new() } else { less_around(&smoothed(frame), width, height) };
+        let unit = SCALE / f64::from(most.max(1)) / f64::from(WEIGHTS * WINDOW);
+        let is_flat = pels.iter().all(|pel| *pel == pels[0]);
+        Ok(Self { width, height, deviation: unit * deviation(&values), values, unit, is_flat })
     }
 
-    fn plane(&self, frame: &Frame<'_>, contrast: f64) -> Plane {
+    fn plane(&self, contrast: f64) -> Plane {
         let factor = (self.unit * contrast) as f32;
         // the cast rounds down, and holds what is below 0
         let pel = |&value: &i32| (value as f32 * factor + (MIDDLE + 0.5) as f32).min(MOST) as u16;
-        Plane { width: frame.width, height: frame.height, pels: self.values.iter().map(pel).collect() }
+        Plane { width: self.width, height: self.height, pels: self.values.iter().map(pel).collect() }
     }
 }
 
-/// Both frames normalised: each has pels, and both have the same sides.
-pub(crate) fn normalised(first: &Frame<'_>, second: &Frame<'_>) -> (Plane, Plane) {
-    let (earlier, later) = (Detail::of(first), Detail::of(second));
-    let (wanted, own) = (earlier.deviation(), later.deviation());
+/// The standard deviation.
+fn deviation(values: &[i32]) -> f64 {
+    let (mut plain, mut square) = ([0i64; LANES], [0f64; LANES]);
+    for values in values.chunks(LANES) {
+        for (lane, &value) in values.iter().enumerate() {
+            plain[lane] += i64::from(value);
+            square[lane] += f64::from(value) * f64::from(value);
+        }
+    }
+    let count = values.len().max(1) as f64;
+    let mean = plain.iter().sum::<i64>() as f64 / count;
+    (square.iter().sum::<f64>() / count - mean * mean).max(0.0).sqrt()
+}
+
+/// Both frames as planes, the second with the first's contrast.
+pub(crate) fn planes(first: &Detail, second: &Detail) -> (Plane, Plane) {
+    let (wanted, own) = (first.deviation, second.deviation);
     let contrast = if own > 0.0 { (wanted / own).clamp(1.0 / MOST_CONTRAST, MOST_CONTRAST) } else { 1.0 };
-    (earlier.plane(first, 1.0), later.plane(second, contrast))
+    (first.plane(1.0), second.plane(contrast))
 }
 
 /// Weights 1, 2, 1 across and down, edges repeated.
@@ -126,6 +146,10 @@ fn summed_across(values: &[u32], width: usize) -> Vec<u32> {
 #[cfg(test)]
 mod tests {
     use super::*;
+
+    fn normalised(first: &Frame<'_>, second: &Frame<'_>) -> (Plane, Plane) {
+        planes(&Detail::of(first).unwrap(), &Detail::of(second).unwrap())
+    }
 
     /// A pel and its window, added up one by one.
     fn plainly(frame: &Frame<'_>, x: isize, y: isize) -> f64 {

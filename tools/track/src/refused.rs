@@ -25,6 +25,13 @@ pub enum Refused {
         /// How many blocks there are.
         wanted: usize,
     },
+    /// The words of a search aren't one for each whole block.
+    Words {
+        /// How many there are.
+        given: usize,
+        /// How many blocks there are.
+        wanted: usize,
+    },
     /// The library refused. No case is known.
     Library(Refusal),
 }
@@ -42,6 +49,7 @@ impl fmt::Display for Refused {
             Self::Pels { given, wanted } => write!(f, "a frame has {given} pels, and its sides say {wanted}"),
             Self::Unlike => write!(f, "the frames have different sides"),
             Self::Mask { given, wanted } => write!(f, "the mask has {given} blocks, and {wanted} are wanted"),
+            Self::Words { given, wanted } => write!(f, "a search has {given} words, and {wanted} are wanted"),
             Self::Library(refusal) => write!(f, "{refusal}"),
         }
     }

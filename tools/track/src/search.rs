@@ -9,20 +9,26 @@ pub(crate) struct Search {
     blocks: usize,
     /// The blocks that were searched.
     searched: usize,
+    /// The words of the first search, where it was made already.
+    known: Option<Vec<u32>>,
     input_half: Vec<u16>,
     ref_half: Vec<u16>,
 }
 
 impl Search {
-    /// For a frame of so many blocks.
-    pub(crate) fn new(blocks: usize) -> Self {
-        Self { blocks, searched: 0, input_half: Vec::new(), ref_half: Vec::new() }
+    /// For a frame of so many blocks, whose first search may have been made already.
+    pub(crate) fn new(blocks: usize, known: Option<&[u32]>) -> Self {
+        Self { blocks, searched: 0, known: known.map(<[u32]>::to_vec), input_half: Vec::new(), ref_half: Vec::new() }
     }
 
     /// The motion of each block of the first plane in the second: a word for each.
     pub(crate) fn words(&mut self, pair: Pair<'_>) -> Result<Vec<u32>, Refusal> {
         let (width, height) = (pair.first.width, pair.first.height);
         let (samples, half) = (belt::sample_count(width, height), belt::half_plane_values(width, height));
+        self.searched += samples;
+        if let Some(words) = self.known.take() {
+            return Ok(words);
+        }
         self.input_half.resize(half, 0);
         self.ref_half.resize(half, 0);
         let mut words = vec![0; samples];
@@ -36,7 +42,6 @@ impl Search {
             &mut self.ref_half,
             &mut words,
         )?;
-        self.searched += samples;
         Ok(words)
     }
 

@@ -1,10 +1,13 @@
 //! How the blocks moved, whatever model explains them: how many stood still, and what most of the others did.
 
 use crate::cloud::Cloud;
+use crate::model::Model;
 use belt::{MOST_EIGHTHS, Motion};
 
 /// A block stands still within so many pels.
 const STILL: f32 = 0.25;
+/// A model moves a block surely by more than so many pels.
+const MOVES: f64 = 0.5;
 /// Motions are gathered in cells of so many to a pel; the commonest are those of two cells by two.
 const CELLS: usize = 2;
 /// The cells across and down.
@@ -43,6 +46,14 @@ pub(crate) fn shares(usable: &Cloud) -> Shares {
     let share = |count: usize| count as f64 / usable.len() as f64;
     let commonest = commonest(&moved).map(|(motion, count)| Common { motion, share: share(count) });
     Shares { still: share(usable.len() - moved.len()), commonest }
+}
+
+/// The share of blocks that stand still where a model moves.
+pub(crate) fn standing(usable: &Cloud, model: &Model) -> f64 {
+    let still = usable.u.iter().zip(&usable.v).map(|(u, v)| u.hypot(*v) <= STILL);
+    let places = usable.x.iter().zip(&usable.y).map(|(x, y)| model.motion_at(f64::from(*x), f64::from(*y)));
+    let against = still.zip(places).filter(|(still, Motion { u, v })| *still && u.hypot(*v) > MOVES).count();
+    against as f64 / usable.len().max(1) as f64
 }
 
 /// The cell of a motion along one side.
@@ -90,6 +101,17 @@ mod tests {
         let Common { motion, share } = commonest.unwrap();
         assert_eq!(share, 0.15);
         assert!((motion.u - (-24.0 * 10.0 - 25.0 * 5.0) / 15.0 / 8.0).abs() < 1e-6, "{motion:?}");
+    }
+
+    #[test]
+    fn blocks_stand_where_a_model_moves() {
+        // three blocks of one row, of which the middle one stands
+        let words = [(0u32, 16), (1, 0), (2, 16)].map(|(column, u)| column << 20 | 223 << 11 | (223 + u) << 2);
+        let cloud: Cloud = words.into_iter().collect();
+        assert_eq!(standing(&cloud, &Model::translation(2.0, 0.0)), 1.0 / 3.0);
+        // a zoom that doesn't move the middle one
+        assert_eq!(standing(&cloud, &Model::rotzoom(-2.35, -0.75, 1.1, 0.0)), 0.0);
+        assert_eq!(standing(&cloud, &Model::IDENTITY) + standing(&Cloud::default(), &Model::IDENTITY), 0.0);
     }
 
     #[test]

@@ -1,6 +1,6 @@
 //! Frames of any sides and any values: an answer or a refusal, never a panic.
 
-use track::{Answer, Frame, Options, Refused, Status};
+use track::{Answer, Detail, Frame, Options, Planes, Refused, Status};
 
 /// Values of a kind: noise, black and white, all but flat, a slope that wraps.
 fn pels(kind: usize, width: usize, height: usize, seed: u32) -> Vec<u16> {
@@ -72,4 +72,18 @@ fn frames_that_do_not_fit_are_refused() {
     assert_eq!(said(frame(32, 16, 512), frame(32, 16, 511)), Refused::Pels { given: 511, wanted: 512 });
     let sentences = [Refused::TooLarge, Refused::Unlike, Refused::Mask { given: 1, wanted: 2 }].map(|r| r.to_string());
     assert!(sentences.iter().all(|sentence| sentence.len() > 20));
+}
+
+/// Words that were searched already, and frames whose light was taken away already, have the same answer.
+#[test]
+fn nothing_is_done_twice() {
+    let pels = [0, 1].map(|kind| pels(kind, 96, 96, 255));
+    let [first, second] = [&pels[0], &pels[1]].map(|pels| Frame { pels, width: 96, height: 96, most: 255 });
+    let answer = track::measure(&first, &second, &Options::default()).unwrap();
+    let details = [&first, &second].map(|frame| Detail::of(frame).unwrap());
+    let planes = Planes::between(&details[0], &details[1]).unwrap();
+    assert!(!answer.words.is_empty() && planes.first().len() == 96 * 96);
+    assert_eq!(planes.measure(Some(&answer.words), &Options::default()), Ok(answer.clone()));
+    let refused = planes.measure(Some(&answer.words[1..]), &Options::default());
+    assert_eq!(refused, Err(Refused::Words { given: 35, wanted: 36 }));
 }

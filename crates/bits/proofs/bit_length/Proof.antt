@@ -1,31 +1,18 @@
--- `bits::bit_length`: each halving takes one bit off, and nothing is left at 0. Assumes nothing.
-use borrow.Author.Needs.{needs}
+-- `bits::bit_length`: the zeros in front and the number's bits make 32. Assumes nothing.
 use Rattle.bits.proofs.bit_length.Statement.{statement}
 use Rattle.bits.proofs.bit_length.Tie as tie
-use Prim.Native.Nat.{_+_, _≤_}
-use mathlib.Core.Path.{_≡_, ap}
+use Prim.Native.Nat.{ℕ, _-_, _^_, _<_, _≤_}
+use mathlib.Core.Path.{_≡_}
 use native.Mathlib.Omega.{arith}
+use lib.Count.{leadingZeros, leading-le}
 use Rattle.bits.specs.Ns.{bitLength}
-use Rattle.bits.proofs.BitLength.{bitLength-step, bitLength-zero, bitLength-le}
+use Rattle.bits.proofs.BitLength.{bitLength-le, behind-zeros}
 
-abbrev Inv-loop : tie.InvT-loop
-Inv-loop n x₀ count₀ x count = (count + bitLength x ≡ bitLength n) × (x ≤ n)
+sub-result : tie.Need-sub-result
+sub-result c = leading-le 32 (c .args .n)
 
-abbrev μ-loop : tie.MeasureT-loop
-μ-loop n x₀ count₀ x count = x
-
-loop-holds : tie.Need-loop-holds Inv-loop μ-loop
-loop-holds c = omega arith
-
-add-count : tie.Need-add-count Inv-loop μ-loop
-add-count c = omega (arith, bitLength-le (c .before .before .args .n) 32 (omega arith))
-
-loop-again : tie.Need-loop-again Inv-loop μ-loop
-loop-again c = omega (arith, bitLength-step (c .before .loop .x) (omega arith))
-
-returns : tie.Need-returns Inv-loop μ-loop
-returns c = omega (arith, bitLength-le (c .before .before .args .n) 32 (omega arith), ap bitLength (c .loop-test .left), bitLength-zero)
+returns : tie.Need-returns
+returns c = (behind-zeros (c .args .n) (omega arith), omega arith)
 
 pub bit-length-spec : {M : Type 1} → statement M
-bit-length-spec =
-    tie.close (tie.spec Inv-loop μ-loop loop-holds add-count (search needs) loop-again returns)
+bit-length-spec = tie.close (tie.spec sub-result returns)

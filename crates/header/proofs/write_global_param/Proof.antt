@@ -8,7 +8,7 @@ use lib.IntN.{ℤ}
 use Rattle.grid.specs.Inner.{SymbolsIs, SymbolIs, PriorIn}
 use mathlib.Core.Path.{sym}
 use native.Mathlib.Omega.{arith}
-use Rattle.bits.proofs.HeldBack.{put-as, ready-as}
+use Rattle.bits.proofs.Buffer.{wrote-as, room-as}
 use Rattle.header.proofs.Coefficient.{coded}
 
 symbols-of-requires : tie.Need-symbols-of-requires
@@ -25,7 +25,7 @@ encode-unsigned-subexp-with-ref-requires c κs =
       s .below,
       omega (arith, s .mx, t .below),
       omega (arith, s .few),
-      ready-as (a .header .now) (a .pen) _ _ (sym (coded (a .gm-type) (a .flag) (a .slot) (a .value) (a .prior) _ _ _ (s .mx) (s .stands) (t .is))) (e .pre .1),
+      room-as (a .header .now) (a .cursor .at) _ _ (sym (coded (a .gm-type) (a .flag) (a .slot) (a .value) (a .prior) _ _ _ (s .mx) (s .stands) (t .is))) (e .pre .1),
     )
 
 returns : tie.Need-returns
@@ -36,7 +36,7 @@ returns c =
     let own = c .before .before .before .before .symbol-of in
     let s = subst (λ (q : ℤ). SymbolsIs (a .gm-type) (a .flag) (a .slot) q (among .result)) (toZ-ofZ (e .fits .prior)) (among .ensures) in
     let t = subst (λ (z : ℤ). SymbolIs (a .gm-type) (a .flag) (a .slot) z (own .result)) (toZ-ofZ (e .fits .value)) (own .ensures) in
-    put-as _ _ (coded (a .gm-type) (a .flag) (a .slot) (a .value) (a .prior) _ _ _ (s .mx) (s .stands) (t .is)) (c .before .before .encode-unsigned-subexp-with-ref .ensures)
+    wrote-as _ _ (coded (a .gm-type) (a .flag) (a .slot) (a .value) (a .prior) _ _ _ (s .mx) (s .stands) (t .is)) (c .before .before .encode-unsigned-subexp-with-ref .ensures)
 
 pub write-global-param-spec : {M : Type 1} → statement M
 write-global-param-spec =

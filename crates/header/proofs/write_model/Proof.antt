@@ -1,4 +1,4 @@
--- `write_model`: at each turn one slot more has come to the pen, and at the end all.
+-- `write_model`: at each turn one slot more is written, and at the end all.
 -- Assumes nothing.
 use Prim.Native.Nat.{ℕ, _+_, _-_, _≤_, _<_}
 use mathlib.Core.List.{List, _++_}
@@ -6,9 +6,8 @@ use native.Mathlib.Omega.{arith}
 use borrow.Author.Needs.{needs}
 use lib.IntN.{ℤ}
 use lib.ListN.{length, getD, drop, drop-of-length-le}
-use Rattle.bits.specs.Inner.{Ready, Put}
-use Rattle.bits.specs.declared.Pen.{Pen}
-use Rattle.bits.proofs.HeldBack.{Reached, put-length, reached-first, reached-ready, reached-more, reached-last}
+use Rattle.bits.specs.Inner.{Room, Wrote}
+use Rattle.bits.proofs.Buffer.{Reached, reached-first, reached-room, reached-more, reached-last}
 use Rattle.grid.specs.Inner.{SlotsIs}
 use Rattle.grid.specs.Slots.{slotsOf}
 use Rattle.grid.specs.declared.SlotOrder.{SlotOrder}
@@ -23,29 +22,29 @@ module _ (flag : ℕ) (ps qs : List ℤ) (gmType first : ℕ) where
   abbrev left : ℕ → List ℕ
   left i = slotsBits flag ps qs gmType first (drop i (slotsOf gmType))
 
-  module _ (s : SlotOrder) (e : SlotsIs gmType s) {l₀ all l : List ℕ} {p₀ p : Pen} (i : ℕ) (h : i < s .count) (w : Reached l₀ p₀ all l p (left i)) where
+  module _ (s : SlotOrder) (e : SlotsIs gmType s) {l₀ all l : List ℕ} {j₀ j : ℕ} (i : ℕ) (h : i < s .count) (w : Reached l₀ j₀ all l j (left i)) where
     abbrev one : List ℕ
     one = slotBits flag ps qs gmType first (getD (s .order) i 0)
 
-    ahead : Reached l₀ p₀ all l p (one ++ left (i + 1))
+    ahead : Reached l₀ j₀ all l j (one ++ left (i + 1))
     ahead = rw (slots-left gmType s e i h) at w
 
-    ready : Ready l₀ p₀ (length all) → Ready l p (length one)
-    ready = reached-ready one (left (i + 1)) ahead
+    room : Room l₀ j₀ (length all) → Room l j (length one)
+    room = reached-room one (left (i + 1)) ahead
 
-    more : (l' : List ℕ) (p' : Pen) → Put l p one l' p' → Reached l₀ p₀ all l' p' (left (i + 1))
+    more : (l' : List ℕ) (j' : ℕ) → Wrote l j one l' j' → Reached l₀ j₀ all l' j' (left (i + 1))
     more = reached-more one (left (i + 1)) ahead
 
 abbrev Inv-loop : tie.InvT-loop
 Inv-loop header₀ gmType flag params prior first order count next₀ i₀ header next i =
-    (i ≤ count) × Reached header₀ next₀ (modelBits flag params prior gmType first) header next (left flag params prior gmType first i)
+    (i ≤ count) × Reached header₀ (next₀ .at) (modelBits flag params prior gmType first) header (next .at) (left flag params prior gmType first i)
 
 abbrev μ-loop : tie.MeasureT-loop
 μ-loop header₀ gmType flag params prior first order count next₀ i₀ header next i = count - i
 
 loop-holds : tie.Need-loop-holds Inv-loop μ-loop
 unfolding modelBits
-loop-holds c = (omega arith, reached-first _ _ _ (c .before .before .before .pre .1))
+loop-holds c = (omega arith, reached-first _ _ _)
 
 array-read-write-slot : tie.Need-array-read-write-slot Inv-loop μ-loop
 array-read-write-slot c =
@@ -60,7 +59,7 @@ write-slot-requires c κs =
     let l = c .before .before .loop in (
       pre .0,
       slot-known (a .gm-type) (s .result) (s .ensures) (l .i) (c .before .loop-test .taken),
-      ready (a .flag) (a .params .now) (a .prior .now) (a .gm-type) (a .first) (s .result) (s .ensures) (l .i) (c .before .loop-test .taken) (l .inv .1) (pre .1),
+      room (a .flag) (a .params .now) (a .prior .now) (a .gm-type) (a .first) (s .result) (s .ensures) (l .i) (c .before .loop-test .taken) (l .inv .1) (pre .1),
     )
 
 loop-again : tie.Need-loop-again Inv-loop μ-loop
@@ -74,7 +73,7 @@ loop-again c =
     )
 
 same-length : tie.Need-same-length Inv-loop μ-loop
-same-length c = put-length _ (c .before .loop .inv .1 .put)
+same-length c = c .before .loop .inv .1 .long
 
 returns : tie.Need-returns Inv-loop μ-loop
 returns c =

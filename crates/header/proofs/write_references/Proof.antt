@@ -1,19 +1,17 @@
--- `write_references`: at each turn one reference more has come to the pen, or a run of identities, and at the end all.
+-- `write_references`: at each turn one reference more is written, or a run of identities, and at the end all.
 -- Assumes nothing.
 use Prim.Native.Nat.{ℕ, zero, suc, _+_, _*_, _-_, _^_, _≤_, _<_}
 use mathlib.Core.List.{List, [], _∷_, _++_}
 use mathlib.Core.Path.{_≡_, ap, sym, _∙_, subst}
 use native.Mathlib.Nat.{add-zero, zero-div}
 use native.Mathlib.Omega.{arith}
-use lib.Pow.{pow-pos}
 use lib.IntN.{ℤ}
 use lib.ListN.{length, getD}
 use borrow.Author.Needs.{needs}
-use Rattle.bits.specs.Inner.{Ready, Put}
-use Rattle.bits.specs.declared.Pen.{Pen}
+use Rattle.bits.specs.Inner.{Room, Wrote}
 use Rattle.bits.specs.Fields.{fieldBits}
 use Rattle.bits.proofs.Fields.{length-fieldBits}
-use Rattle.bits.proofs.HeldBack.{Reached, put-length, reached-first, reached-ready, reached-more, reached-last}
+use Rattle.bits.proofs.Buffer.{Reached, reached-first, reached-room, reached-more, reached-last}
 use Rattle.header.specs.Inner.{Identities}
 use Rattle.header.specs.Writing.{modelBits, referenceBits, referencesBits, headerBits}
 use Rattle.header.proofs.RoundTrip.{model-ready}
@@ -50,26 +48,26 @@ module _ (flag : ℕ) (types : List ℕ) (ps qs : List ℤ) where
       next each i l = subst (λ (k : ℕ). getD types k 0 ≡ 0) (let e : r + suc i ≡ r + 1 + i = omega arith in e) (each (suc i) (omega arith))
 
   -- the bits xs come next, up to reference s
-  module _ {l₀ all l : List ℕ} {p₀ p : Pen} (r s : ℕ) (xs : List ℕ) (e : left r ≡ xs ++ left s) (w : Reached l₀ p₀ all l p (left r)) where
-    ahead : Reached l₀ p₀ all l p (xs ++ left s)
+  module _ {l₀ all l : List ℕ} {j₀ j : ℕ} (r s : ℕ) (xs : List ℕ) (e : left r ≡ xs ++ left s) (w : Reached l₀ j₀ all l j (left r)) where
+    ahead : Reached l₀ j₀ all l j (xs ++ left s)
     ahead = rw e at w
 
-    ready : Ready l₀ p₀ (length all) → Ready l p (length xs)
-    ready = reached-ready xs (left s) ahead
+    room : Room l₀ j₀ (length all) → Room l j (length xs)
+    room = reached-room xs (left s) ahead
 
-    more : (l' : List ℕ) (p' : Pen) → Put l p xs l' p' → Reached l₀ p₀ all l' p' (left s)
+    more : (l' : List ℕ) (j' : ℕ) → Wrote l j xs l' j' → Reached l₀ j₀ all l' j' (left s)
     more = reached-more xs (left s) ahead
 
 abbrev Inv-loop : tie.InvT-loop
 Inv-loop header₀ types flag params prior next₀ r₀ header next r =
-    (r ≤ 7) × Reached header₀ next₀ (headerBits types params flag prior) header next (left flag types params prior r)
+    (r ≤ 7) × Reached header₀ (next₀ .at) (headerBits types params flag prior) header (next .at) (left flag types params prior r)
 
 abbrev μ-loop : tie.MeasureT-loop
 μ-loop header₀ types flag params prior next₀ r₀ header next r = 7 - r
 
 loop-holds : tie.Need-loop-holds Inv-loop μ-loop
 unfolding headerBits
-loop-holds c = (omega arith, reached-first _ _ _ (c .before .before .pre .1))
+loop-holds c = (omega arith, reached-first _ _ _)
 
 identities-requires : tie.Need-identities-requires Inv-loop μ-loop
 identities-requires c κs = omega (arith, c .before .before .before .before .pre .0 .all .seven, c .before .loop .inv .0)
@@ -88,7 +86,7 @@ write-reference-requires c κs =
     let l = c .before .before .before .before .before .loop in
     let more-bits = left-more (a .flag) (a .types .now) (a .params .now) (a .prior .now) (l .r) (loop-test .taken) in (
       model-ready (a .types .now) (a .params .now) (a .prior .now) (l .r) (pre .0) (loop-test .taken),
-      ready (a .flag) (a .types .now) (a .params .now) (a .prior .now) (l .r) (l .r + 1) (one (a .flag) (a .types .now) (a .params .now) (a .prior .now) (l .r)) more-bits (l .inv .1) (pre .1),
+      room (a .flag) (a .types .now) (a .params .now) (a .prior .now) (l .r) (l .r + 1) (one (a .flag) (a .types .now) (a .params .now) (a .prior .now) (l .r)) more-bits (l .inv .1) (pre .1),
     )
 
 loop-again : tie.Need-loop-again Inv-loop μ-loop
@@ -102,11 +100,11 @@ loop-again c =
           (l .inv .1) _ _ (c .before .before .write-reference .ensures),
     )
 
-cast-t17 : tie.Need-cast-t17 Inv-loop μ-loop
-cast-t17 c = omega (arith, c .before .identities .ensures .within, c .before .before .before .before .before .before .pre .0 .all .seven)
+cast-write-bits : tie.Need-cast-write-bits Inv-loop μ-loop
+cast-write-bits c = omega (arith, c .before .before .identities .ensures .within, c .before .before .before .before .before .before .before .pre .0 .all .seven)
 
-put-requires : tie.Need-put-requires Inv-loop μ-loop
-put-requires c κs =
+write-bits-requires : tie.Need-write-bits-requires Inv-loop μ-loop
+write-bits-requires c κs =
     let still = c .before .before .identities in
     let pre = c .before .before .before .before .before .before .before .pre in
     let a = c .before .before .before .before .before .before .before .args in
@@ -114,8 +112,7 @@ put-requires c κs =
     let n = still .result in
     let run = zeros (a .flag) (a .types .now) (a .params .now) (a .prior .now) n (l .r) (still .ensures) (omega (arith, still .ensures .within, pre .0 .all .seven)) in (
       omega (arith, still .ensures .within, pre .0 .all .seven),
-      pow-pos n,
-      rw (length-fieldBits n 0) at (ready (a .flag) (a .types .now) (a .params .now) (a .prior .now) (l .r) (l .r + n) (fieldBits n 0) run (l .inv .1) (pre .1)),
+      rw (length-fieldBits n 0) at (room (a .flag) (a .types .now) (a .params .now) (a .prior .now) (l .r) (l .r + n) (fieldBits n 0) run (l .inv .1) (pre .1)),
     )
 
 add-r-2 : tie.Need-add-r-2 Inv-loop μ-loop
@@ -133,11 +130,11 @@ loop-again-2 c =
     let n = still .result in
     let run = zeros (a .flag) (a .types .now) (a .params .now) (a .prior .now) n (l .r) (still .ensures) (omega (arith, still .ensures .within, pre .0 .all .seven)) in (
       omega (arith, still .ensures .within, pre .0 .all .seven),
-      more (a .flag) (a .types .now) (a .params .now) (a .prior .now) (l .r) (l .r + n) (fieldBits n 0) run (l .inv .1) _ _ (c .before .before .put .ensures),
+      more (a .flag) (a .types .now) (a .params .now) (a .prior .now) (l .r) (l .r + n) (fieldBits n 0) run (l .inv .1) _ _ (c .before .before .write-bits .ensures),
     )
 
 same-length : tie.Need-same-length Inv-loop μ-loop
-same-length c = put-length _ (c .before .loop .inv .1 .put)
+same-length c = c .before .loop .inv .1 .long
 
 returns : tie.Need-returns Inv-loop μ-loop
 returns c =
@@ -148,6 +145,6 @@ returns c =
 pub write-references-spec : {M : Type 1} → statement M
 write-references-spec =
     tie.close
-    (tie.spec Inv-loop μ-loop loop-holds identities-requires shared-slice-read-write-reference mul-write-reference write-reference-requires (λ c. omega arith) (λ c. omega arith) loop-again cast-t17
-    put-requires add-r-2 loop-less-2
+    (tie.spec Inv-loop μ-loop loop-holds identities-requires shared-slice-read-write-reference mul-write-reference write-reference-requires (λ c. omega arith) (λ c. omega arith) loop-again cast-write-bits
+    write-bits-requires add-r-2 loop-less-2
     loop-again-2 same-length returns)

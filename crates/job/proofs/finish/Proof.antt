@@ -11,13 +11,13 @@ model-of-named-requires c κs = c .before .before .before .before .before .pre
 returns : tie.Need-returns
 returns c =
     let a = c .before .before .before .before .before .before .before .before .before .args in
-    finish-refused (a .settings) (a .types .now) (a .models .now) (a .prior .now) (a .words .now) (a .classes .now) (a .blocks .now) (a .header .now)
+    finish-refused (a .settings) (a .form) (a .types .now) (a .models .now) (a .prior .now) (a .words .now) (a .classes .now) (a .blocks .now) (a .header .now)
     (c .before .before .before .model-of-named .ensures) (c .before .if1 .taken) (c .refused .ensures)
 
 returns-2 : tie.Need-returns-2
 returns-2 c =
     let a = c .before .before .before .before .before .before .before .before .before .before .before .before .before .before .before .args in
-    finish-written (a .settings) (a .types .now) (a .models .now) (a .prior .now) (a .words .now) (a .classes .now) (a .blocks .now) (a .header .now)
+    finish-written (a .settings) (a .form) (a .types .now) (a .models .now) (a .prior .now) (a .words .now) (a .classes .now) (a .blocks .now) (a .header .now)
     (c .before .before .before .before .before .before .before .before .before .model-of-named .ensures)
     (c .before .before .before .before .before .before .before .if1 .left) (c .before .before .before .before .write-out .ensures)
 

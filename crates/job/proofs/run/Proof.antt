@@ -2,7 +2,7 @@
 -- Assumes nothing.
 use borrow.Author.Needs.{needs}
 use Rattle.class_set.proofs.Front.{front-count, front-there}
-use Rattle.job_task.specs.Task.{Task, Lent, task, lend}
+use Rattle.job_task.specs.Task.{Task, Lent, taskIn, lend}
 use Rattle.job_task.proofs.Accepted.{ready}
 use Rattle.job.proofs.Ending.{found-front, found-naming, ended-found}
 use Rattle.job.proofs.run.Statement.{statement}
@@ -13,7 +13,7 @@ slice-reshare-prefix-finish c =
     let h = c .before .before .before .before .before .before .before .before .before in
     let e = h .before .before .before .before .before .before .before .before .before .before in
     let a = e .args in
-    let j : Task = task (a .input .now) (a .reference .now) (a .width) (a .height) (a .settings) (a .classes .now) (a .types .now) (a .models .now) (a .prior .now) in
+    let j : Task = taskIn (a .form) (a .input .now) (a .reference .now) (a .width) (a .height) (a .settings) (a .classes .now) (a .types .now) (a .models .now) (a .prior .now) in
     let l : Lent = lend (a .input-half .now) (a .ref-half .now) (a .words .now) (a .blocks .now) (a .header .now) in
     front-there (found-front j l (ready j l (e .pre)) (c .before .before .before .before .before .before .collect-motion-samples .ensures))
 
@@ -22,7 +22,7 @@ slice-aggregate-finish c =
     let h = c .before .before .before .before .before .before .before .before .before .before in
     let e = h .before .before .before .before .before .before .before .before .before .before in
     let a = e .args in
-    let j : Task = task (a .input .now) (a .reference .now) (a .width) (a .height) (a .settings) (a .classes .now) (a .types .now) (a .models .now) (a .prior .now) in
+    let j : Task = taskIn (a .form) (a .input .now) (a .reference .now) (a .width) (a .height) (a .settings) (a .classes .now) (a .types .now) (a .models .now) (a .prior .now) in
     let l : Lent = lend (a .input-half .now) (a .ref-half .now) (a .words .now) (a .blocks .now) (a .header .now) in
     front-count (found-front j l (ready j l (e .pre)) (c .before .before .before .before .before .before .before .collect-motion-samples .ensures))
 
@@ -31,7 +31,7 @@ finish-requires c κs =
     let h = c .before .before .before .before .before .before .before .before .before .before .before in
     let e = h .before .before .before .before .before .before .before .before .before .before .before in
     let a = e .args in
-    let j : Task = task (a .input .now) (a .reference .now) (a .width) (a .height) (a .settings) (a .classes .now) (a .types .now) (a .models .now) (a .prior .now) in
+    let j : Task = taskIn (a .form) (a .input .now) (a .reference .now) (a .width) (a .height) (a .settings) (a .classes .now) (a .types .now) (a .models .now) (a .prior .now) in
     let l : Lent = lend (a .input-half .now) (a .ref-half .now) (a .words .now) (a .blocks .now) (a .header .now) in
     found-naming j l (ready j l (e .pre)) (c .before .before .before .before .before .before .before .before .before .collect-motion-samples .ensures)
 
@@ -40,7 +40,7 @@ returns c =
     let h = c .before .before .before .before .before .before .before .before .before .before .before .before .before in
     let e = h .before .before .before .before .before .before .before .before .before .before .before .before .before .before in
     let a = e .args in
-    let j : Task = task (a .input .now) (a .reference .now) (a .width) (a .height) (a .settings) (a .classes .now) (a .types .now) (a .models .now) (a .prior .now) in
+    let j : Task = taskIn (a .form) (a .input .now) (a .reference .now) (a .width) (a .height) (a .settings) (a .classes .now) (a .types .now) (a .models .now) (a .prior .now) in
     let l : Lent = lend (a .input-half .now) (a .ref-half .now) (a .words .now) (a .blocks .now) (a .header .now) in
     ended-found j l (e .pre) (h .before .collect-motion-samples .ensures) (c .before .before .before .before .finish .ensures)
 

@@ -13,7 +13,7 @@ returns : tie.Need-returns
 returns c =
     let a = c .before .before .before .before .before .before .before .before .before .before .before .before .before .before .before .before .args in
     let w = c .before .before .encode-inter-global-motion .ensures in
-    finish-same (ap (λ (w : Written). reportOf (a .m) (w .bits) (length (a .words .now))) (w .0)) (c .before .before .before .before .before .before .before .before .write-frame .ensures .1) (w .1)
+    finish-same (ap (λ (w : Written). reportOf (a .m) (w .bits) (length (a .words .now))) (w .0)) (c .before .before .before .before .before .before .before .before .store .ensures .1) (w .1)
 
 pub write-out-spec : {M : Type 1} → statement M
 write-out-spec = tie.close (tie.spec (search needs) (λ c. search needs) (λ c. search needs) (search needs) (search needs) (search needs) returns)

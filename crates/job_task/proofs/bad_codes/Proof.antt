@@ -62,7 +62,7 @@ returns-6 c =
 
 returns-7 : tie.Need-returns-7
 returns-7 c =
-    let e = c .before in
+    let e = c .before .before in
     let r = e .before .before in
     let f = r .before .before in
     let t = f .before .before in
@@ -74,9 +74,29 @@ returns-7 c =
       le-ltb 1 (b .before .before .before .before .before .before .args .settings .flag) (f .if4 .left),
       sym (r .before .bad-trim .ensures) ∙ r .if5 .left,
       le-ltb 1 (b .before .before .before .before .before .before .args .settings .elect) (e .if6 .left),
+      sym (c .before .names-over .ensures) ∙ c .if7 .taken,
     )
-    (c .names-over .ensures)
+
+returns-8 : tie.Need-returns-8
+returns-8 c =
+    let n = c .before in
+    let e = n .before .before in
+    let r = e .before .before in
+    let f = r .before .before in
+    let t = f .before .before in
+    let b = t .before .before in
+    rw (
+      sym (b .before .before .before .some-over .ensures) ∙ b .before .before .if1 .left,
+      sym (b .before .bad-type .ensures) ∙ b .if2 .left,
+      sym (t .before .types-over .ensures) ∙ t .if3 .left,
+      le-ltb 1 (b .before .before .before .before .before .before .args .settings .flag) (f .if4 .left),
+      sym (r .before .bad-trim .ensures) ∙ r .if5 .left,
+      le-ltb 1 (b .before .before .before .before .before .before .args .settings .elect) (e .if6 .left),
+      sym (n .before .names-over .ensures) ∙ n .if7 .left,
+    )
+    (c .no-form .ensures)
 
 pub bad-codes-spec : {M : Type 1} → statement M
 bad-codes-spec =
-    tie.close (tie.spec (search needs) returns (λ c κs. search needs) returns-2 (search needs) returns-3 returns-4 (λ c κs. search needs) returns-5 returns-6 (search needs) returns-7)
+    tie.close
+    (tie.spec (search needs) returns (λ c κs. search needs) returns-2 (search needs) returns-3 returns-4 (λ c κs. search needs) returns-5 returns-6 (search needs) returns-7 (search needs) returns-8)

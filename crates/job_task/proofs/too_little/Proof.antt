@@ -1,11 +1,13 @@
 -- `job_task::too_little`: each test is the definition's next one, and at most 4,096 samples keep the products small.
 -- Assumes nothing.
-use Prim.Native.Nat.{_*_}
+use Prim.Native.Nat.{_*_, _/_, _<_}
 use native.Mathlib.Omega.{arith}
 use borrow.Author.Tests.{lt-ltb, le-ltb}
 use mathlib.Core.Path.{sym, _∙_}
 use borrow.Author.Needs.{needs}
 use Rattle.forms.specs.Forms.{codecOf}
+use Rattle.forms.proofs.Lawful.{lawful}
+use Rattle.block.proofs.Accepted.{blocks-few}
 use Rattle.search.proofs.Rows.{count-small}
 use Rattle.job_task.proofs.too_little.Statement.{statement}
 use Rattle.job_task.proofs.too_little.Tie as tie
@@ -24,13 +26,14 @@ blocks-of-requires c κs =
     omega (arith, count-small (e .args .sizes .width) (e .args .sizes .height) (e .pre .narrow) (e .pre .low))
 
 mul-if2 : tie.Need-mul-if2
-unfolding codecOf
 mul-if2 c =
     let e = c .before .before .before .before .before in
-    omega (arith, count-small (e .args .sizes .width) (e .args .sizes .height) (e .pre .narrow) (e .pre .low), c .blocks-of .ensures)
+    let width = e .args .sizes .width in
+    let height = e .args .sizes .height in
+    let few : height / 16 * (width / 16) < 65536 = omega (arith, count-small width height (e .pre .narrow) (e .pre .low)) in
+    omega (arith, c .blocks-of .ensures, blocks-few (codecOf (e .args .form)) (lawful (e .args .form)) (height / 16 * (width / 16)) few)
 
 returns-2 : tie.Need-returns-2
-unfolding codecOf
 returns-2 c =
     rw (
       (sym (c .before .before .before .before .before .before .too-short .ensures) ∙ c .before .before .before .before .before .if1 .left),
@@ -39,7 +42,6 @@ returns-2 c =
     )
 
 returns-3 : tie.Need-returns-3
-unfolding codecOf
 returns-3 c =
     rw (
       (sym (c .before .before .before .before .before .before .before .too-short .ensures) ∙ c .before .before .before .before .before .before .if1 .left),

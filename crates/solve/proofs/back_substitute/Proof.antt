@@ -6,7 +6,7 @@ use Rattle.laws.proofs.Loops.{again, done}
 use Rattle.laws.specs.Loops.{run}
 use mathlib.Core.Path.{_≡_, refl}
 use Rattle.solve.specs.Elimination.{system}
-use Rattle.solve.specs.Solution.{unknownStep, unknowns}
+use Rattle.solve.specs.Solution.{unknownStep, unknownsFrom}
 use borrow.Author.Needs.{needs}
 use Rattle.solve.proofs.back_substitute.Statement.{statement}
 use Rattle.solve.proofs.back_substitute.Tie as tie
@@ -26,7 +26,7 @@ loop-again c =
     again (unknownStep (e .size) (system (e .a .now) (e .b .now))) (c .before .before .loop-test .taken) (c .unknown-step .ensures) (c .before .before .before .loop .inv)
 
 returns : tie.Need-returns Inv-loop μ-loop
-unfolding unknowns
+unfolding unknownsFrom
 returns c =
     let e = c .before .before .args in
     done (unknownStep (e .size) (system (e .a .now) (e .b .now))) (c .loop-test .left) (c .before .loop .inv)

@@ -17,10 +17,15 @@ back-substitute-requires : tie.Need-back-substitute-requires
 back-substitute-requires c κs = search needs
 
 returns : tie.Need-returns
-returns c = rw (← c .before .before .eliminate .ensures, c .enum-told .given .1)
+returns c =
+    let gone = c .before .before .eliminate .ensures in
+    (rw (← gone, c .enum-told .given .1), rw (← gone, c .enum-told .given .1))
 
 returns-2 : tie.Need-returns-2
-returns-2 c = rw (← c .before .before .before .before .before .eliminate .ensures, c .before .before .before .enum-told2 .given .1, c .back-substitute .ensures)
+returns-2 c =
+    let gone = c .before .before .before .before .before .before .eliminate .ensures in
+    let is = c .before .before .before .before .enum-told2 .given .1 in
+    (rw (← gone, is, c .back-substitute .ensures), rw (← gone, is))
 
 pub solve-linear-spec : {M : Type 1} → statement M
 solve-linear-spec =

@@ -12,7 +12,8 @@ pub fn run(place: &Path, out: &Path, to: &str) -> Result<(), Failure> {
     let to = if to == "1" { Form::One } else { Form::Two };
     let mut files = Files::judge([place], [out])?;
     let source = BufReader::new(lists::open(place)?);
-    let (frames, blocks) = converted(source, files.create(out)?, to).map_err(|stop| match stop {
+    let file = files.create(out)?;
+    let (frames, blocks) = converted(source, files.file(file), to).map_err(|stop| match stop {
         Stop::Refused(at, refusal) => Failure::refused(format!("{}, frame at byte {at}", shown(place)), refusal),
         Stop::Unread(error) => Failure::bad(shown(place), error),
         Stop::Unwritten(error) => Failure::bad(shown(out), error),

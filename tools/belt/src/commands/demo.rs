@@ -2,12 +2,12 @@
 
 use crate::demo;
 use crate::failure::Failure;
+use crate::frames::Frame;
 use crate::measure::{Job, measure};
-use crate::model::Asked;
 use crate::output::{Files, print, shown};
 use crate::picture;
-use crate::report::words;
-use belt::{ClassSet, IDENTITIES};
+use crate::tracked::plot::Plot;
+use crate::tracked::{Pair, Row, Scale, Summary};
 use std::fs;
 use std::path::Path;
 
@@ -30,41 +30,45 @@ fn leave(folder: &Path) -> Result<(), Failure> {
         ["clip.y4m", "motion.csv", "motion.svg", "measured.png"].map(|name| folder.join(name));
     let mut files = Files::judge([], [&*clip, &*table, &*plot, &*seen])?;
     let frames = demo::frames();
-    let mut job = Job {
-        asked: Asked::Elected,
-        frame: 1,
-        reference: 1,
-        flag: 1,
-        start: 0,
-        prior: IDENTITIES,
-        classes: None,
-        set: ClassSet::ALL,
-        mask: None,
-        within: 0.25,
-        fast: false,
-    };
-    let mut pairs = Vec::new();
-    for pair in frames.windows(2) {
-        let measured = measure(&job, &pair[0], &pair[1])?;
-        print(&words::line(&measured))?;
-        pairs.push(measured);
-        job.frame += 1;
+    let (mut rows, mut drawn, mut summary) = (Vec::new(), Plot::new(), Summary::default());
+    for (number, two) in frames.windows(2).enumerate() {
+        let pair = pair(number, &two[0], &two[1])?;
+        print(&pair.line())?;
+        let [right, down] = demo::step(number);
+        let row = Row::of(&pair).with([("drawn_right", right), ("drawn_down", down)]);
+        let lines = if number == 0 { [row.names(), row.values()] } else { [Ok(Vec::new()), row.values()] };
+        for line in lines {
+            rows.extend(line.map_err(|error| Failure::bad(shown(&table), error))?);
+        }
+        drawn.add(&pair);
+        summary.add(&pair);
+        if let Some(measured) = pair.found.ok().filter(|_| number == PICTURED) {
+            files.add(&seen, &picture::draw(&picture::Kind::Png, &measured, &two[0]))?;
+        }
     }
-    let unmade = |path: &Path, error: &dyn ToString| Failure::bad(shown(path), error.to_string());
+    let steps: Vec<[f64; 2]> = (0..demo::FRAMES - 1).map(demo::step).collect();
+    let svg = drawn.svg("the belt of the demo, as drawn and as found", &steps);
     files.add(&clip, &demo::clip(&frames))?;
-    files.add(&table, &demo::table(&pairs).map_err(|error| unmade(&table, &error))?)?;
-    files.add(&plot, demo::plot(&pairs).map_err(|error| unmade(&plot, &error))?.as_bytes())?;
-    files.add(&seen, &picture::draw(&picture::Kind::Png, &pairs[PICTURED], &frames[PICTURED]))?;
+    files.add(&table, &rows)?;
+    files.add(&plot, svg.map_err(|error| Failure::bad(shown(&plot), error))?.as_bytes())?;
+    print(&summary.text())?;
+    let [clip, table, plot, seen] = [clip, table, plot, seen].map(shown);
     print(&format!(
-        "\n{}: what was drawn and what was found\n{}: the same as a plot\n{}: frames {PICTURED} and {}, an arrow for each \
-         block\n{}: the clip; 'belt measure {}#0 {}#1' measures its first two frames\n",
-        shown(&table),
-        shown(&plot),
-        shown(&seen),
-        PICTURED + 1,
-        shown(&clip),
-        shown(&clip),
-        shown(&clip)
+        "\n{table}: what was drawn and what was found\n{plot}: the same as a plot\n{seen}: frames {PICTURED} and {}, an arrow \
+         for each block\n{clip}: the clip; 'belt track {clip}' measures it\n",
+        PICTURED + 1
     ))?;
     files.keep()
+}
+
+fn pair(number: usize, first: &Frame, second: &Frame) -> Result<Pair, Failure> {
+    let measured = measure(&Job::electing(None, false), first, second)?;
+    Ok(Pair {
+        number: number as u64,
+        first: first.name.clone(),
+        second: second.name.clone(),
+        frames: (number as u64, number as u64 + 1),
+        scale: Scale { rate: Some(f64::from(demo::RATE)), millimetres: None },
+        found: Ok(measured),
+    })
 }

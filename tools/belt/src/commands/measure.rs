@@ -3,11 +3,11 @@
 use super::flag_and_prior;
 use crate::cli::Measure;
 use crate::failure::Failure;
-use crate::frames::{self, Frame, Opened, Part};
+use crate::frames::{self, Frame, Part};
 use crate::lists;
-use crate::measure::{Job, Measured, judge_sides, measure};
+use crate::measure::{Job, Measured, measure};
 use crate::model::Asked;
-use crate::output::{self, Files, shown};
+use crate::output::{self, Files};
 use crate::picture;
 use crate::report::{json, words};
 use belt::ClassSet;
@@ -19,7 +19,7 @@ pub fn run(words: &Measure) -> Result<(), Failure> {
     single(words, series)?;
     let kinds = words.picture.iter().map(|path| picture::Kind::of(path)).collect::<Result<Vec<_>, _>>()?;
     let mut files = judge(words, &places)?;
-    let part = Part { window: words.crop, halvings: words.halve.unwrap_or(0) };
+    let part = words.seen.part();
     let mut job = job(words)?;
 
     let mut input: Option<Frame> = None;
@@ -27,9 +27,6 @@ pub fn run(words: &Measure) -> Result<(), Failure> {
     let mut blocks = Vec::new();
     for pair in places.windows(2) {
         let (before, reference) = frames(&pair[0], input.take(), &pair[1], part)?;
-        if job.mask.is_none() {
-            job.mask = words.mask.as_ref().map(|path| mask(path, &before, part)).transpose()?;
-        }
         let measured = measure(&job, &before, &reference)?;
         pairs += 1;
         warned += usize::from(!measured.warnings.is_empty() || !measured.answer.status.is_known());
@@ -61,13 +58,9 @@ pub fn run(words: &Measure) -> Result<(), Failure> {
 /// Inputs and outputs, before anything is read.
 fn judge(words: &Measure, places: &[PathBuf]) -> Result<Files, Failure> {
     let pictures = places.iter().map(|place| frames::named(place).0);
-    let lists = [&words.header.prior, &words.classes, &words.mask].into_iter().flatten().map(PathBuf::as_path);
+    let lists = [&words.header.prior, &words.classes, &words.seen.mask].into_iter().flatten().map(PathBuf::as_path);
     let stores = [&words.blocks, &words.header_file, &words.models].into_iter().flatten();
-    let inputs: Vec<&Path> = pictures.chain(lists).collect();
-    if inputs.iter().filter(|path| **path == Path::new("-")).count() > 1 {
-        return Err(Failure::bad("standard input", "it can be read once alone"));
-    }
-    Files::judge(inputs, words.picture.iter().chain(stores).map(PathBuf::as_path))
+    super::judge(pictures.chain(lists), words.picture.iter().chain(stores).map(PathBuf::as_path))
 }
 
 fn job(words: &Measure) -> Result<Job, Failure> {
@@ -81,9 +74,9 @@ fn job(words: &Measure) -> Result<Job, Failure> {
         prior,
         classes: words.classes.as_deref().map(lists::classes).transpose()?,
         set: words.set.as_deref().map_or(Ok(ClassSet::ALL), lists::class_set)?,
-        mask: None,
+        mask: super::mask(&words.seen)?,
         within: words.within,
-        fast: words.fast,
+        fast: words.seen.fast,
     })
 }
 
@@ -93,8 +86,10 @@ fn places(words: &Measure) -> Result<Vec<PathBuf>, Failure> {
         places.extend(frames::places(place)?);
     }
     if places.len() < 2 {
-        let what =
-            format!("it takes two pictures or more, not {}; of a Y4M file, clip.y4m#0 and clip.y4m#1", places.len());
+        let what = format!(
+            "it takes two pictures or more, not {}; 'belt track' measures a clip, clip.y4m#0 is a frame",
+            places.len()
+        );
         return Err(Failure::bad("measure", what));
     }
     Ok(places)
@@ -126,50 +121,22 @@ fn frames(place: &Path, before: Option<Frame>, next: &Path, part: Part) -> Resul
     let reference = frames::open(next)?;
     let input = match input {
         Ok(frame) => {
-            alike(&frame.name, frame.whole, frame.most, &reference)?;
+            frames::alike(frame.looks(), reference.looks())?;
             frame
         }
         Err(opened) => {
-            alike(&opened.name, opened.sides(), opened.most(), &reference)?;
-            let (width, height) = part.sides(opened.sides());
-            judge_sides(width, height).map_err(|refusal| {
-                let advice = format!("{width}×{height} pels are too many: --crop X,Y,W,H measures a part, --halve all");
-                Failure::refused(&opened.name, refusal).with_advice(advice)
-            })?;
+            frames::alike(opened.looks(), reference.looks())?;
+            frames::judged(&opened.name, part, opened.sides())?;
             opened.read(part)?
         }
     };
     Ok((input, reference.read(part)?))
 }
 
-/// Two pictures must have the same sides and the same scale of brightness.
-fn alike(name: &str, (width, height): (usize, usize), most: u16, other: &Opened) -> Result<(), Failure> {
-    let (other_width, other_height) = other.sides();
-    let what = if (width, height) != (other_width, other_height) {
-        format!("it has {other_width}×{other_height} pels, and {name} {width}×{height}; both must have the same")
-    } else if most != other.most() {
-        format!("its pels go up to {}, and those of {name} to {most}; both must have the same", other.most())
-    } else {
-        return Ok(());
-    };
-    Err(Failure::bad(&other.name, what))
-}
-
-/// The mask of a picture.
-fn mask(path: &Path, input: &Frame, part: Part) -> Result<Frame, Failure> {
-    let opened = frames::open(path)?;
-    let ((width, height), (own_width, own_height)) = (input.whole, opened.sides());
-    if (own_width, own_height) != (width, height) {
-        let what = format!("the mask has {own_width}×{own_height} pels, and {} {width}×{height}", input.name);
-        return Err(Failure::bad(shown(path), what));
-    }
-    opened.read(part)
-}
-
 fn text(json: bool, series: bool, measured: &Measured) -> String {
     match (json, series) {
         (true, _) => json::pair(measured),
-        (false, true) => words::line(measured),
+        (false, true) => words::line(measured, None),
         (false, false) => words::pair(measured),
     }
 }

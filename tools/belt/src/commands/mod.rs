@@ -7,18 +7,24 @@ mod measure;
 mod practice;
 mod price;
 mod read_header;
+mod replay;
+mod track;
 
-use crate::cli::{self, Command, Header};
+use crate::cli::{self, Command, Header, Seen};
 use crate::failure::Failure;
+use crate::frames::{self, Frame};
 use crate::lists;
-use crate::output::print;
+use crate::output::{Files, print};
 use belt::{IDENTITIES, Kind, StoredModel};
+use std::path::Path;
 
 /// Runs the command that the words name.
 pub fn run(command: Option<Command>) -> Result<(), Failure> {
     match command {
         None => Ok(()),
         Some(Command::Measure(words)) => measure::run(&words),
+        Some(Command::Track(words)) => track::run(&words),
+        Some(Command::Replay { headers, blocks, json }) => replay::run(&headers, blocks.as_ref(), json),
         Some(Command::Demo { folder }) => demo::run(&folder),
         Some(Command::List { file, csv }) => list::run(&file, csv),
         Some(Command::Convert { file, out, to }) => convert::run(&file, &out, &to),
@@ -46,4 +52,24 @@ fn kind(key: bool) -> Kind {
 fn flag_and_prior(header: &Header) -> Result<(u8, [StoredModel; 7]), Failure> {
     let prior = header.prior.as_ref().map_or(Ok(IDENTITIES), |place| lists::models(place).map(|list| list.models))?;
     Ok((header.precision as u8, prior))
+}
+
+/// The mask of the pictures.
+fn mask(seen: &Seen) -> Result<Option<Frame>, Failure> {
+    let Some(path) = &seen.mask else { return Ok(None) };
+    let opened = frames::open(path)?;
+    frames::judged(&opened.name, seen.part(), opened.sides())?;
+    opened.read(seen.part()).map(Some)
+}
+
+/// Inputs and outputs, before anything is read; standard input can be read once alone.
+fn judge<'a>(
+    inputs: impl IntoIterator<Item = &'a Path>,
+    outputs: impl IntoIterator<Item = &'a Path>,
+) -> Result<Files, Failure> {
+    let inputs: Vec<&Path> = inputs.into_iter().collect();
+    if inputs.iter().filter(|path| **path == Path::new("-")).count() > 1 {
+        return Err(Failure::bad("standard input", "it can be read once alone"));
+    }
+    Files::judge(inputs, outputs)
 }

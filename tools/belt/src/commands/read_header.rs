@@ -4,7 +4,7 @@ use super::flag_and_prior;
 use crate::cli::Header;
 use crate::failure::Failure;
 use crate::lists;
-use crate::model::{Map, TYPES};
+use crate::model::{self, TYPES};
 use crate::output::{print, shown};
 use crate::report::json;
 use crate::report::words;
@@ -44,9 +44,9 @@ fn digits(text: &[u8]) -> Result<Vec<u8>, String> {
 fn in_words(read: &Models, at: usize) -> String {
     let mut out = String::new();
     for (i, (&gm_type, stored)) in read.types.iter().zip(read.models).enumerate() {
-        let map = Map::of_grid(stored.x_first(gm_type));
+        let model = model::of_grid(gm_type, stored.x_first(gm_type));
         let numbers = stored.0.map(|number| number.to_string()).join(" ");
-        let moved = words::moved(gm_type, map, map.motion_at(0.0, 0.0));
+        let moved = words::moved(&model, model.motion_at(0.0, 0.0));
         let _ = writeln!(out, "reference {}: {}, {moved} ({numbers})", i + 1, TYPES[usize::from(gm_type)]);
     }
     let _ = writeln!(out, "{} bits, from bit {at} to bit {}", read.bits, at.saturating_add(read.bits));

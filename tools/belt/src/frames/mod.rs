@@ -1,12 +1,16 @@
-//! Pictures from files, known by their content: PGM and PPM (`pnm`), PNG (`png`), and single frames of Y4M (`y4m`).
+//! Pictures from files, known by their content: PGM and PPM (`pnm`), PNG (`png`), and frames of Y4M (`y4m`), one by one or
+//! all of a clip (`clip`).
 //!
 //! A picture is opened first, so that its sides are judged before its pels are read. It is read row by row: nothing is
 //! kept but the part that is measured.
 
+mod clip;
 mod order;
 mod png;
 mod pnm;
 mod y4m;
+
+pub use clip::{Chosen, Clip, Turn, judged};
 
 use crate::failure::Failure;
 use crate::output::shown;
@@ -35,6 +39,16 @@ impl Part {
         let [_, _, width, height] = self.window.unwrap_or([0, 0, width, height]);
         (width >> self.halvings, height >> self.halvings)
     }
+
+    /// Its column, row, width and height, if it lies inside a picture of these sides.
+    fn inside(self, (width, height): (usize, usize)) -> Result<[usize; 4], String> {
+        let window @ [x, y, w, h] = self.window.unwrap_or([0, 0, width, height]);
+        let inside = |from: usize, count: usize, side: usize| count > 0 && count <= side && from <= side - count;
+        match inside(x, w, width) && inside(y, h, height) {
+            true => Ok(window),
+            false => Err(format!("--crop {x},{y},{w},{h} isn't a part of it: it has {width}×{height} pels")),
+        }
+    }
 }
 
 /// A picture in memory: 16 bits a pel, row by row.
@@ -52,6 +66,17 @@ pub struct Frame {
     pub pels: Vec<u16>,
 }
 
+impl Frame {
+    pub fn looks(&self) -> Looks<'_> {
+        Looks { name: &self.name, sides: self.whole, most: self.most }
+    }
+
+    /// The same for `track`.
+    pub fn lent(&self) -> track::Frame<'_> {
+        track::Frame { pels: &self.pels, width: self.width, height: self.height, most: self.most }
+    }
+}
+
 /// What gives a picture's rows, one after the other.
 trait Rows {
     /// The brightness of the next row.
@@ -67,10 +92,10 @@ struct Head {
     width: usize,
     height: usize,
     most: u16,
-    rows: Box<dyn Rows>,
+    rows: Box<dyn Rows + Send>,
 }
 
-type Source = Box<dyn BufRead>;
+type Source = Box<dyn BufRead + Send>;
 
 /// How values stand in a file, and how many a pel has: one, or three of red, green and blue.
 #[derive(Clone, Copy, Debug, PartialEq, Eq)]
@@ -92,7 +117,11 @@ impl Layout {
 
     fn pels(self, bytes: &[u8], pels: &mut Vec<u16>) {
         pels.clear();
-        pels.extend(bytes.chunks_exact(self.bytes * self.values).map(|pel| self.pel(pel)));
+        match self {
+            // what most clips are
+            Layout { bytes: 1, values: 1, .. } => pels.extend(bytes.iter().map(|&pel| u16::from(pel))),
+            _ => pels.extend(bytes.chunks_exact(self.bytes * self.values).map(|pel| self.pel(pel))),
+        }
     }
 }
 
@@ -102,8 +131,8 @@ fn luma([red, green, blue]: [u16; 3]) -> u16 {
 }
 
 /// Rows that stand in a file as they are.
-struct Plain {
-    source: Source,
+struct Plain<S> {
+    source: S,
     width: usize,
     height: usize,
     most: u16,
@@ -113,12 +142,25 @@ struct Plain {
     /// The bytes of the frame that were there so far, and the rows.
     there: u64,
     row: usize,
+    /// Those of the row.
+    bytes: Vec<u8>,
 }
 
-impl Plain {
-    fn head(source: Source, width: usize, height: usize, most: u16, layout: Layout, behind: u64) -> Head {
-        let rows = Box::new(Plain { source, width, height, most, layout, behind, there: 0, row: 0 });
-        Head { width, height, most, rows }
+impl<S: Read> Plain<S> {
+    fn of(source: S, (width, height): (usize, usize), most: u16, layout: Layout, behind: u64) -> Plain<S> {
+        Plain { source, width, height, most, layout, behind, there: 0, row: 0, bytes: Vec::new() }
+    }
+
+    /// The bytes of the whole frame.
+    fn whole(&self) -> u64 {
+        (self.width * self.height * self.layout.bytes * self.layout.values) as u64 + self.behind
+    }
+
+    /// Passes over the whole frame.
+    fn pass(&mut self) -> Result<(), String> {
+        let whole = self.whole();
+        let got = skip(&mut self.source, whole).map_err(|error| error.to_string())?;
+        self.count(got, whole)
     }
 
     /// Counts bytes of the frame, of which so many are wanted.
@@ -127,21 +169,19 @@ impl Plain {
         if got == wanted {
             return Ok(());
         }
-        let Plain { width, height, layout, behind, there, .. } = self;
-        let whole = (*width * *height * layout.bytes * layout.values) as u64 + *behind;
+        let (Plain { width, height, there, .. }, whole) = (&*self, self.whole());
         Err(format!("cut short: {width}×{height} pels take {whole} bytes, and {there} are there"))
     }
 }
 
-impl Rows for Plain {
+impl<S: Read> Rows for Plain<S> {
     fn row(&mut self, pels: &mut Vec<u16>) -> Result<(), String> {
         let wanted = (self.width * self.layout.bytes * self.layout.values) as u64;
-        let mut bytes = Vec::new();
-        let got = (&mut self.source).take(wanted).read_to_end(&mut bytes).map_err(|error| error.to_string())?;
+        self.bytes.clear();
+        let got = (&mut self.source).take(wanted).read_to_end(&mut self.bytes).map_err(|error| error.to_string())?;
         self.count(got as u64, wanted)?;
         // a colour's largest value is its own, not its brightness'
-        let values = Layout { values: 1, ..self.layout };
-        values.pels(&bytes, pels);
+        Layout { values: 1, ..self.layout }.pels(&self.bytes, pels);
         if let Some(at) = pels.iter().position(|&value| value > self.most) {
             return Err(format!(
                 "row {}, column {}: the pel is {}, over the {} that the head allows; are its bytes in the other order?",
@@ -151,7 +191,9 @@ impl Rows for Plain {
                 self.most
             ));
         }
-        self.layout.pels(&bytes, pels);
+        if self.layout.values > 1 {
+            self.layout.pels(&self.bytes, pels);
+        }
         self.row += 1;
         Ok(())
     }
@@ -162,10 +204,15 @@ impl Rows for Plain {
     }
 }
 
-/// A picture whose head is read and whose pels come next.
+/// A picture whose head is read and whose pels come next, or a clip.
 pub struct Opened {
     pub name: String,
-    head: Head,
+    file: Kind,
+}
+
+enum Kind {
+    Picture(Head),
+    Clip(y4m::Clip),
 }
 
 /// The file and the frame in it that a place names: `clip.y4m#3` is frame 3, counted from 0, unless a file has that
@@ -211,20 +258,26 @@ pub fn open(place: &Path) -> Result<Opened, Failure> {
     } else {
         Box::new(BufReader::new(File::open(file).map_err(|error| Failure::bad(&name, error))?))
     };
-    let head = head(source, number, place).map_err(|what| Failure::bad(&name, what))?;
-    Ok(Opened { name, head })
+    let file = kind(source, number, place).map_err(|what| Failure::bad(&name, what))?;
+    Ok(Opened { name, file })
 }
 
 /// As many first bytes as tell every kind of file.
 const MAGIC: u64 = 12;
 
-fn head(mut source: Source, number: u64, place: &Path) -> Result<Head, String> {
+/// What a file is; of a clip the frames before the one asked for, counted from 0, are passed over.
+fn kind(mut source: Source, number: u64, place: &Path) -> Result<Kind, String> {
     // a pipe may give them one by one
     let mut begins = Vec::new();
     source.by_ref().take(MAGIC).read_to_end(&mut begins).map_err(|error| error.to_string())?;
     let source: Source = Box::new(Cursor::new(begins.clone()).chain(source));
     if begins.starts_with(y4m::MAGIC) {
-        return y4m::head(source, number);
+        let mut clip = y4m::Clip::open(source)?;
+        for before in 0..number {
+            let passed = clip.next(None).ok_or_else(|| no_frame(before, number))?;
+            passed.map_err(|what| format!("frame {before}: {what}"))?;
+        }
+        return if clip.is_ended() { Err(no_frame(number, number)) } else { Ok(Kind::Clip(clip)) };
     }
     let head = match &begins[..] {
         [b'P', b'5' | b'6', ..] => pnm::head(source)?,
@@ -232,9 +285,13 @@ fn head(mut source: Source, number: u64, place: &Path) -> Result<Head, String> {
         begins => return Err(other(begins, place)),
     };
     match number {
-        0 => Ok(head),
+        0 => Ok(Kind::Picture(head)),
         _ => Err("this file is one picture: only frames of Y4M have numbers".into()),
     }
+}
+
+fn no_frame(frames: u64, number: u64) -> String {
+    format!("it has {frames} frames, so there is no frame {number} (the first is 0)")
 }
 
 /// What is said of a file that isn't read: what it is, and the command that makes a readable one of it.
@@ -262,7 +319,7 @@ fn other(begins: &[u8], place: &Path) -> String {
     let plain = |c: char| c.is_ascii_alphanumeric() || "-_./".contains(c);
     let quoted = if text.chars().all(plain) { text.into_owned() } else { format!("'{}'", text.replace('\'', "'\\''")) };
     let command = match is_clip {
-        true => format!("ffmpeg -i {quoted} -pix_fmt gray -strict -1 clip.y4m && belt measure clip.y4m#0 clip.y4m#1"),
+        true => format!("ffmpeg -i {quoted} -pix_fmt gray -f yuv4mpegpipe - | belt track -"),
         false => format!("ffmpeg -i {quoted} -pix_fmt gray picture.png"),
     };
     format!("this is {name}; {READ}: {command}")
@@ -284,29 +341,71 @@ fn skip(source: &mut impl Read, count: u64) -> io::Result<u64> {
     io::copy(&mut source.take(count), &mut io::sink())
 }
 
+/// What two pictures must have in common.
+#[derive(Clone, Copy)]
+pub struct Looks<'a> {
+    name: &'a str,
+    sides: (usize, usize),
+    most: u16,
+}
+
+/// Two pictures must have the same sides and the same scale of brightness.
+pub fn alike(first: Looks<'_>, second: Looks<'_>) -> Result<(), Failure> {
+    let ((width, height), (own_width, own_height)) = (first.sides, second.sides);
+    let (name, most) = (first.name, first.most);
+    let what = if first.sides != second.sides {
+        format!("it has {own_width}×{own_height} pels, and {name} {width}×{height}; both must have the same")
+    } else if most != second.most {
+        format!("its pels go up to {}, and those of {name} to {most}; both must have the same", second.most)
+    } else {
+        return Ok(());
+    };
+    Err(Failure::bad(second.name, what))
+}
+
 impl Opened {
-    pub fn sides(&self) -> (usize, usize) {
-        (self.head.width, self.head.height)
+    pub fn looks(&self) -> Looks<'_> {
+        let most = match &self.file {
+            Kind::Picture(head) => head.most,
+            Kind::Clip(clip) => clip.most,
+        };
+        Looks { name: &self.name, sides: self.sides(), most }
     }
 
-    pub fn most(&self) -> u16 {
-        self.head.most
+    pub fn sides(&self) -> (usize, usize) {
+        match &self.file {
+            Kind::Picture(head) => (head.width, head.height),
+            Kind::Clip(clip) => (clip.width, clip.height),
+        }
+    }
+
+    /// The frames a second, where it says them.
+    fn rate(&self) -> Option<f64> {
+        match &self.file {
+            Kind::Picture(_) => None,
+            Kind::Clip(clip) => clip.rate,
+        }
     }
 
     /// Reads the pels of a part, which must lie inside.
     pub fn read(self, part: Part) -> Result<Frame, Failure> {
         let name = self.name.clone();
-        read(self.head, part).map(|frame| Frame { name: self.name, ..frame }).map_err(|what| Failure::bad(name, what))
+        pels(self.file, part).map(|frame| Frame { name: self.name, ..frame }).map_err(|what| Failure::bad(name, what))
     }
 }
 
-fn read(head: Head, part: Part) -> Result<Frame, String> {
-    let Head { width, height, most, mut rows } = head;
-    let [x, y, w, h] = part.window.unwrap_or([0, 0, width, height]);
-    let inside = |from: usize, count: usize, side: usize| count > 0 && count <= side && from <= side - count;
-    if !inside(x, w, width) || !inside(y, h, height) {
-        return Err(format!("--crop {x},{y},{w},{h} isn't a part of it: it has {width}×{height} pels"));
+fn pels(file: Kind, part: Part) -> Result<Frame, String> {
+    match file {
+        Kind::Picture(Head { width, height, most, mut rows }) => read(&mut *rows, (width, height), most, part),
+        Kind::Clip(mut clip) => {
+            clip.next(Some(part)).ok_or_else(|| no_frame(0, 0))?.map(|frame| frame.expect("a part"))
+        }
     }
+}
+
+/// Reads a part of a frame that has so many pels, by its rows.
+fn read(rows: &mut dyn Rows, (width, height): (usize, usize), most: u16, part: Part) -> Result<Frame, String> {
+    let [x, y, w, _] = part.inside((width, height))?;
     let (wide, high) = part.sides((width, height));
     let times = 1 << part.halvings;
     let (mut pels, mut row) = (Vec::new(), Vec::new());
@@ -314,6 +413,10 @@ fn read(head: Head, part: Part) -> Result<Frame, String> {
     for number in 0..height {
         rows.row(&mut row)?;
         let Some(own) = number.checked_sub(y).filter(|own| *own < high * times) else { continue };
+        if times == 1 {
+            pels.extend_from_slice(&row[x..x + w]);
+            continue;
+        }
         for (sum, group) in sums.iter_mut().zip(row[x..x + w].chunks_exact(times)) {
             *sum += group.iter().map(|&pel| u32::from(pel)).sum::<u32>();
         }
@@ -331,12 +434,17 @@ fn read(head: Head, part: Part) -> Result<Frame, String> {
 mod tests {
     use super::*;
 
-    pub fn opened(bytes: &[u8], number: u64) -> Result<Head, String> {
-        head(Box::new(Cursor::new(bytes.to_vec())), number, Path::new("x y.bin"))
+    pub fn opened(bytes: &[u8], number: u64) -> Result<Kind, String> {
+        kind(Box::new(Cursor::new(bytes.to_vec())), number, Path::new("x y.bin"))
+    }
+
+    /// A whole frame.
+    pub fn first(bytes: &[u8], number: u64) -> Result<Frame, String> {
+        pels(opened(bytes, number)?, Part::default())
     }
 
     fn read_part(bytes: &[u8], window: [usize; 4], halvings: u32) -> Result<Frame, String> {
-        read(opened(bytes, 0)?, Part { window: Some(window), halvings })
+        pels(opened(bytes, 0)?, Part { window: Some(window), halvings })
     }
 
     #[test]
@@ -353,16 +461,16 @@ mod tests {
         let said = "cut short: 4×3 pels take 12 bytes, and 11 are there";
         assert_eq!(read_part(b"P5 4 3 255\nabcdefghijk", [0, 0, 1, 1], 0).unwrap_err(), said);
         let said = "cut short: 60000×60000 pels take 7200000000 bytes, and 3 are there";
-        assert_eq!(read(opened(b"P5 60000 60000 65535\nabc", 0).unwrap(), Part::default()).unwrap_err(), said);
+        assert_eq!(first(b"P5 60000 60000 65535\nabc", 0).unwrap_err(), said);
     }
 
     #[test]
     fn colours_become_brightness() {
-        let frame = read(opened(b"P6 2 1 255\n\xFF\xFF\xFF\xFF\0\0", 0).unwrap(), Part::default()).unwrap();
+        let frame = first(b"P6 2 1 255\n\xFF\xFF\xFF\xFF\0\0", 0).unwrap();
         assert_eq!(frame.pels, [255, 76]);
-        let deep = read(opened(b"P6 1 1 1000\n\0\x0A\x03\xE8\0\x14", 0).unwrap(), Part::default()).unwrap();
+        let deep = first(b"P6 1 1 1000\n\0\x0A\x03\xE8\0\x14", 0).unwrap();
         assert_eq!((deep.most, &deep.pels[..]), (1000, &[592][..]));
-        let said = read(opened(b"P6 1 1 1000\n\0\x0A\x03\xE9\0\x14", 0).unwrap(), Part::default()).unwrap_err();
+        let said = first(b"P6 1 1 1000\n\0\x0A\x03\xE9\0\x14", 0).unwrap_err();
         assert!(said.starts_with("row 0, column 0: the pel is 1001, over the 1000"), "{said}");
     }
 

@@ -61,23 +61,22 @@ pub fn head(source: Source) -> Result<Head, String> {
         _ => return Err(format!("the head has '{text}' where its largest value should be")),
     };
     let layout = Layout { bytes: if most > 255 { 2 } else { 1 }, low_first: false, values };
-    Ok(Plain::head(reader.source, width, height, most, layout, 0))
+    let rows = Box::new(Plain::of(reader.source, (width, height), most, layout, 0));
+    Ok(Head { width, height, most, rows })
 }
 
 #[cfg(test)]
 mod tests {
-    use super::super::tests::opened;
+    use super::super::tests::{first, opened};
 
     #[test]
     fn comments_and_spaces_are_passed_over_and_one_space_ends_the_head() {
         let heads =
             ["P5 3 2 255\n", "P5\n# a camera\n3 #left\n 2\n#x\n#y\n255\n", "P5\t3\r\n2\n255 ", "P5 3#c\n2 255#c\n"];
         for text in heads {
-            let mut head = opened(&[text.as_bytes(), b"\n#abcd"].concat(), 0).unwrap();
-            assert_eq!((head.width, head.height, head.most), (3, 2, 255));
-            let mut row = Vec::new();
-            head.rows.row(&mut row).unwrap();
-            assert_eq!(row, [b'\n', b'#', b'a'].map(u16::from), "after {text:?}");
+            let frame = first(&[text.as_bytes(), b"\n#abcd"].concat(), 0).unwrap();
+            assert_eq!((frame.width, frame.height, frame.most), (3, 2, 255));
+            assert_eq!(frame.pels, b"\n#abcd".map(u16::from), "after {text:?}");
         }
     }
 

@@ -55,7 +55,7 @@ fn names(measured: &Measured, letters: usize) -> String {
 /// What the blocks have to do with the model.
 fn blocks(measured: &Measured) -> String {
     let answer = &measured.answer;
-    let name = model::words(answer.gm_type);
+    let name = model::words(answer.model.gm_type);
     match answer.status {
         Status::Flat | Status::NoBlocks => "No block tells a motion".into(),
         Status::Unexplained => format!("The colours are of a guess, {name}, that isn't to be trusted"),

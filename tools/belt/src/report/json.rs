@@ -2,7 +2,8 @@
 
 use super::words;
 use crate::measure::Measured;
-use crate::model::{Map, TYPES};
+use crate::model::{self, TYPES};
+use crate::way::Warning;
 use belt::{Motion, StoredModel};
 use serde::Serialize;
 
@@ -34,16 +35,16 @@ impl Moved {
         angle_degrees: None,
     };
 
-    fn of(gm_type: u8, map: Map, middle: Motion) -> Moved {
-        let first = map.motion_at(0.0, 0.0);
+    fn of(model: &track::Model, middle: Motion) -> Moved {
+        let first = model.motion_at(0.0, 0.0);
         Moved {
-            r#type: Some(TYPES[usize::from(gm_type)]),
+            r#type: Some(TYPES[usize::from(model.gm_type)]),
             right_pels: Some(middle.u),
             down_pels: Some(middle.v),
             first_pel_right: Some(first.u),
             first_pel_down: Some(first.v),
-            zoom: Some(map.zoom()),
-            angle_degrees: Some(map.degrees()),
+            zoom: Some(model.zoom()),
+            angle_degrees: Some(model.degrees()),
         }
     }
 }
@@ -60,14 +61,14 @@ pub struct Model {
 }
 
 pub fn model((&gm_type, stored): (&u8, &StoredModel)) -> Model {
-    let map = Map::of_grid(stored.x_first(gm_type));
-    let Motion { u, v } = map.motion_at(0.0, 0.0);
+    let model = model::of_grid(gm_type, stored.x_first(gm_type));
+    let Motion { u, v } = model.motion_at(0.0, 0.0);
     Model {
         r#type: TYPES[usize::from(gm_type)],
         first_pel_right: u,
         first_pel_down: v,
-        zoom: map.zoom(),
-        angle_degrees: map.degrees(),
+        zoom: model.zoom(),
+        angle_degrees: model.degrees(),
         numbers: stored.0,
     }
 }
@@ -79,10 +80,17 @@ struct Common {
     share: f64,
 }
 
+/// A warning.
 #[derive(Serialize)]
-struct Warned<'a> {
-    name: &'static str,
+pub struct Warned<'a> {
+    pub name: &'static str,
     text: &'a str,
+}
+
+impl<'a> Warned<'a> {
+    pub fn of(warning: &'a Warning) -> Self {
+        Warned { name: warning.name, text: &warning.text }
+    }
 }
 
 #[derive(Serialize)]
@@ -129,7 +137,6 @@ struct Pair<'a> {
 
 pub fn pair(measured: &Measured) -> String {
     let Measured { answer, settings, report, .. } = measured;
-    let stored = measured.stored_map();
     let common = |track::Common { motion, share }| Common { right_pels: motion.u, down_pels: motion.v, share };
     let known = answer.status.is_known();
     line(&Pair {
@@ -141,11 +148,11 @@ pub fn pair(measured: &Measured) -> String {
         status: answer.status.name(),
         how: known.then(|| answer.how.name()),
         measured: match known {
-            true => Moved::of(answer.gm_type, measured.map(), measured.middle()),
+            true => Moved::of(&measured.model(), measured.middle()),
             false => Moved::UNKNOWN,
         },
         stored: Stored {
-            model: Moved::of(measured.stored_type, stored, measured.middle_of(stored, 1)),
+            model: Moved::of(&measured.stored_model(), measured.stored_middle()),
             numbers: measured.stored.row_first(measured.stored_type).0,
             score_square_pels: report.score,
         },
@@ -166,6 +173,6 @@ pub fn pair(measured: &Measured) -> String {
         },
         frame: settings.frame,
         models: report.types.iter().zip(&report.models).map(model).collect(),
-        warnings: measured.warnings.iter().map(|found| Warned { name: found.name, text: &found.text }).collect(),
+        warnings: measured.warnings.iter().map(Warned::of).collect(),
     })
 }

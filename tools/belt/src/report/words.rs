@@ -1,10 +1,10 @@
 //! Motion in words and numbers with units.
 
 use crate::measure::Measured;
-use crate::model::{self, Asked, Map};
+use crate::model::{self, Asked};
 use crate::way::How;
 use belt::Motion;
-use track::{Common, Status};
+use track::{Common, Model, Status};
 
 /// Motions below this many pels are none.
 const STILL: f64 = 0.0005;
@@ -34,22 +34,30 @@ pub fn per_cent(share: f64) -> String {
     format!("{:.0} %", if share < 1.0 { (share * 100.0).floor() } else { 100.0 })
 }
 
-/// Pels with up to three digits, so that an eighth is whole.
-pub fn pels(number: f64) -> String {
+/// A length with up to three digits, so that an eighth is whole.
+fn length(number: f64, unit: &str) -> String {
     let text = format!("{number:.3}");
     let text = text.trim_end_matches('0').trim_end_matches('.');
-    if text == "1" { "1 pel".into() } else { format!("{text} pels") }
+    if text == "1" { format!("1 {}", unit.trim_end_matches('s')) } else { format!("{text} {unit}") }
 }
 
-/// A motion in words.
-pub fn motion(motion: Motion) -> String {
-    let part = |pel: f64, back: &str, on: &str| match pel {
-        pel if pel.abs() < STILL => None,
-        pel => Some(format!("{} {}", pels(pel.abs()), if pel < 0.0 { back } else { on })),
+pub fn pels(number: f64) -> String {
+    length(number, "pels")
+}
+
+/// A motion in words, of pels or another unit.
+pub fn motion_in(motion: Motion, unit: &str) -> String {
+    let part = |far: f64, back: &str, on: &str| match far {
+        far if far.abs() < STILL => None,
+        far => Some(format!("{} {}", length(far.abs(), unit), if far < 0.0 { back } else { on })),
     };
     let parts = [part(motion.u, "left", "right"), part(motion.v, "up", "down")];
     let parts: Vec<String> = parts.into_iter().flatten().collect();
-    if parts.is_empty() { "0 pels".into() } else { parts.join(" and ") }
+    if parts.is_empty() { format!("0 {unit}") } else { parts.join(" and ") }
+}
+
+pub fn motion(motion: Motion) -> String {
+    motion_in(motion, "pels")
 }
 
 /// A zoom in words.
@@ -70,13 +78,13 @@ fn turn(degrees: f64) -> String {
 }
 
 /// What a model does to a picture, in one sentence's words.
-pub fn moved(gm_type: u8, map: Map, middle: Motion) -> String {
+pub fn moved(model: &Model, middle: Motion) -> String {
     let mut parts = Vec::new();
     if middle.u.hypot(middle.v) >= STILL {
         parts.push(format!("moved {}", motion(middle)));
     }
-    if gm_type > 1 {
-        let (size, angle) = (zoom(map.zoom()), turn(map.degrees()));
+    if model.gm_type > 1 {
+        let (size, angle) = (zoom(model.zoom()), turn(model.degrees()));
         if size != "the same size" {
             parts.push(format!("became {size}"));
         }
@@ -104,7 +112,7 @@ pub fn sentence(measured: &Measured) -> String {
             format!("{} stood still, and a part moved on its own", per_cent(measured.answer.shares.still))
         }
         Status::Still => "It stood still".into(),
-        Status::Measured => format!("It {}", moved(measured.answer.gm_type, measured.map(), measured.middle())),
+        Status::Measured => format!("It {}", moved(&measured.model(), measured.middle())),
     }
 }
 
@@ -125,13 +133,12 @@ pub fn rest(measured: &Measured) -> String {
 fn kind(measured: &Measured) -> String {
     let name = match measured.answer.status {
         Status::Still => "standing still",
-        _ => model::words(measured.answer.gm_type),
+        _ => model::words(measured.answer.model.gm_type),
     };
     let how = match measured.answer.how {
         How::Plain => return name.into(),
         How::Trimmed => "fitted without the blocks that lie far off",
-        How::Tracked(track::How::Elected) if measured.stored_type == measured.answer.gm_type => "elected",
-        How::Tracked(track::How::Elected) => "elected once the pictures' light is taken away",
+        How::Tracked(track::How::Elected) => "elected",
         How::Tracked(track::How::Robust) => "robust: as most of the blocks say that can tell their motion",
         How::Tracked(track::How::HalfSize) => "half-size: as the blocks say at half the size",
         How::Tracked(track::How::Shifted) => {
@@ -172,14 +179,14 @@ fn measured_rows(measured: &Measured, row: &mut impl FnMut(&str, String)) {
         }
         Status::Measured | Status::Still => row("measured", kind(measured)),
     }
-    let map = measured.map();
+    let model = measured.model();
     if answer.status == Status::Still {
         row("  shift", format!("{}, too little to be told from none", motion(measured.middle())));
-    } else if answer.gm_type > 1 {
+    } else if model.gm_type > 1 {
         row("  shift", format!("{}, in the middle of the picture", motion(measured.middle())));
-        row("", format!("{}, at its first pel", motion(map.motion_at(0.0, 0.0))));
-        row("  zoom", format!("{:.5} ({})", map.zoom(), zoom(map.zoom())));
-        row("  angle", turn(map.degrees()));
+        row("", format!("{}, at its first pel", motion(model.motion_at(0.0, 0.0))));
+        row("  zoom", format!("{:.5} ({})", model.zoom(), zoom(model.zoom())));
+        row("  angle", turn(model.degrees()));
     } else {
         row("  shift", motion(measured.middle()));
     }
@@ -191,15 +198,13 @@ fn measured_rows(measured: &Measured, row: &mut impl FnMut(&str, String)) {
 
 /// The rows of what is stored.
 fn stored_rows(measured: &Measured, row: &mut impl FnMut(&str, String)) {
-    let (map, settings) = (measured.stored_map(), &measured.settings);
+    let settings = &measured.settings;
     let halved = if measured.times > 1 { ", in pels of the halved picture" } else { "" };
-    let stored = moved(measured.stored_type, map, measured.middle_of(map, 1));
+    let stored = moved(&measured.stored_model(), measured.stored_middle());
     row(
         "stored",
         match measured.asked {
-            Asked::Elected if measured.is_stored_still() => {
-                "standing still: the library elects no type on the pictures as they are".into()
-            }
+            Asked::Elected if measured.is_stored_still() => "standing still: the library elects no type".into(),
             _ => format!("{}: {stored}{halved}", model::words(measured.stored_type)),
         },
     );
@@ -230,10 +235,13 @@ pub fn pair(measured: &Measured) -> String {
     lines.join("\n") + "\n"
 }
 
-/// One line of a pair among many.
-pub fn line(measured: &Measured) -> String {
+/// One line of a pair among many, with its speed where that is told.
+pub fn line(measured: &Measured, speed: Option<&str>) -> String {
     let (input, reference) = (&measured.input, &measured.reference);
     let mut line = format!("{input} to {reference}: {}", sentence(measured));
+    if let Some(speed) = speed {
+        line += &format!("; {speed}");
+    }
     if measured.answer.status.is_known() {
         line += &format!("; {} agree", per_cent(measured.share()));
     }
@@ -267,12 +275,12 @@ mod tests {
     #[test]
     fn a_model_is_a_sentence() {
         let still = Motion { u: 0.0, v: 0.0 };
-        let grid = |numbers| Map::of_grid(belt::Model(numbers));
-        assert_eq!(moved(1, Map::IDENTITY, still), "didn't move");
-        assert_eq!(moved(2, grid([0, 0, 66191, 0, 0, 66191]), still), "became 1.00 % larger");
-        let said = moved(2, grid([0, 0, 65526, -1144, 1144, 65526]), Motion { u: 1.0, v: 0.0 });
+        let grid = |numbers| model::of_grid(2, belt::Model(numbers));
+        assert_eq!(moved(&Model::IDENTITY, still), "didn't move");
+        assert_eq!(moved(&grid([0, 0, 66191, 0, 0, 66191]), still), "became 1.00 % larger");
+        let said = moved(&grid([0, 0, 65526, -1144, 1144, 65526]), Motion { u: 1.0, v: 0.0 });
         assert_eq!(said, "moved 1 pel right and turned 1.000° clockwise");
-        let said = moved(2, grid([0, 0, 64881, 1144, -1144, 64881]), Motion { u: 0.0, v: 2.0 });
+        let said = moved(&grid([0, 0, 64881, 1144, -1144, 64881]), Motion { u: 0.0, v: 2.0 });
         assert_eq!(said, "moved 2 pels down, became 0.98 % smaller and turned 1.010° anticlockwise");
     }
 
@@ -294,6 +302,6 @@ mod tests {
         for part in wanted {
             assert!(text.contains(part), "{part:?} in {text}");
         }
-        assert!(line(&found).starts_with("a to b: It moved 4 pels right and 2 pels down; "));
+        assert!(line(&found, None).starts_with("a to b: It moved 4 pels right and 2 pels down; "));
     }
 }

@@ -1,6 +1,8 @@
 //! The tool as a program, and folders to try it in.
 #![allow(dead_code)] // each test file uses a part
 
+pub mod drawn;
+
 use serde_json::Value;
 use std::fs;
 use std::io::Write;

@@ -1,0 +1,5 @@
+pub mod Run
+pub mod Frame
+pub mod Recovery
+pub mod Priors
+pub mod Inner

@@ -1,0 +1,4 @@
+pub mod Rows
+pub mod Ending
+pub mod Recovery
+pub mod Sound
