@@ -57,12 +57,12 @@ stepIn-lies corner step block window start r a =
     (record { y-low = omega arith; y-high = omega arith; x-low = omega arith; x-high = omega arith })
 
 -- a reach left over
-pub steady-after : (reach step : ℕ) (corner : Offset) (y x y' x' : ℕ) → Steady (reach + step) corner (at y x) → Lies step y x y' x' → Steady reach corner (at y' x')
-steady-after reach step corner y x y' x' s l =
-    let a : 8 * corner .y + (reach + step) ≤ y + 24 = s .y-around .low in
-    let b : y + (reach + step) ≤ 8 * corner .y + 38 = s .y-around .high in
-    let c : 8 * corner .x + (reach + step) ≤ x + 24 = s .x-around .low in
-    let d : x + (reach + step) ≤ 8 * corner .x + 38 = s .x-around .high in
+pub steady-after : {reach step before : ℕ} (corner : Offset) (y x y' x' : ℕ) → Steady before corner (at y x) → Lies step y x y' x' → reach + step ≤ before → Steady reach corner (at y' x')
+steady-after {reach} {step} {before} corner y x y' x' s l k =
+    let a : 8 * corner .y + before ≤ y + 24 = s .y-around .low in
+    let b : y + before ≤ 8 * corner .y + 38 = s .y-around .high in
+    let c : 8 * corner .x + before ≤ x + 24 = s .x-around .low in
+    let d : x + before ≤ 8 * corner .x + 38 = s .x-around .high in
     let e : y ≤ y' + step = l .y-low in
     let f : y' ≤ y + step = l .y-high in
     let g : x ≤ x' + step = l .x-low in
@@ -78,8 +78,8 @@ steady-start centre y x l =
     let h : x ≤ centre .x + 3 = l .x-high in
     record { y-around = record { low = omega arith; high = omega arith }; x-around = record { low = omega arith; high = omega arith } }
 
-pub steady-less : (reach less : ℕ) (corner motion : Offset) → less ≤ reach → Steady reach corner motion → Steady less corner motion
-steady-less reach less corner motion l s =
+pub steady-less : {reach less : ℕ} (corner motion : Offset) → Steady reach corner motion → less ≤ reach → Steady less corner motion
+steady-less {reach} {less} corner motion s l =
     let a : 8 * corner .y + reach ≤ motion .y + 24 = s .y-around .low in
     let b : motion .y + reach ≤ 8 * corner .y + 38 = s .y-around .high in
     let c : 8 * corner .x + reach ≤ motion .x + 24 = s .x-around .low in

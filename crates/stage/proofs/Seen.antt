@@ -145,10 +145,10 @@ module _ (input ref : List â„•) (place : Place) (none : Offset) (zy : none .y â‰
         let first = startOf (bilinearWindowCosts block window by start) (start .y) (start .x) in
         let by-4 = stepIn by 4 block window first in
         let by-2 = stepIn by 2 block window by-4 in
-        let s4 : Steady 4 by (at (first .y) (first .x)) = steady-less 7 4 by start (omega arith) s in
-        let s3 : Steady 3 by (at (by-4 .y) (by-4 .x)) = steady-after 3 4 by (first .y) (first .x) (by-4 .y) (by-4 .x) s (stepIn-lies by 4 block window first room s4) in
-        let s2 : Steady 2 by (at (by-4 .y) (by-4 .x)) = steady-less 3 2 by (at (by-4 .y) (by-4 .x)) (omega arith) s3 in
-        let s1 : Steady 1 by (at (by-2 .y) (by-2 .x)) = steady-after 1 2 by (by-4 .y) (by-4 .x) (by-2 .y) (by-2 .x) s3 (stepIn-lies by 2 block window by-4 room s2) in
+        let s4 : Steady 4 by (at (first .y) (first .x)) = steady-less by start s (omega arith) in
+        let s3 : Steady 3 by (at (by-4 .y) (by-4 .x)) = steady-after by (first .y) (first .x) (by-4 .y) (by-4 .x) s (stepIn-lies by 4 block window first room s4) (omega arith) in
+        let s2 : Steady 2 by (at (by-4 .y) (by-4 .x)) = steady-less by (at (by-4 .y) (by-4 .x)) s3 (omega arith) in
+        let s1 : Steady 1 by (at (by-2 .y) (by-2 .x)) = steady-after by (by-4 .y) (by-4 .x) (by-2 .y) (by-2 .x) s3 (stepIn-lies by 2 block window by-4 room s2) (omega arith) in
         let ry = s .y-around in
         let rx = s .x-around in
         step-seen 1 by-2 s1

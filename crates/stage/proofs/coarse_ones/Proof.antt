@@ -20,7 +20,7 @@ coarse-candidate-requires : tie.Need-coarse-candidate-requires Inv-loop μ-loop
 coarse-candidate-requires c κs =
     let p = c .before .before .before .before .pre in
     let i = c .before .loop .inv in
-    (p .0, ((p .1 .0 .0, omega (arith, c .loop-test .taken, p .1 .1 .0)), omega (arith, i .1, c .loop-test .taken, p .1 .1 .0, p .1 .1 .1)))
+    (p .0, ((omega (arith, c .loop-test .taken, p .1 .0 .0, p .1 .1 .0), omega (arith, c .loop-test .taken, p .1 .0 .0, p .1 .1 .0)), omega (arith, i .1, c .loop-test .taken, p .1 .1 .0, p .1 .1 .1)))
 
 loop-again : tie.Need-loop-again Inv-loop μ-loop
 loop-again c = (

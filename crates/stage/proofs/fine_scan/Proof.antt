@@ -7,7 +7,14 @@ use Rattle.stage.proofs.fine_scan.Statement.{statement}
 use Rattle.stage.proofs.fine_scan.Tie as tie
 
 refine-requires : tie.Need-refine-requires
-refine-requires c κs = (c .before .before .before .pre .0, (c .before .before .before .pre .1, c .full-pel .ensures .1))
+refine-requires c κs =
+    let l = c .full-pel .ensures .1 in (
+      c .before .before .before .pre .0,
+      (
+        c .before .before .before .pre .1,
+        record { y-low = omega (arith, l .y-low); y-high = omega (arith, l .y-high); x-low = omega (arith, l .x-low); x-high = omega (arith, l .x-high) },
+      ),
+    )
 
 returns : tie.Need-returns
 returns c =

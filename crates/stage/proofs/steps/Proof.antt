@@ -1,6 +1,6 @@
 -- `steps`: three steps, each from what the step before gave, within what is left of the reach; the bytes of the window are the window.
 -- Assumes nothing.
-use Rattle.stage.specs.Inner.{at}
+use Rattle.stage.specs.Inner.{at, Steady}
 use Rattle.stage.proofs.Reach.{steady-less, steady-after, lies-after, steps-are}
 use Rattle.stage.proofs.Whole.{fine-bytes}
 use Rattle.eighths.proofs.Blended.{window-back}
@@ -13,15 +13,15 @@ eighths-step-requires : tie.Need-eighths-step-requires
 eighths-step-requires c κs =
     let p = c .before .before .before .before .before .before .before .before .before .before .pre in
     let a = c .before .before .before .before .before .before .before .before .before .before .args in
-    (fine-bytes (p .0) (c .before .before .before .before .before .before .highs-of .ensures) (c .before .before .before .lows-of .ensures), (p .1 .0, (steady-less 7 4 (a .corner) (at (a .first .y) (a .first .x)) (omega arith) (p .1 .1 .0), omega (arith, p .1 .1 .1))))
+    (fine-bytes (p .0) (c .before .before .before .before .before .before .highs-of .ensures) (c .before .before .before .lows-of .ensures), (p .1 .0, (steady-less (a .corner) (at (a .first .y) (a .first .x)) (p .1 .1 .0) (omega arith), omega (arith, p .1 .1 .1))))
 
 eighths-step-requires-2 : tie.Need-eighths-step-requires-2
 eighths-step-requires-2 c κs =
     let p = c .before .before .before .before .before .before .before .before .before .before .before .before .before .pre in
     let a = c .before .before .before .before .before .before .before .before .before .before .before .before .before .args in
     let b = c .before .before .eighths-step .result in
-    let s = steady-after 3 4 (a .corner) (a .first .y) (a .first .x) (b .y) (b .x) (p .1 .1 .0) (c .before .before .eighths-step .ensures .1) in
-    (fine-bytes (p .0) (c .before .before .before .before .before .before .before .before .before .highs-of .ensures) (c .before .before .before .before .before .before .lows-of .ensures), (p .1 .0, (steady-less 3 2 (a .corner) (at (b .y) (b .x)) (omega arith) s, omega (arith, c .before .before .eighths-step .ensures .0 .few, p .1 .1 .1))))
+    let s : Steady 3 (a .corner) (at (b .y) (b .x)) = steady-after (a .corner) (a .first .y) (a .first .x) (b .y) (b .x) (p .1 .1 .0) (c .before .before .eighths-step .ensures .1) (omega arith) in
+    (fine-bytes (p .0) (c .before .before .before .before .before .before .before .before .before .highs-of .ensures) (c .before .before .before .before .before .before .lows-of .ensures), (p .1 .0, (steady-less (a .corner) (at (b .y) (b .x)) s (omega arith), omega (arith, c .before .before .eighths-step .ensures .0 .few, p .1 .1 .1))))
 
 eighths-step-requires-3 : tie.Need-eighths-step-requires-3
 eighths-step-requires-3 c κs =
@@ -29,9 +29,9 @@ eighths-step-requires-3 c κs =
     let a = c .before .before .before .before .before .before .before .before .before .before .before .before .before .before .before .before .args in
     let b = c .before .before .before .before .before .eighths-step .result in
     let d = c .before .before .eighths-step2 .result in
-    let s = steady-after 3 4 (a .corner) (a .first .y) (a .first .x) (b .y) (b .x) (p .1 .1 .0) (c .before .before .before .before .before .eighths-step .ensures .1) in (
+    let s : Steady 3 (a .corner) (at (b .y) (b .x)) = steady-after (a .corner) (a .first .y) (a .first .x) (b .y) (b .x) (p .1 .1 .0) (c .before .before .before .before .before .eighths-step .ensures .1) (omega arith) in (
       fine-bytes (p .0) (c .before .before .before .before .before .before .before .before .before .before .before .before .highs-of .ensures) (c .before .before .before .before .before .before .before .before .before .lows-of .ensures),
-      (p .1 .0, (steady-after 1 2 (a .corner) (b .y) (b .x) (d .y) (d .x) s (c .before .before .eighths-step2 .ensures .1), omega (arith, c .before .before .eighths-step2 .ensures .0 .few, c .before .before .before .before .before .eighths-step .ensures .0 .few, p .1 .1 .1))),
+      (p .1 .0, (steady-after (a .corner) (b .y) (b .x) (d .y) (d .x) s (c .before .before .eighths-step2 .ensures .1) (omega arith), omega (arith, c .before .before .eighths-step2 .ensures .0 .few, c .before .before .before .before .before .eighths-step .ensures .0 .few, p .1 .1 .1))),
     )
 
 returns : tie.Need-returns
