@@ -64,8 +64,7 @@ fn octave(x: i32, y: i32, cell: i32) -> i32 {
 /// a small one that it meets again and again.
 pub fn pictures(width: usize, height: usize) -> usize {
     match oracle::sample_count(width, height) {
-        0..=16 => 200,
-        17..=64 => 20,
+        0..=64 => 200,
         _ => 1,
     }
 }

@@ -155,7 +155,7 @@ fn head() -> String {
          One driver calls both sides on the same input, ours through `bindings/rust`, compares their answers, and then times them in turns. \
          Each ratio is the best processor time of ours divided by the best of the Rust, over {} rounds or more; \
          'rounds' has the least and the greatest of the rounds' own ratios. \
-         A search or a job of up to 16 blocks is measured on 200 pictures, one after the other, one of up to 64 blocks on 20: \
+         A search or a job of up to 64 blocks is measured on 200 pictures, one after the other: \
          a processor learns the branches of a picture that it meets again and again. \
          'At most' is the ratio that is wanted; calls without one are only reported.\n\n\
          Searches, fits, scores, quantizations and headers are measured against the Rust that is ported. \
