@@ -68,7 +68,8 @@ pub fn drawn(lines: &[Line]) -> String {
         svg += &format!("<text x=\"{:.1}\" y=\"{}\" text-anchor=\"middle\">{side}</text>\n", x(i), TOP + HIGH + 20.0);
     }
     for ((scene, times), colour) in lines.iter().zip(["#b03030", "#3060b0", "#308050"]) {
-        let points: Vec<String> = times.iter().enumerate().map(|(i, &time)| format!("{:.1},{:.1}", x(i), y(time))).collect();
+        let points: Vec<String> =
+            times.iter().enumerate().map(|(i, &time)| format!("{:.1},{:.1}", x(i), y(time))).collect();
         svg += &format!(
             "<polyline points=\"{}\" fill=\"none\" stroke=\"{colour}\" stroke-width=\"2\"/>\n\
              <text x=\"{}\" y=\"{:.1}\" fill=\"{colour}\">{}</text>\n",

@@ -3,6 +3,8 @@
 //!     bench FILE PICTURE          every case: a table on standard output, a page in FILE, and the growth of the search in PICTURE
 //!     bench quick                 a few cases, a table on standard output
 //!     bench run                   the cases in a run alone: their lines on standard output
+//!     bench only TEXT             the cases that have TEXT in their line, a table on standard output
+//!     bench growth PICTURE        the growth of the search alone
 //!     bench list                  the cases and their numbers
 //!     bench repeat CASE SIDE N    one side ('ours', 'rust' or 'ready') of a case N times, for a profiler
 
@@ -30,10 +32,14 @@ fn main() {
     match words[..] {
         ["list"] => list(),
         ["run"] => print!("{}", in_a_run()),
+        ["only", text] => drop(measure(only(text), timing::WHOLE)),
+        ["growth", picture] => print!("{}", growth(picture)),
         ["repeat", case, side, times] => repeat(case, side, times),
         ["quick"] => drop(measure(cases::few(), timing::QUICK)),
         [file, picture] => page(file, picture),
-        _ => panic!("usage: bench FILE PICTURE | bench quick | bench run | bench list | bench repeat CASE SIDE N"),
+        _ => panic!(
+            "usage: bench FILE PICTURE | bench quick | bench run | bench only TEXT | bench growth PICTURE | bench list | bench repeat CASE SIDE N"
+        ),
     }
 }
 
@@ -63,12 +69,22 @@ fn page(file: &str, picture: &str) {
     let (table, absolute) = measure(cases::all(), timing::WHOLE);
     let in_a_run = in_a_run();
     print!("{in_a_run}");
-    let growth = growth::measure();
-    fs::write(picture, growth::drawn(&growth)).expect("the picture's folder is there");
+    let growth = growth(picture);
     let times = "## Times of a job\n\nIn milliseconds, on the machine above, one thread.\n\n\
                  | call | input | ours | Rust |\n|---|---|---|---|\n";
-    let page = format!("{}\n{table}\n{in_a_run}\n{times}{absolute}\n{}", head(), growth::told(&growth));
+    let page = format!("{}\n{table}\n{in_a_run}\n{times}{absolute}\n{growth}", head());
     fs::write(file, page).expect("the page's folder is there");
+}
+
+/// The growth of the search: drawn into a file, and as a part of the page.
+fn growth(picture: &str) -> String {
+    let growth = growth::measure();
+    fs::write(picture, growth::drawn(&growth)).expect("the picture's folder is there");
+    growth::told(&growth)
+}
+
+fn only(text: &str) -> Vec<Case> {
+    cases::all().into_iter().filter(|case| case.to_string().contains(text)).collect()
 }
 
 /// The table of the cases, a line printed when it is measured, and the times of the jobs among them.
