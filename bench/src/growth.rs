@@ -45,18 +45,20 @@ pub fn drawn(lines: &[Line]) -> String {
     const TOP: f64 = 20.0;
     const WIDE: f64 = 480.0;
     const HIGH: f64 = 220.0;
-    let most = lines.iter().flat_map(|(_, times)| times).fold(1.0, |most: f64, &time| most.max(time)).ceil();
+    const STEPS: f64 = 4.0;
+    let greatest = lines.iter().flat_map(|(_, times)| times).fold(1.0, |most: f64, &time| most.max(time));
+    let most = STEPS * (greatest / STEPS).ceil();
     let x = |i: usize| LEFT + WIDE * i as f64 / (SIDES.len() - 1) as f64;
     let y = |time: f64| TOP + HIGH * (1.0 - time / most);
     let mut svg = String::from(
         "<svg xmlns=\"http://www.w3.org/2000/svg\" viewBox=\"0 0 660 290\" font-family=\"sans-serif\" font-size=\"12\">\n\
          <rect width=\"660\" height=\"290\" fill=\"white\"/>\n",
     );
-    for step in 0..=4 {
-        let time = most * f64::from(step) / 4.0;
+    for step in 0..=STEPS as u32 {
+        let time = most * f64::from(step) / STEPS;
         svg += &format!(
             "<line x1=\"{LEFT}\" x2=\"{}\" y1=\"{:.1}\" y2=\"{:.1}\" stroke=\"#ddd\"/>\n\
-             <text x=\"{}\" y=\"{:.1}\" text-anchor=\"end\">{time:.1}</text>\n",
+             <text x=\"{}\" y=\"{:.1}\" text-anchor=\"end\">{time:.0}</text>\n",
             LEFT + WIDE,
             y(time),
             y(time),
