@@ -1,5 +1,5 @@
 -- How a job whose set names all five classes ends, said without sets: its rows, its model of all words, its report and
--- what it leaves. The law is `as-unnamed` of proofs/Unnamed.
+-- what it leaves. The law is `as-unnamed` of `Unnamed`.
 -- Assumes nothing.
 use Prim.Native.Nat.{ℕ}
 use mathlib.Core.Bool.{Bool}
@@ -17,7 +17,7 @@ use Rattle.job_task.specs.Task.{Task, Lent, sizesOf}
 use Rattle.job_task.specs.Rows.{unlessElects, noReference, tooLittle, tooFewToTrim, sizeRows, modelRows}
 use Rattle.job_model.specs.Modelled as model
 use Rattle.job_outcome.specs.Outcome.{Ended, samples, words}
-use Rattle.job_outcome.specs.Ends.{outcomeBy}
+use Rattle.job_outcome.proofs.Ends.{outcomeBy}
 
 -- ---- the rows: 4 without the set, no 19, and 15 by all samples
 

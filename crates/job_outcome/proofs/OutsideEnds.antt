@@ -1,5 +1,5 @@
 -- How a job outside a run ends, said without forms: its rows, and its blocks, of form 2. The law is `as-outside` of
--- proofs/Outside.
+-- `Outside`.
 -- Assumes nothing.
 use Prim.Native.Nat.{ℕ, _*_}
 use mathlib.Core.Bool.{Bool}

@@ -1,6 +1,6 @@
 -- How a job ends whose rows and model are given: the row that it meets before its search and the one after, 0 for none,
--- its seven types and models, and its own six numbers with the words over which they are scored. For `Asked`,
--- `Untrimmed` and `Unnamed`.
+-- its seven types and models, and its own six numbers with the words over which they are scored. For `AskedEnds`,
+-- `UntrimmedEnds` and `UnnamedEnds`.
 -- Assumes nothing.
 use Prim.Native.Nat.{ℕ}
 use mathlib.Core.List.{List}

@@ -1,5 +1,5 @@
 -- How a job that neither elects nor trims ends, said without electing and trimming: its rows, its fit of all named words,
--- its report and what it leaves. The law is `as-untrimmed` of proofs/Untrimmed.
+-- its report and what it leaves. The law is `as-untrimmed` of `Untrimmed`.
 -- Assumes nothing.
 use Prim.Native.Nat.{ℕ}
 use mathlib.Core.Bool.{Bool}
@@ -20,7 +20,7 @@ use Rattle.job_task.specs.Task.{Task, Lent, sizesOf}
 use Rattle.job_task.specs.Rows.{noReference, tooLittle, sizeRows, modelRows}
 use Rattle.job_model.specs.Assemble.{typesWith, modelsWith}
 use Rattle.job_outcome.specs.Outcome.{Ended, named}
-use Rattle.job_outcome.specs.Ends.{outcomeBy}
+use Rattle.job_outcome.proofs.Ends.{outcomeBy}
 
 -- ---- the rows: 4 without the codes of trimming and electing, and no 15
 

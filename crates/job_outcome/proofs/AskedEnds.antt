@@ -1,5 +1,5 @@
 -- How a job that doesn't elect ends, said without electing: its rows, its fit of the type asked for, after trimming
--- where it trims, its report and what it leaves. The law is `as-asked` of proofs/Asked.
+-- where it trims, its report and what it leaves. The law is `as-asked` of `Asked`.
 -- Assumes nothing.
 use Prim.Native.Nat.{ℕ}
 use mathlib.Core.Bool.{Bool}
@@ -22,7 +22,7 @@ use Rattle.job_task.specs.Task.{Task, Lent, sizesOf}
 use Rattle.job_task.specs.Rows.{noReference, tooLittle, sizeRows, modelRows}
 use Rattle.job_model.specs.Assemble.{typesWith, modelsWith}
 use Rattle.job_outcome.specs.Outcome.{Ended, named}
-use Rattle.job_outcome.specs.Ends.{outcomeBy}
+use Rattle.job_outcome.proofs.Ends.{outcomeBy}
 
 -- ---- the rows: 4 without the elect code
 
