@@ -8,10 +8,10 @@
    else that is passed. A count that names more than there is can't be seen here, and is the caller's to get right.
 
    The library allocates nothing, keeps nothing between calls and has no state of its own: any number of threads
-   may call it at once, each with its own buffers. A call that trims or elects takes about 53 kB of the thread's stack
-   over words, 69 kB over words by a set of classes and 168 kB over samples, by a set or not, for what it keeps of them
-   and for residuals; another call by a set takes 18 kB over words and less than 1 kB over samples, a job about 21 kB,
-   70 kB if it trims or elects, in a run 23 and 72 kB. The library expects the floating-point environment that a
+   may call it at once, each with its own buffers. A call that trims or elects takes about 57 kB of the thread's stack
+   over words, 74 kB over words by a set of classes and 168 kB over samples, by a set or not, for what it keeps of them
+   and for residuals; another call by a set takes 22 kB over words and about 1 kB over samples, a job about 24 kB,
+   75 kB if it trims or elects, in a run 25 and 77 kB. The library expects the floating-point environment that a
    process begins with: rounding to nearest, traps off, subnormal numbers kept. It needs memcpy, memset and no other
    function.
 

@@ -9,8 +9,9 @@
 //! A call that refuses answers with the table's row, a [`Refusal`], and leaves the lent slices as they were; the one
 //! exception is [`job`] with [`Refusal::Singular`] or [`Refusal::NotFinite`]. An accepted call writes only the part that
 //! it uses. The library keeps nothing between calls, so any number of threads may call it at once. A call that trims or
-//! elects takes about 53 kB of the thread's stack over words, 69 kB by a set of classes and 168 kB over samples; a job
-//! about 21 kB, 70 kB if it trims or elects, in a run 23 and 72 kB. It expects the floating-point environment that a process begins with: rounding to nearest, traps off.
+//! elects takes about 57 kB of the thread's stack over words, 74 kB by a set of classes and 168 kB over samples; a job
+//! about 24 kB, 75 kB if it trims or elects, in a run 25 and 77 kB. It expects the floating-point environment that a
+//! process begins with: rounding to nearest, traps off.
 //!
 //! Types are 0 identity, 1 translation, 2 rotation-zoom, 3 affine; classes are [`UNSORTED`], [`FIBRE`],
 //! [`RIGID_PLASTIC`], [`METAL`] and [`FILM`]; a flag is 1 for high precision, else 0. Codes are plain numbers, so that
