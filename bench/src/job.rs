@@ -27,7 +27,7 @@ pub type Reported = ([u8; 7], [StoredModel; 7], f64, usize, usize);
 impl Job {
     /// A textured scene with a fit of this type; the six other references have affine models.
     pub fn new(kind: u8, width: usize, height: usize) -> Self {
-        let (input, reference) = Scene::Textured.pair(width, height);
+        let (input, reference) = Scene::Textured.pair(width, height, 0);
         let mut settings = Settings::fit(FRAME, GmType::Identity).reference(REFERENCE);
         (settings.gm_type, settings.flag) = (kind, HIGH_PRECISION);
         Self {
@@ -46,6 +46,12 @@ impl Job {
         let mut job = Self::new(IDENTITY, width, height);
         job.settings.elect = 1;
         job
+    }
+
+    /// The same job on another picture.
+    pub fn on(mut self, picture: usize) -> Self {
+        (self.input, self.reference) = Scene::Textured.pair(self.width, self.height, picture);
+        self
     }
 
     /// The same job without the film.
