@@ -89,7 +89,7 @@ def y4m(pair: Tuple[Picture, Picture], bits: int) -> bytes:
     for frame in pair:
         pels = frame.pels
         if bits == 8 and frame.pel_bytes == 2:
-            pels = bytes(frame.plane())
+            pels = bytes(frame.plane().tolist())
         elif sys.byteorder == "big" and frame.pel_bytes == 2:
             swapped = frame.plane()
             swapped.byteswap()
