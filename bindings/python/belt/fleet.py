@@ -61,7 +61,7 @@ def _client(words: argparse.Namespace) -> Iterator[Any]:
     from distributed import Client, LocalCluster
 
     if words.scheduler:
-        with Client(words.scheduler, timeout=30) as client:
+        with Client(words.scheduler) as client:
             yield client
         return
     if _tool.find() is None:
