@@ -153,13 +153,15 @@ def _tracked(frames: Iterable[Any], asked: _Asked, threads: int) -> Iterator[Mea
 
 def _measured(first: Picture, second: Picture, asked: _Asked) -> Measurement:
     alike(first, second)
-    bits = depth(first, second, asked.bits)
     samples = sample_count(first.width, first.height)
     classes = bytes(samples) if asked.classes is None else asked.classes
     if len(classes) != samples:
         raise Refusal(2, "classes", len(classes), samples)
     if asked.tool is not None:
-        return _by_tool(first, second, asked, asked.tool, bits, classes)
+        return _by_tool(first, second, asked, asked.tool, depth(first, second, asked.bits), classes)
+    if asked.bits is not None:
+        # the library takes pels as they are
+        depth(first, second, asked.bits)
     return _by_library(first, second, asked, classes)
 
 

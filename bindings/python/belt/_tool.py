@@ -51,7 +51,9 @@ def find() -> Optional[str]:
         raise ToolError(f"BELT_TOOL is {path}, which isn't the tool belt")
     theirs, ours = (tuple(map(int, one.split(".")[:2])) for one in (version, __version__))
     if theirs[0] != ours[0] or theirs[1] < ours[1]:
-        raise ToolError(f"the tool {path} is of version {version}, and the package belt of {__version__}")
+        raise ToolError(
+            f"the tool {path} is of version {version}, and the package belt of {__version__}; robust=False measures without"
+        )
     return path
 
 
