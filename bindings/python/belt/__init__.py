@@ -64,7 +64,7 @@ from ._headers import (
 from ._job import Report, Settings, job
 from ._lend import set_of
 from ._measure import measure, track
-from ._measurement import Measurement, Warning
+from ._measurement import Measurement, Warned
 from ._model import IDENTITIES, STILL, Model, Motion, Sample, StoredModel, sample_of
 from ._refusal import REFUSALS, Refusal
 from ._run import Run, RunReader
@@ -171,7 +171,7 @@ __all__ = [
     "ToolError",
     "Trimmed",
     "TrimmedModel",
-    "Warning",
+    "Warned",
     "block_bytes",
     "blocks_of",
     "coefficient_prices",

@@ -16,11 +16,11 @@ if TYPE_CHECKING:
 Six = Tuple[float, float, float, float, float, float]
 
 
-class Warning(NamedTuple):
+class Warned(NamedTuple):
     """Why an answer isn't to be trusted, or what else is to be known: a name for programs, and what to do.
 
     >>> import belt
-    >>> belt.Warning("few-blocks", "too few blocks agree").name
+    >>> belt.Warned("few-blocks", "too few blocks agree").name
     'few-blocks'
     """
 
@@ -64,7 +64,7 @@ class Measurement:
     blocks: int
     within: float
     predicted: Optional[float]
-    warnings: Tuple[Warning, ...]
+    warnings: Tuple[Warned, ...]
     header: bytes = field(repr=False)
     header_bits: int = field(repr=False)
     words: array[int] = field(repr=False)

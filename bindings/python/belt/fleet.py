@@ -21,6 +21,7 @@ import os
 import sys
 import tempfile
 import uuid
+from asyncio import CancelledError
 from contextlib import contextmanager
 from typing import Any, Dict, Iterator, List, Optional, Sequence, TextIO
 
@@ -89,7 +90,7 @@ def _rows(client: Any, clips: Sequence[str], options: Sequence[str]) -> Iterator
         clip, _ = futures.pop(done.key)
         try:
             row: Row = done.result()
-        except Exception as error:  # whatever a worker or the scheduler met
+        except (Exception, CancelledError) as error:  # whatever a worker or the scheduler met
             row = {"clip": clip, "error": f"{type(error).__name__}: {error}".splitlines()[0]}
         yield row
         done.release()
@@ -162,6 +163,9 @@ def main(arguments: Optional[Sequence[str]] = None) -> int:
     except (OSError, _tool.ToolError) as error:
         print(f"belt.fleet: {error}", file=sys.stderr)
         return 2
+    except KeyboardInterrupt:
+        print(f"\nbelt.fleet: ended by hand; {words.out} has what was done", file=sys.stderr)
+        return 130
     return 3 if any("error" in row for row in table.rows.values()) else 0
 
 

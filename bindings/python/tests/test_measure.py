@@ -18,7 +18,7 @@ sys.path.insert(0, str(Path(__file__).resolve().parent))
 
 import belt  # noqa: E402
 import drawn  # noqa: E402
-from belt import Refusal, _measure, _tool  # noqa: E402
+from belt import Refusal, _by_tool, _tool  # noqa: E402
 
 try:
     import numpy
@@ -256,9 +256,9 @@ class Numbers(unittest.TestCase):
                     "zoom": math.hypot(m2 + m5, m4 - m3) / 2,
                     "angle_degrees": math.degrees(math.atan2(m4 - m3, m2 + m5)),
                 }
-                for own, wanted in zip(_measure._numbers(told, width, height), numbers):
+                for own, wanted in zip(_by_tool.numbers_of(told, width, height), numbers):
                     self.assertAlmostEqual(own, wanted, delta=1e-11)
-        self.assertIsNone(_measure._numbers({"type": None}, 64, 64))
+        self.assertIsNone(_by_tool.numbers_of({"type": None}, 64, 64))
 
 
 @unittest.skipUnless(TOOL, "the tool isn't built")
@@ -333,6 +333,9 @@ class ByTool(unittest.TestCase):
         self.assertEqual((fibre.status, fibre.classes), ("measured", classes))
         self.assertLess(math.hypot(fibre.motion.u - 5, fibre.motion.v - 3), 0.2)
         self.assertEqual(belt.measure(bytes_of(STILL), bytes_of(second), classes=classes, set=[3]).status, "still")
+        small = drawn.view(STILL[: 15 * 40], 15, 40)
+        seen = belt.measure(small, small)
+        self.assertEqual((seen.status, seen.by, len(seen.words), seen.motion), ("no-blocks", "tool", 0, None))
 
     def test_refusals_and_errors(self):
         few = drawn.view(STILL[: 16 * 32], 32, 16)
@@ -406,7 +409,7 @@ class Shown(unittest.TestCase):
             self.assertIn(part, text)
         import dataclasses
 
-        odd = dataclasses.replace(self.seen, warnings=(belt.Warning("<b>", "a & b"),))
+        odd = dataclasses.replace(self.seen, warnings=(belt.Warned("<b>", "a & b"),))
         self.assertIn("&lt;b&gt;: a &amp; b", odd._repr_html_())
 
     def test_words(self):
