@@ -6,7 +6,7 @@ from __future__ import annotations
 import ctypes
 import operator
 from ctypes import c_double, c_int32, c_uint8, c_uint16, c_uint32
-from typing import Any, Callable, Iterable, List, NamedTuple, Optional, Sequence, Tuple, Union
+from typing import Any, Callable, Iterable, List, Optional, Sequence, Tuple, Union
 
 from . import _raw
 from ._library import library
@@ -19,21 +19,28 @@ _MOST_SIZE = 2**64 - 1
 Wanted = Union[int, Callable[[], int], None]
 
 
-class Lent(NamedTuple):
+class Lent:
     """A list as the library takes it. Its length in the units of a refusal, and what is wanted of it, where that is known;
     where it costs something to know, it is asked for when a call refused."""
 
-    name: str
-    elements: Any
-    total: int
-    written: bool = False
-    length: int = 0
-    wanted: Wanted = None
+    __slots__ = ("name", "elements", "total", "written", "length", "wanted")
+
+    def __init__(
+        self, name: str, elements: Any, total: int, written: bool = False, length: int = 0, wanted: Wanted = None
+    ) -> None:
+        self.name, self.elements, self.total = name, elements, total
+        self.written, self.length, self.wanted = written, length, wanted
 
     def span(self) -> Tuple[int, int]:
         """Where it lies in memory."""
         begin = ctypes.addressof(self.elements)
         return begin, begin + ctypes.sizeof(self.elements)
+
+
+def _let_go(lists: Sequence[Lent]) -> None:
+    """Gives the buffers back, ahead of an exception whose traceback would hold them: whoever catches it may lengthen one."""
+    for lent in lists:
+        lent.elements = None
 
 
 def whole(value: Any, name: str, least: int, most: int) -> int:
@@ -85,6 +92,8 @@ def _view(values: Any, element: Any, name: str) -> memoryview:
         view = memoryview(values)
     except TypeError:
         raise TypeError(f"{name}: a list, or a buffer of numbers, is wanted, not {type(values).__name__}") from None
+    if view.ndim == 0:
+        raise TypeError(f"{name}: a list is wanted, not a number")
     bits = 8 * ctypes.sizeof(element)
     if view.format.lstrip("@=<") not in tuple(_FORMATS[element]) or 8 * view.itemsize != bits:
         kind = "floating point" if element is c_double else "without sign"
@@ -139,11 +148,14 @@ def octets(values: Any, name: str, wanted: Wanted = None, shape: Optional[Tuple[
     return numbers_of(values, c_uint8, name, wanted, shape)
 
 
-def room(values: Any, element: Any, name: str, wanted: Wanted = None) -> Lent:
+def room(
+    values: Any, element: Any, name: str, wanted: Wanted = None, shape: Optional[Tuple[int, int]] = None
+) -> Lent:
     """A buffer that is written to."""
     view = _view(values, element, name)
     if view.readonly:
         raise TypeError(f"{name}: it can't be written to")
+    _judge_shape(view, shape, name)
     elements, count = _of_view(view, element)
     return Lent(name, elements, count, True, count, wanted)
 
@@ -208,6 +220,7 @@ def _judge_overlap(lists: Sequence[Lent]) -> None:
         if lent.written:
             for other, other_begin, other_end in spans:
                 if other is not lent and begin < other_end and other_begin < end:
+                    _let_go(lists)
                     raise ValueError(f"{lent.name} and {other.name} overlap in memory")
 
 
@@ -224,7 +237,10 @@ def answer(name: str, *arguments: Any) -> Any:
 def accepted(judged: Any, *arguments: Any) -> Any:
     """The answer, unless it refuses; a length that is wrong is named."""
     if judged.refusal:
-        raise refusal_of(judged.refusal, [argument for argument in arguments if isinstance(argument, Lent)])
+        lists = [argument for argument in arguments if isinstance(argument, Lent)]
+        refusal = refusal_of(judged.refusal, lists)
+        _let_go(lists)
+        raise refusal
     return judged
 
 

@@ -79,8 +79,8 @@ def make_practice_planes(
         height,
         signed(dy, "dy"),
         signed(dx, "dx"),
-        room(input_y, c_uint16, "input_y", width * height),
-        room(reference, c_uint16, "reference", width * height),
+        room(input_y, c_uint16, "input_y", width * height, (height, width)),
+        room(reference, c_uint16, "reference", width * height, (height, width)),
     )
     pels: int = made.pels
     return pels

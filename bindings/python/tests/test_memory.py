@@ -72,6 +72,25 @@ class Lengths(unittest.TestCase):
         held.append(WORD)
 
 
+    def test_a_buffer_that_was_too_short_can_be_lengthened(self):
+        blocks, header, shared = bytearray(511), bytearray(1), bytearray(1024)
+        try:
+            belt.write_frame(5, [WORD], [3], blocks)
+        except belt.Refusal:
+            blocks.extend(bytes(1))
+        self.assertEqual(belt.write_frame(5, [WORD], [3], blocks), 1)
+        moved = (StoredModel((8192, -8192, 65536, 0, 0, 65536)),) + IDENTITIES[1:]
+        try:
+            belt.Run(1, 2).frame(False, bytes([1, 0, 0, 0, 0, 0, 0]), moved, 0, header)
+        except belt.Refusal as refusal:
+            header.extend(bytes(refusal.wanted - refusal.given))
+        self.assertEqual(len(header), 3)
+        try:
+            belt.to_form1(shared, shared)
+        except ValueError:
+            shared.clear()
+
+
 class Overlaps(unittest.TestCase):
     """What is lent overlaps nothing else of the call."""
 
@@ -147,6 +166,7 @@ class Numbers(unittest.TestCase):
         self.assertRaises(OverflowError, belt.write_frame, 5, [WORD], [256], bytearray(512))
         self.assertRaises(OverflowError, belt.Run, 1, 2**32 + 1)
         self.assertRaises(TypeError, belt.fit_translation, [1.5])
+        self.assertRaises(TypeError, belt.fit_translation, memoryview(bytes(4)).cast("I", ()))
         over = (StoredModel((2**32, 0, 65536, 0, 0, 65536)),) + IDENTITIES[:6]
         self.assertRaises(OverflowError, belt.frame_price, False, bytes(7), IDENTITIES, 1, over)
         self.assertRaises(OverflowError, belt.mean_sq_residual, Model((2**31, 0, 0, 0, 0, 0)), words)
@@ -175,6 +195,9 @@ class Numbers(unittest.TestCase):
         with self.assertRaises(ValueError) as caught:
             belt.job(rows, rows, 32, 64, Settings(1), bytes(8), belt.Buffers(32, 64))
         self.assertIn("32×64", str(caught.exception))
+        made = memoryview(bytearray(2 * 64 * 32)).cast("H", (32, 64)), array("H", bytes(2 * 64 * 32))
+        belt.make_practice_planes(1, 64, 32, 0, 0, *made)
+        self.assertRaises(ValueError, belt.make_practice_planes, 1, 32, 64, 0, 0, *made)
         classes = memoryview(bytearray(8)).cast("B", (4, 2))
         self.assertRaises(ValueError, belt.job, rows, rows, 64, 32, Settings(1), classes, belt.Buffers(64, 32))
 
