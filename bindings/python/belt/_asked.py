@@ -38,9 +38,7 @@ def _type_code(name: TypeName) -> int:
     return code
 
 
-def asked_of(
-    type: TypeName, trim: bool, classes: Any, set: Optional[Set], robust: bool, bits: Optional[int]
-) -> Asked:
+def asked_of(type: TypeName, trim: bool, classes: Any, set: Optional[Set], robust: bool, bits: Optional[int]) -> Asked:
     listed = None if classes is None else bytes(octets(classes, "classes").elements)
     named = ALL_CLASSES if set is None else set_of(set)
     if named & ~ALL_CLASSES or any(kind >= len(CLASSES) for kind in listed or ()):

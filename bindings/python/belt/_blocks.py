@@ -106,9 +106,7 @@ def read_frame(data: Any, words: Any) -> Frame:
 
 def _converted(name: str, data: Any, blocks: Any, form: int) -> int:
     held = octets(data, "data")
-    written: int = call(
-        name, held, room(blocks, c_uint8, "blocks", lambda: block_bytes(_total(held)(), form))
-    ).blocks
+    written: int = call(name, held, room(blocks, c_uint8, "blocks", lambda: block_bytes(_total(held)(), form))).blocks
     return written
 
 

@@ -19,7 +19,9 @@ _WITHIN = 0.25
 _LEAST_ENERGY = 0.25
 # The share of blocks that must agree with a type that is asked for, and the motion below which it stands still.
 _FEW, _STILL = 0.5, 1 / 16
-_FEW_AGREE = Warned("few-agree", "fewer than half of the blocks agree: it moved otherwise, or not as one piece, or too far")
+_FEW_AGREE = Warned(
+    "few-agree", "fewer than half of the blocks agree: it moved otherwise, or not as one piece, or too far"
+)
 
 
 def by_library(first: Picture, second: Picture, asked: Asked, classes: bytes) -> Measurement:

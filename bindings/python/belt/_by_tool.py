@@ -16,9 +16,7 @@ from ._pictures import Picture, y4m
 from ._sizes import ALL_CLASSES, CLASSES, IDENTITY, ROTZOOM, TRANSLATION, TYPES
 
 
-def by_tool(
-    first: Picture, second: Picture, asked: Asked, tool: str, bits: int, classes: bytes
-) -> Measurement:
+def by_tool(first: Picture, second: Picture, asked: Asked, tool: str, bits: int, classes: bytes) -> Measurement:
     """What the tool says, with its samples."""
     words = ["measure", "{clip}#0", "{clip}#1", "--json", "--blocks", "-"]
     files = [("clip", y4m((first, second), bits))]

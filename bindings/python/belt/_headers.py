@@ -84,9 +84,7 @@ def read_global_motion_params(header: Any, at: int, flag: int, prior: Any) -> Mo
     return models_read(call("belt_read_global_motion_params", *lists))
 
 
-def encode_global_motion(
-    intra: bool, types: Any, models: Any, flag: int, prior: Any, start: int, header: Any
-) -> int:
+def encode_global_motion(intra: bool, types: Any, models: Any, flag: int, prior: Any, start: int, header: Any) -> int:
     """Writes the header of a frame of either kind ('Key frames'); answers how many bits. Where intra is true there are
     none, no byte is touched and the prior isn't looked at. Refuses of a key frame 2, 4, 14, 7.
 

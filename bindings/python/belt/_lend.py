@@ -99,7 +99,9 @@ def _view(values: Any, element: Any, name: str) -> memoryview:
         kind = "floating point" if element is c_double else "without sign"
         raise TypeError(f"{name}: elements of {bits} bits, {kind}, are wanted, not {view.format!r}")
     if not view.c_contiguous:
-        raise TypeError(f"{name}: the elements must follow each other in memory; bytes(..) or numpy.ascontiguousarray copy")
+        raise TypeError(
+            f"{name}: the elements must follow each other in memory; bytes(..) or numpy.ascontiguousarray copy"
+        )
     return view
 
 
@@ -148,9 +150,7 @@ def octets(values: Any, name: str, wanted: Wanted = None, shape: Optional[Tuple[
     return numbers_of(values, c_uint8, name, wanted, shape)
 
 
-def room(
-    values: Any, element: Any, name: str, wanted: Wanted = None, shape: Optional[Tuple[int, int]] = None
-) -> Lent:
+def room(values: Any, element: Any, name: str, wanted: Wanted = None, shape: Optional[Tuple[int, int]] = None) -> Lent:
     """A buffer that is written to."""
     view = _view(values, element, name)
     if view.readonly:

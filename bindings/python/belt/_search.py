@@ -56,9 +56,7 @@ def collect_motion_samples(
     return Searched(answer.samples, answer.rows)
 
 
-def make_practice_planes(
-    seed: int, width: int, height: int, dy: int, dx: int, input_y: Any, reference: Any
-) -> int:
+def make_practice_planes(seed: int, width: int, height: int, dy: int, dx: int, input_y: Any, reference: Any) -> int:
     """Makes a belt to practise on ('Practice belt'): a reference plane of noise, and an input plane whose pel at a place
     is the reference pel dy rows further down and dx columns further right, clamped. Answers how many pels each has.
     Refuses 1, 18, 3.

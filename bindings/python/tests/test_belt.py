@@ -268,7 +268,10 @@ class Elections(unittest.TestCase):
             buffers = Guarded(width, 16)
             reference = noisy(width, 16)
             arguments = task(width, 16, input_y=moved(reference, width, 16, 0, 4), reference=reference)
-            report = belt.job(buffers=buffers, **dict(arguments, settings=Settings(1, gm_type=3, reference=1, flag=1, start=0, trim=1, elect=1)))
+            report = belt.job(
+                buffers=buffers,
+                **dict(arguments, settings=Settings(1, gm_type=3, reference=1, flag=1, start=0, trim=1, elect=1)),
+            )
             energy = belt.mean_sq_residual(Model(belt.STILL), buffers.words)
             self.assertEqual(report, ((0,) * 7, IDENTITIES, energy, 7, samples))
 

@@ -45,7 +45,15 @@ def table(path):
 
 
 def pair(status, right=None, down=0.0, warnings=(), **more):
-    own = {"status": status, "right_pels": right, "down_pels": down, "time_s": None, "agree": 8, "usable": 10, "reason": None}
+    own = {
+        "status": status,
+        "right_pels": right,
+        "down_pels": down,
+        "time_s": None,
+        "agree": 8,
+        "usable": 10,
+        "reason": None,
+    }
     own.update(first="a", second="b", warnings=[{"name": name, "text": ""} for name in warnings])
     own.update(more)
     return own
@@ -56,7 +64,9 @@ class Summaries(unittest.TestCase):
         pairs = [pair("measured", 4.0, 3.0), pair("measured", -8.0, 6.0, ["ill-placed"]), pair("still", 0.01)]
         pairs += [pair("unexplained"), pair("bad", agree=None, usable=None, reason="cut short"), pair("flat")]
         row = _clips.summary(pairs)
-        self.assertEqual([row[name] for name in ("pairs", "measured", "still", "unexplained", "flat", "bad")], [6, 2, 1, 1, 1, 1])
+        self.assertEqual(
+            [row[name] for name in ("pairs", "measured", "still", "unexplained", "flat", "bad")], [6, 2, 1, 1, 1, 1]
+        )
         self.assertEqual((row["warned"], row["unit"], row["worst"]), (3, "pels a pair", "a to b: cut short"))
         self.assertEqual((row["path_pels"], row["right_pels"], row["down_pels"]), (15.0, -4.0, 9.0))
         self.assertEqual((row["speed_5"], row["speed_median"], row["speed_95"]), (0.0, 5.0, 10.0))
@@ -116,12 +126,32 @@ class Fleets(unittest.TestCase):
         file = os.path.join(self.folder, "scheduler.json")
         quiet = {"stdout": subprocess.DEVNULL, "stderr": subprocess.DEVNULL}
         own = ["--host", "127.0.0.1"]
-        self.begin("-m", "distributed.cli.dask_scheduler", *own, "--port", "0", "--no-dashboard", "--scheduler-file", file, **quiet)
+        self.begin(
+            "-m",
+            "distributed.cli.dask_scheduler",
+            *own,
+            "--port",
+            "0",
+            "--no-dashboard",
+            "--scheduler-file",
+            file,
+            **quiet,
+        )
         self.until(lambda: os.path.exists(file) and os.path.getsize(file), "no scheduler")
         workers = [
             self.begin(
-                "-m", "distributed.cli.dask_worker", *own, "--scheduler-file", file, "--no-nanny", "--no-dashboard",
-                "--nthreads", "1", "--local-directory", self.folder, **quiet,
+                "-m",
+                "distributed.cli.dask_worker",
+                *own,
+                "--scheduler-file",
+                file,
+                "--no-nanny",
+                "--no-dashboard",
+                "--nthreads",
+                "1",
+                "--local-directory",
+                self.folder,
+                **quiet,
             )
             for _ in range(2)
         ]
@@ -161,7 +191,19 @@ class Fleets(unittest.TestCase):
     def test_a_bad_clip_is_a_row(self):
         names = self.clips(2, 3)
         Path(self.folder, "bad.y4m").write_bytes(b"no clip")
-        words = ["-m", "belt.fleet", names[0], "bad.y4m", "gone.y4m", names[1], names[0], "--out", "table.csv", "--fps", "50"]
+        words = [
+            "-m",
+            "belt.fleet",
+            names[0],
+            "bad.y4m",
+            "gone.y4m",
+            names[1],
+            names[0],
+            "--out",
+            "table.csv",
+            "--fps",
+            "50",
+        ]
         fleet = self.begin(*words, "--mm-per-pel", "0.5", "--workers", "2", stderr=subprocess.PIPE, text=True)
         said = fleet.communicate(timeout=PATIENCE)[1]
         self.assertEqual(fleet.returncode, 3, said)

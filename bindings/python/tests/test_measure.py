@@ -66,7 +66,9 @@ class ByLibrary(unittest.TestCase):
             with without_tool():
                 seen = belt.measure(first, second)
             self.assertEqual(seen, belt.measure(first, second, robust=False))
-            self.assertEqual((seen.status, seen.how, seen.by, seen.type), ("measured", "elected", "library", "translation"))
+            self.assertEqual(
+                (seen.status, seen.how, seen.by, seen.type), ("measured", "elected", "library", "translation")
+            )
             self.near(seen.motion, 4.25, -2.5)
             self.assertEqual((seen.usable, seen.blocks, len(seen.words)), (100, 100, 100))
             self.assertGreater(seen.share, 0.7)
@@ -74,7 +76,9 @@ class ByLibrary(unittest.TestCase):
             self.assertEqual(seen.stored_model.shift, belt.Motion(4.25, -2.5))
             self.assertNotEqual(tuple(seen.numbers[:2]), seen.stored_model.shift)
             back = belt.read_global_motion_params(seen.header, 0, 1, belt.IDENTITIES)
-            self.assertEqual((back.types[0], back.models[0], back.bits), (seen.stored_type, seen.stored, seen.header_bits))
+            self.assertEqual(
+                (back.types[0], back.models[0], back.bits), (seen.stored_type, seen.stored, seen.header_bits)
+            )
 
     def test_types(self):
         first, second = bytes_of(STILL), bytes_of(TURNED)
@@ -167,7 +171,9 @@ class ByLibrary(unittest.TestCase):
         for first in (crop, numpy.asfortranarray(crop), crop[::-1, ::-1][::-1, ::-1], read_only, crop.copy()):
             self.assertEqual(belt.measure(first, panned, robust=False), seen)
         deep, deeper = (numpy.array(values, dtype=numpy.uint16).reshape(SIDE, SIDE) for values in (STILL, PANNED))
-        both = belt.measure(deep, deeper, robust=False), belt.measure(deep.astype(">u2"), deeper.astype(">u2"), robust=False)
+        both = belt.measure(deep, deeper, robust=False), belt.measure(
+            deep.astype(">u2"), deeper.astype(">u2"), robust=False
+        )
         self.assertEqual(both[0], both[1])
         self.assertEqual(both[0].words, seen.words)
         swapped = belt.measure(crop.T, panned.T, robust=False)
@@ -298,11 +304,15 @@ class ByTool(unittest.TestCase):
             with self.subTest(status=said["status"], type=said["measured"]["type"], words=words):
                 self.assertEqual((seen.by, seen.status, seen.how), ("tool", said["status"], said["how"]))
                 self.assertEqual(seen.type, said["measured"]["type"])
-                self.assertEqual((seen.agree, seen.usable, seen.blocks), (said["agree"], said["usable"], said["blocks"]))
+                self.assertEqual(
+                    (seen.agree, seen.usable, seen.blocks), (said["agree"], said["usable"], said["blocks"])
+                )
                 self.assertEqual((seen.within, seen.predicted), (said["within_pels"], said["predicted"]))
                 self.assertEqual(list(seen.stored), said["stored"]["numbers"])
                 self.assertEqual([one.name for one in seen.warnings], [one["name"] for one in said["warnings"]])
-                self.assertEqual((seen.header.hex().upper(), seen.header_bits), (said["header"]["bytes"], said["header"]["bits"]))
+                self.assertEqual(
+                    (seen.header.hex().upper(), seen.header_bits), (said["header"]["bytes"], said["header"]["bits"])
+                )
                 if said["measured"]["type"]:
                     self.assertAlmostEqual(seen.motion.u, said["measured"]["right_pels"], delta=1e-9)
                     self.assertAlmostEqual(seen.motion.v, said["measured"]["down_pels"], delta=1e-9)
@@ -377,7 +387,9 @@ class ByTool(unittest.TestCase):
     def test_the_tool_as_a_module(self):
         package = str(Path(__file__).resolve().parents[1])
         environment = dict(os.environ, PYTHONPATH=package)
-        ended = subprocess.run([sys.executable, "-m", "belt", "--version"], env=environment, capture_output=True, text=True)
+        ended = subprocess.run(
+            [sys.executable, "-m", "belt", "--version"], env=environment, capture_output=True, text=True
+        )
         self.assertEqual((ended.returncode, ended.stdout), (0, f"belt {belt.__version__}\n"))
 
 
@@ -405,7 +417,14 @@ class Shown(unittest.TestCase):
         table = Table(self.seen._repr_html_())
         self.assertEqual(table.open, [])
         text = " ".join(table.words)
-        for part in ("It moved 4.", "pels right and 2.", "pels up", "stored translation", "-163840 278528", "agreement"):
+        for part in (
+            "It moved 4.",
+            "pels right and 2.",
+            "pels up",
+            "stored translation",
+            "-163840 278528",
+            "agreement",
+        ):
             self.assertIn(part, text)
         import dataclasses
 

@@ -71,7 +71,6 @@ class Lengths(unittest.TestCase):
         del lent
         held.append(WORD)
 
-
     def test_a_buffer_that_was_too_short_can_be_lengthened(self):
         blocks, header, shared = bytearray(511), bytearray(1), bytearray(1024)
         try:
@@ -225,7 +224,9 @@ class Found(unittest.TestCase):
 
     def test_its_version(self):
         found = _library.library.belt_version()
-        self.assertEqual(found, sum(int(part) * 1000**place for place, part in enumerate(belt.__version__.split(".")[::-1])))
+        self.assertEqual(
+            found, sum(int(part) * 1000**place for place, part in enumerate(belt.__version__.split(".")[::-1]))
+        )
         major, minor = found // 1_000_000, found // 1_000 % 1_000
         for fits in (found, found + 1, found + 1_000):
             _library._judge(fits, "libbelt.so")

@@ -33,7 +33,9 @@ def modules():
 
 class Names(unittest.TestCase):
     def test_all_is_all(self):
-        public = {name for name, value in vars(belt).items() if not name.startswith("_") and not inspect.ismodule(value)}
+        public = {
+            name for name, value in vars(belt).items() if not name.startswith("_") and not inspect.ismodule(value)
+        }
         self.assertEqual(sorted(belt.__all__), sorted(public))
         self.assertEqual(len(belt.__all__), len(set(belt.__all__)))
 
@@ -82,7 +84,9 @@ class Installed(unittest.TestCase):
                 own = cls.top / path.relative_to(TOP)
                 if path.name not in ("bindings", "python", ".git"):
                     own.symlink_to(path)
-        shutil.copytree(PACKAGE, cls.top / "bindings/python", ignore=shutil.ignore_patterns("build", "*.egg-info", "__pycache__"))
+        shutil.copytree(
+            PACKAGE, cls.top / "bindings/python", ignore=shutil.ignore_patterns("build", "*.egg-info", "__pycache__")
+        )
         cls.environment = {name: value for name, value in os.environ.items() if name not in ("BELT_LIB", "PYTHONPATH")}
         cls.environment.update(BELT_TOOL=TOOL, PATH=f"{os.path.dirname(sys.executable)}:{os.environ['PATH']}")
         cls.snippets = re.findall(r"^```sh\n(.*?)^```$", PAGE.read_text(encoding="utf-8"), re.M | re.S)
@@ -99,7 +103,9 @@ class Installed(unittest.TestCase):
         return ended.stdout
 
     def test_the_wheel_holds_library_and_tool(self):
-        said = self.run_here("env/bin/python -Ic 'import belt; print(belt.__file__); print(belt._library.library._name)'", BELT_TOOL="")
+        said = self.run_here(
+            "env/bin/python -Ic 'import belt; print(belt.__file__); print(belt._library.library._name)'", BELT_TOOL=""
+        )
         package, library = said.split("\n")[:2]
         self.assertEqual(Path(package).parent.parent.name, "site-packages")
         self.assertEqual(library, str(Path(package).parent / "lib/libbelt.so"))
@@ -121,7 +127,17 @@ class Installed(unittest.TestCase):
         """Where nothing is built the wheel is for every machine, and takes the library that is installed."""
         with tempfile.TemporaryDirectory() as folder:
             shutil.copytree(PACKAGE, Path(folder, "alone"), ignore=shutil.ignore_patterns("build", "*.egg-info"))
-            build = [sys.executable, "-m", "pip", "wheel", "--no-index", "--no-build-isolation", "--no-deps", "-w", folder]
+            build = [
+                sys.executable,
+                "-m",
+                "pip",
+                "wheel",
+                "--no-index",
+                "--no-build-isolation",
+                "--no-deps",
+                "-w",
+                folder,
+            ]
             environment = {name: value for name, value in self.environment.items() if name != "BELT_TOOL"}
             subprocess.run([*build, str(Path(folder, "alone"))], env=environment, capture_output=True, check=True)
             (wheel,) = Path(folder).glob("*.whl")

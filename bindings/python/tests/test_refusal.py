@@ -49,7 +49,9 @@ class Travelling(unittest.TestCase):
             self.assertEqual((caught.exception.number, caught.exception.text), (17, belt.REFUSALS[17]))
             with self.assertRaises(Refusal) as caught:
                 pool.map_async(short, [1]).get(SECONDS)
-            self.assertEqual((caught.exception.name, caught.exception.given, caught.exception.wanted), ("blocks", 511, 512))
+            self.assertEqual(
+                (caught.exception.name, caught.exception.given, caught.exception.wanted), ("blocks", 511, 512)
+            )
 
     def test_an_executor(self):
         with ProcessPoolExecutor(2, mp_context=multiprocessing.get_context("spawn")) as pool:
