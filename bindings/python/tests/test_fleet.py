@@ -26,7 +26,7 @@ except ImportError:
 TOOL = drawn.tool()
 SIDE = 96
 # So long may a step of the test take, in seconds.
-PATIENCE = 240
+PATIENCE = 600
 
 
 def write_clip(path, speeds):
@@ -110,7 +110,7 @@ class Fleets(unittest.TestCase):
             found = condition()
             if found:
                 return found
-            time.sleep(0.05)
+            time.sleep(0.01)
         self.fail(f"{what} in {PATIENCE} s")
 
     def clips(self, count, pairs):
@@ -161,7 +161,7 @@ class Fleets(unittest.TestCase):
         return address, workers
 
     def test_a_worker_is_killed_on_the_way(self):
-        names = self.clips(40, 12)
+        names = self.clips(40, 4)
         address, workers = self.cluster()
         words = ["-m", "belt.fleet", *names, "--out", "table.csv", "--scheduler", address]
         fleet = self.begin(*words, stderr=subprocess.PIPE, text=True)
@@ -180,10 +180,10 @@ class Fleets(unittest.TestCase):
         done = table(out)
         self.assertEqual([row["clip"] for row in done], names)
         self.assertEqual({row["error"] for row in done}, {""})
-        self.assertEqual({(row["pairs"], row["measured"]) for row in done}, {("12", "12")})
+        self.assertEqual({(row["pairs"], row["measured"]) for row in done}, {("4", "4")})
         numbers = {tuple(row[name] for name in ("speed_median", "path_pels", "unit")) for row in done}
         self.assertEqual(len(numbers), 1)
-        self.assertAlmostEqual(float(done[0]["path_pels"]), 36.0, delta=0.5)
+        self.assertAlmostEqual(float(done[0]["path_pels"]), 11.0, delta=0.3)
         left = {row["worker"].split(":")[1] for row in done} - {str(workers[0].pid)}
         self.assertEqual(left, {str(workers[1].pid)})
         self.assertIn(f"{len(names)} of {len(names)} clips", said)
