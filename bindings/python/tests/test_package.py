@@ -85,7 +85,9 @@ class Installed(unittest.TestCase):
                 if path.name not in ("bindings", "python", ".git"):
                     own.symlink_to(path)
         shutil.copytree(
-            PACKAGE, cls.top / "bindings/python", ignore=shutil.ignore_patterns("build", "*.egg-info", "__pycache__")
+            PACKAGE,
+            cls.top / "bindings/python",
+            ignore=shutil.ignore_patterns("build", "*.egg-info", "__pycache__", ".mypy_cache"),
         )
         cls.environment = {name: value for name, value in os.environ.items() if name not in ("BELT_LIB", "PYTHONPATH")}
         cls.environment.update(BELT_TOOL=TOOL, PATH=f"{os.path.dirname(sys.executable)}:{os.environ['PATH']}")
@@ -126,7 +128,9 @@ class Installed(unittest.TestCase):
     def test_a_wheel_without_programs(self):
         """Where nothing is built the wheel is for every machine, and takes the library that is installed."""
         with tempfile.TemporaryDirectory() as folder:
-            shutil.copytree(PACKAGE, Path(folder, "alone"), ignore=shutil.ignore_patterns("build", "*.egg-info"))
+            shutil.copytree(
+                PACKAGE, Path(folder, "alone"), ignore=shutil.ignore_patterns("build", "*.egg-info", ".mypy_cache")
+            )
             build = [
                 sys.executable,
                 "-m",
