@@ -33,10 +33,10 @@ impl Models {
         core::array::from_fn(|i| (GmType::answered(self.types[i]), self.models[i].x_first(self.types[i])))
     }
 
-    /// The row and the models of a reading.
-    pub(crate) fn of_raw(read: raw::Models) -> (u32, Self) {
-        let raw::Models { refusal, types, params, bits } = read;
-        (refusal, Self { types, models: params, bits })
+    /// The models of a reading.
+    #[inline]
+    pub(crate) fn of_raw(read: &raw::Models) -> Self {
+        Self { types: read.types, models: read.params, bits: read.bits }
     }
 }
 
@@ -117,8 +117,7 @@ pub fn read_global_motion_params(
     prior: &[StoredModel],
 ) -> Result<Models, Refusal> {
     let read = raw::read_global_motion_params(header, at, byte(precision), raw::numbers(prior));
-    let (refusal, models) = Models::of_raw(read);
-    judged_lists(refusal, models, || [Length::of("prior", prior, 7)], || [])
+    judged_lists(read.refusal, Models::of_raw(&read), || [Length::of("prior", prior, 7)], || [])
 }
 
 /// The kind of a frame.
@@ -188,9 +187,8 @@ pub fn read_global_motion(
     if kind == Kind::Inter {
         return read_global_motion_params(header, at, precision, prior);
     }
-    let (refusal, models) =
-        Models::of_raw(raw::read_global_motion(true, header, at, byte(precision), raw::numbers(prior)));
-    judged(refusal, models)
+    let read = raw::read_global_motion(true, header, at, byte(precision), raw::numbers(prior));
+    judged(read.refusal, Models::of_raw(&read))
 }
 
 /// How many ordinals of a slot have a code of each length ('Prices').

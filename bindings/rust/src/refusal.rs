@@ -192,12 +192,14 @@ impl fmt::Display for Refusal {
 impl Error for Refusal {}
 
 /// The value of a call that refused nothing.
+#[inline]
 pub(crate) fn judged<T>(number: u32, value: T) -> Result<T, Refusal> {
     judged_lists(number, value, || [], || [])
 }
 
 /// The same for a call that judges lists (row 2) and lent buffers (row 3): their lengths, in the order of the call.
 /// They are looked at only where the row is theirs.
+#[inline]
 pub(crate) fn judged_lists<T, const N: usize, const M: usize>(
     number: u32,
     value: T,

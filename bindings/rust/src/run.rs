@@ -324,9 +324,8 @@ impl RunReader {
     /// # Ok::<(), belt::Refusal>(())
     /// ```
     pub fn read(&mut self, kind: Kind, header: &[u8], at: usize) -> Result<Models, Refusal> {
-        let raw::FrameModels { models, run } = raw::run_read(self.0, kind == Kind::Key, header, at);
-        self.0 = run;
-        let (refusal, models) = Models::of_raw(models);
-        judged(refusal, models)
+        let read = raw::run_read(self.0, kind == Kind::Key, header, at);
+        self.0 = read.run;
+        judged(read.models.refusal, Models::of_raw(&read.models))
     }
 }
