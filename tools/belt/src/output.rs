@@ -1,6 +1,7 @@
 //! What the tool writes: standard output, and files that are there whole or not at all.
 
-use crate::failure::{Failure, one_line};
+use crate::failure::Failure;
+pub use frames::shown;
 use signal_hook::consts::{SIGHUP, SIGINT, SIGTERM};
 use signal_hook::iterator::Signals;
 use std::collections::hash_map::RandomState;
@@ -13,14 +14,6 @@ use std::path::{Path, PathBuf};
 use std::sync::atomic::{AtomicBool, Ordering};
 use std::sync::{Mutex, MutexGuard, PoisonError};
 use std::{env, thread};
-
-/// A path as a person reads it, in one line.
-pub fn shown(path: impl AsRef<Path>) -> String {
-    match path.as_ref().to_string_lossy().as_ref() {
-        "-" => "standard input".into(),
-        text => one_line(text),
-    }
-}
 
 /// Whether nobody reads standard output any more.
 static CLOSED: AtomicBool = AtomicBool::new(false);
