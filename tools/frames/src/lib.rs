@@ -37,6 +37,9 @@ const LONGEST_SIDE: u64 = 65_535;
 /// No head of a picture is longer than this, comments and all.
 const LONGEST_HEAD: usize = 65_536;
 
+/// Room for at most so many pels is made ahead of them: a head may say more than there are.
+const MOST_AHEAD: usize = 1 << 20;
+
 /// Why a picture or a folder can't be read.
 #[derive(Clone, Debug, PartialEq, Eq)]
 pub struct Unread {
@@ -491,8 +494,8 @@ fn read(rows: &mut dyn Rows, (width, height): (usize, usize), most: u16, part: P
     let [x, y, w, _] = part.inside((width, height))?;
     let (wide, high) = part.sides((width, height));
     let times = 1 << part.halvings;
-    let (mut pels, mut row) = (Vec::new(), Vec::new());
-    let mut sums = vec![0u32; wide];
+    let mut pels = Vec::with_capacity((wide * high).min(MOST_AHEAD));
+    let (mut row, mut sums) = (Vec::new(), vec![0u32; wide]);
     for number in 0..height {
         rows.row(&mut row)?;
         let Some(own) = number.checked_sub(y).filter(|own| *own < high * times) else { continue };
