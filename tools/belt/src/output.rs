@@ -27,23 +27,21 @@ pub struct Out;
 
 impl Write for Out {
     fn write(&mut self, bytes: &[u8]) -> io::Result<usize> {
-        match io::stdout().lock().write(bytes) {
-            Err(error) if error.kind() == ErrorKind::BrokenPipe => {
-                CLOSED.store(true, Ordering::Relaxed);
-                Ok(bytes.len())
-            }
-            written => written,
-        }
+        unless_closed(io::stdout().lock().write(bytes), bytes.len())
     }
 
     fn flush(&mut self) -> io::Result<()> {
-        match io::stdout().lock().flush() {
-            Err(error) if error.kind() == ErrorKind::BrokenPipe => {
-                CLOSED.store(true, Ordering::Relaxed);
-                Ok(())
-            }
-            flushed => flushed,
+        unless_closed(io::stdout().lock().flush(), ())
+    }
+}
+
+fn unless_closed<T>(done: io::Result<T>, all: T) -> io::Result<T> {
+    match done {
+        Err(error) if error.kind() == ErrorKind::BrokenPipe => {
+            CLOSED.store(true, Ordering::Relaxed);
+            Ok(all)
         }
+        done => done,
     }
 }
 

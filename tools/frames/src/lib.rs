@@ -92,11 +92,7 @@ impl Part {
         (width >> self.halvings, height >> self.halvings)
     }
 
-    /// Its column, row, width and height, if it lies inside a picture of these sides.
-    ///
-    /// # Errors
-    ///
-    /// What is wrong with it.
+    /// Its column, row, width and height, if it lies inside a picture of these sides, or why it doesn't.
     pub fn inside(self, (width, height): (usize, usize)) -> Result<[usize; 4], String> {
         let window @ [x, y, w, h] = self.window.unwrap_or([0, 0, width, height]);
         let inside = |from: usize, count: usize, side: usize| count > 0 && count <= side && from <= side - count;
@@ -285,9 +281,6 @@ pub fn named(place: &Path) -> (&Path, u64) {
 }
 
 /// The pictures that a place names: a folder's by their names, else the place itself.
-///
-/// # Errors
-///
 /// [`Unread`] where a folder can't be read or has no picture.
 pub fn places(place: &Path) -> Result<Vec<PathBuf>, Unread> {
     if !place.is_dir() {
@@ -311,9 +304,6 @@ pub fn places(place: &Path) -> Result<Vec<PathBuf>, Unread> {
 }
 
 /// Opens a picture or a clip; `-` is standard input.
-///
-/// # Errors
-///
 /// [`Unread`] where it can't be read or its head says nothing that can.
 pub fn open(place: &Path) -> Result<Opened, Unread> {
     let name = shown(place);
@@ -414,9 +404,6 @@ pub struct Looks<'a> {
 }
 
 /// Two pictures must have the same sides and the same scale of brightness.
-///
-/// # Errors
-///
 /// [`Unread`] of the second where they don't.
 pub fn alike(first: Looks<'_>, second: Looks<'_>) -> Result<(), Unread> {
     let ((width, height), (own_width, own_height)) = (first.sides, second.sides);
@@ -458,10 +445,6 @@ impl Opened {
     }
 
     /// The clip that it is, from the frame on that its name has; itself if it is a picture.
-    ///
-    /// # Errors
-    ///
-    /// Itself.
     pub fn into_clip(self) -> Result<Clip, Self> {
         match self.file {
             Kind::Clip(clip) => Ok(clip),
@@ -470,9 +453,6 @@ impl Opened {
     }
 
     /// Reads the pels of a part, which must lie inside.
-    ///
-    /// # Errors
-    ///
     /// [`Unread`] where they are cut short or damaged.
     pub fn read(self, part: Part) -> Result<Frame, Unread> {
         let name = self.name.clone();

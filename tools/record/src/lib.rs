@@ -194,10 +194,6 @@ pub struct Stored {
 
 impl Recorder {
     /// Begins a recording with a key frame ahead of so many pairs; of 0, ahead of the first alone.
-    ///
-    /// # Errors
-    ///
-    /// What the library refuses. No case is known.
     pub fn begin(every: u64) -> Result<Recorder, Refusal> {
         Ok(Recorder { run: Run::start(HIGH_PRECISION, FORM)?, every, pairs: 0 })
     }
@@ -208,10 +204,6 @@ impl Recorder {
     }
 
     /// The next pair, of these frames. What was elected is stored, whatever was measured; of a bad pair nothing is.
-    ///
-    /// # Errors
-    ///
-    /// What the library refuses.
     pub fn pair(&mut self, frames: (u64, u64), found: Option<&Found<'_>>) -> Result<Stored, Refusal> {
         let number = number(self.pairs);
         let mut headers = Vec::new();
@@ -365,9 +357,6 @@ pub struct Player<R> {
 
 impl<R: Read> Player<R> {
     /// Begins alike, by the head. The files have their names with them.
-    ///
-    /// # Errors
-    ///
     /// [`Damaged`] where it is no such head.
     pub fn begin(headers: (String, R), blocks: Option<(String, R)>) -> Result<Self, Damaged> {
         let mut headers = Source::new(headers.0, headers.1);
@@ -389,9 +378,6 @@ impl<R: Read> Player<R> {
     }
 
     /// The next record with what was stored, which was read back; none at the end.
-    ///
-    /// # Errors
-    ///
     /// [`Damaged`] at the first byte of the record, or of its blocks, that isn't as it was written.
     pub fn record(&mut self) -> Result<Option<Replayed>, Damaged> {
         let (at, pair) = (self.headers.at, self.pairs);

@@ -58,8 +58,8 @@ impl Detail {
 
     fn plane(&self, contrast: f64) -> Plane {
         let factor = (self.unit * contrast) as f32;
-        // the cast rounds down, and holds what is below 0
-        let pel = |&value: &i32| (value as f32 * factor + (MIDDLE + 0.5) as f32).min(MOST) as u16;
+        // the cast rounds down
+        let pel = |&value: &i32| (value as f32 * factor + (MIDDLE + 0.5) as f32).clamp(0.0, MOST) as i32 as u16;
         Plane { width: self.width, height: self.height, pels: self.values.iter().map(pel).collect() }
     }
 }

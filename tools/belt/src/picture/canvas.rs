@@ -23,7 +23,7 @@ fn shade([red, green, blue]: Colour, share: f64) -> Color {
 }
 
 fn paint(colour: Color) -> Paint<'static> {
-    let mut paint = Paint::default();
+    let mut paint = Paint { anti_alias: true, ..Paint::default() };
     paint.set_color(colour);
     paint
 }
