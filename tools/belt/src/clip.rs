@@ -108,14 +108,10 @@ impl Clip {
             opened.as_ref().map_or(Ok(()), judge)?;
         }
         let is_one = named(place).0 != place;
-        let opened = match opened.map(|opened| if is_one { Err(opened) } else { opened.into_clip() }) {
-            Ok(Ok(clip)) => {
-                self.file = Some((clip, name, 0));
-                return Ok(None);
-            }
-            Ok(Err(picture)) => Ok(picture),
-            Err(unread) => Err(unread),
-        };
+        if !is_one && opened.as_ref().is_ok_and(Opened::is_clip) {
+            self.file = opened.ok().and_then(Opened::into_clip).map(|clip| (clip, name, 0));
+            return Ok(None);
+        }
         let number = self.next;
         self.next += 1;
         if !self.chosen.takes(number) {
@@ -138,7 +134,7 @@ fn frames_of(place: &Path) -> Option<u64> {
         return (file != place).then_some(1);
     }
     let bytes = fs::metadata(place).ok().filter(|data| data.is_file())?.len();
-    let Ok(clip) = open(place).ok()?.into_clip() else { return Some(1) };
+    let Some(clip) = open(place).ok()?.into_clip() else { return Some(1) };
     Some((bytes - clip.head).div_ceil(clip.size() + 6))
 }
 

@@ -444,11 +444,16 @@ impl Opened {
         }
     }
 
-    /// The clip that it is, from the frame on that its name has; itself if it is a picture.
-    pub fn into_clip(self) -> Result<Clip, Self> {
+    /// Whether it is a clip.
+    pub fn is_clip(&self) -> bool {
+        matches!(self.file, Kind::Clip(_))
+    }
+
+    /// The clip that it is, from the frame on that its name has.
+    pub fn into_clip(self) -> Option<Clip> {
         match self.file {
-            Kind::Clip(clip) => Ok(clip),
-            Kind::Picture(_) => Err(self),
+            Kind::Clip(clip) => Some(clip),
+            Kind::Picture(_) => None,
         }
     }
 

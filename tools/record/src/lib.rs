@@ -240,12 +240,7 @@ impl Recorder {
 }
 
 /// The header that a run writes of a frame, and its bits.
-fn header(
-    run: &mut Run,
-    kind: Kind,
-    types: &[u8; 7],
-    models: &[StoredModel; 7],
-) -> Result<(Vec<u8>, usize), Refusal> {
+fn header(run: &mut Run, kind: Kind, types: &[u8; 7], models: &[StoredModel; 7]) -> Result<(Vec<u8>, usize), Refusal> {
     let mut header = vec![0; HEADER_BYTES];
     let bits = run.frame(kind, types, models, 0, &mut header)?;
     header.truncate(bits.div_ceil(8));
