@@ -15,11 +15,16 @@ use crate::job::Job;
 use crate::placing::{Field, Way, place};
 
 /// What a ratio is held to.
-const NOISE: f64 = 0.20;
-const TEXTURED: f64 = 0.13;
-const STATIC: f64 = 0.05;
+const NOISE: f64 = 0.12;
+const TEXTURED: f64 = 0.085;
+const STATIC: f64 = 0.01;
 const SMALL_SEARCH: f64 = 0.20;
+const BY_HAND: f64 = 1.25;
+const STATIC_BY_HAND: f64 = 2.0;
 const JOB: f64 = 0.15;
+const LARGE_JOB: f64 = 0.085;
+const BLOCKS: f64 = 1.0;
+const SMALL_SCORE: f64 = 1.3;
 const SUMS: f64 = 1.1;
 const MOTION_SUMS: f64 = 0.6;
 const PRODUCT_SUMS: f64 = 0.85;
@@ -36,6 +41,8 @@ const IDENTITIES_READ: f64 = 2.2;
 #[derive(Clone, Copy)]
 pub enum Case {
     Search(Scene, usize, usize),
+    /// Against the same search by hand in C.
+    SearchByHand(Scene, usize, usize),
     Fit(u8, usize),
     FitSamples(u8, usize),
     Score(usize),
@@ -85,6 +92,7 @@ pub fn all() -> Vec<Case> {
     let job_sides = [(64, 64), (640, 480), (1024, 1024)];
     let mut cases = Vec::new();
     cases.extend(Scene::ALL.iter().flat_map(|&scene| sides.map(|(width, height)| Search(scene, width, height))));
+    cases.extend(Scene::ALL.map(|scene| SearchByHand(scene, 640, 480)));
     cases.extend(kinds.iter().flat_map(|&kind| counts.map(|n| Fit(kind, n))));
     cases.extend(kinds.iter().flat_map(|&kind| counts.map(|n| FitSamples(kind, n))));
     cases.extend(counts.map(Score));
@@ -113,6 +121,20 @@ pub fn all() -> Vec<Case> {
     cases
 }
 
+/// A row of each kind, for a quick look.
+pub fn few() -> Vec<Case> {
+    let mut cases = Vec::new();
+    cases.extend(Scene::ALL.map(|scene| Search(scene, 640, 480)));
+    cases.push(Search(Scene::Textured, 16, 16));
+    cases.extend(Scene::ALL.map(|scene| SearchByHand(scene, 640, 480)));
+    cases.extend([TRANSLATION, ROTZOOM, AFFINE].map(|kind| Fit(kind, 16)));
+    cases.extend([Score(16), QuantizeTrimmed(ROTZOOM, 16), Elect(4096)]);
+    cases.extend([WriteFrame(4096), ReadFrame(2, 4096), ReadFrame(1, 4096)]);
+    cases.extend([WriteHeader(AFFINE, Distance::Near), ReadHeader(AFFINE, Distance::Near)]);
+    cases.push(WholeJob(ROTZOOM, 640, 480));
+    cases
+}
+
 /// How many of so many words or samples aren't film.
 fn not_film(n: usize) -> usize {
     inputs::classes(n).iter().filter(|&&class| WITHOUT_FILM.names(class)).count()
@@ -126,6 +148,9 @@ impl fmt::Display for Case {
     fn fmt(&self, f: &mut fmt::Formatter) -> fmt::Result {
         match *self {
             Search(scene, width, height) => write!(f, "search | {} {width}×{height}", scene.name()),
+            SearchByHand(scene, width, height) => {
+                write!(f, "search / by hand | {} {width}×{height}", scene.name())
+            }
             Fit(kind, n) => write!(f, "fit | {}, {n} words", type_name(kind)),
             FitSamples(kind, n) => write!(f, "fit | {}, {n} samples", type_name(kind)),
             Score(n) => write!(f, "score | {n} words"),
@@ -175,6 +200,13 @@ impl Case {
                 Scene::Static => STATIC,
             }),
             Search(..) => Some(SMALL_SEARCH),
+            SearchByHand(Scene::Static, ..) => Some(STATIC_BY_HAND),
+            SearchByHand(..) => Some(BY_HAND),
+            WholeJob(_, 640, _) | ElectingJob(640, _) | JobByClass(_, 640, _) | ElectingJobByClass(640, _) => {
+                Some(LARGE_JOB)
+            }
+            WriteFrame(4096) | ReadFrame(2, 4096) => Some(BLOCKS),
+            Score(16) => Some(SMALL_SCORE),
             WholeJob(..) | ElectingJob(..) | JobByClass(..) | ElectingJobByClass(..) => Some(JOB),
             Fit(_, 16) => Some(SMALL_FITS),
             Fit(TRANSLATION, 4096) => Some(MOTION_SUMS),
@@ -192,14 +224,20 @@ impl Case {
         }
     }
 
-    pub fn is_a_job(&self) -> bool {
-        matches!(self, WholeJob(..) | ElectingJob(..) | JobByClass(..) | ElectingJobByClass(..))
+    /// A job on how many pictures.
+    pub fn jobs(&self) -> Option<usize> {
+        match *self {
+            WholeJob(_, width, height) | JobByClass(_, width, height) => Some(inputs::pictures(width, height)),
+            ElectingJob(width, height) | ElectingJobByClass(width, height) => Some(inputs::pictures(width, height)),
+            _ => None,
+        }
     }
 
     /// Both sides, after their answers were compared.
     pub fn sides(&self) -> Sides {
         match *self {
             Search(scene, width, height) => search(scene, width, height),
+            SearchByHand(scene, width, height) => search_by_hand(scene, width, height),
             Fit(kind, n) => fit(kind, n),
             FitSamples(kind, n) => fit_samples(kind, n),
             Score(n) => score(n),
@@ -242,25 +280,116 @@ fn searched(
     belt::collect_motion_samples(input, reference, width, height, classes, input_half, ref_half, words)
 }
 
+/// Pictures of a scene, each with its input and its reference.
+struct Pictures {
+    pairs: Vec<(Vec<u16>, Vec<u16>)>,
+    classes: Vec<u8>,
+    width: usize,
+    height: usize,
+    lent: Buffers,
+}
+
+impl Pictures {
+    fn new(scene: Scene, width: usize, height: usize, count: usize) -> Self {
+        Self {
+            pairs: (0..count).map(|picture| scene.pair(width, height, picture)).collect(),
+            classes: inputs::classes(oracle::sample_count(width, height)),
+            width,
+            height,
+            lent: Buffers::new(width, height),
+        }
+    }
+
+    /// Each picture searched; `look` sees the answer and the buffers.
+    fn search(&mut self, mut look: impl FnMut(&(Vec<u16>, Vec<u16>), Result<Searched, Refusal>, &mut Buffers)) {
+        for pair in &self.pairs {
+            let (input, reference) = pair;
+            let lent = &mut self.lent;
+            let (width, height) = (self.width, self.height);
+            let answer = searched(black_box(input), reference, width, height, &self.classes, black_box(&mut *lent));
+            look(pair, answer, lent);
+        }
+    }
+}
+
+/// Our search of so many pictures, for the growth of its time.
+pub fn searches(scene: Scene, width: usize, height: usize, count: usize) -> Work {
+    let mut ours = Pictures::new(scene, width, height, count);
+    Box::new(move || ours.search(|_, answer, _| _ = black_box(answer.ok())))
+}
+
 fn search(scene: Scene, width: usize, height: usize) -> Sides {
-    let (input, reference) = scene.pair(width, height);
-    let classes = inputs::classes(oracle::sample_count(width, height));
-    let mut lent = Buffers::new(width, height);
+    let count = inputs::pictures(width, height);
+    let mut ours = Pictures::new(scene, width, height, count);
+    let samples = ours.classes.len();
+    ours.search(|(input, reference), answer, lent| {
+        assert_eq!(answer.map(|found| found.samples), Ok(samples));
+        assert_eq!(lent.words, oracle::sample_words(input, reference, width, height));
+        assert_eq!(lent.input_half, oracle::half_plane(input, width, height));
+        assert_eq!(lent.ref_half, oracle::half_plane(reference, width, height));
+    });
 
-    let answer = searched(&input, &reference, width, height, &classes, &mut lent);
-    assert_eq!(answer.map(|found| found.samples), Ok(classes.len()));
-    assert_eq!(lent.words, oracle::sample_words(&input, &reference, width, height));
-    assert_eq!(lent.input_half, oracle::half_plane(&input, width, height));
-    assert_eq!(lent.ref_half, oracle::half_plane(&reference, width, height));
-
-    let (rust_input, rust_reference) = (input.clone(), reference.clone());
+    let pairs = ours.pairs.clone();
     Sides {
-        ours: Box::new(move || {
-            let answer = searched(black_box(&input), &reference, width, height, &classes, black_box(&mut lent));
-            black_box(answer.ok());
-        }),
+        ours: Box::new(move || ours.search(|_, answer, _| _ = black_box(answer.ok()))),
         rust: Box::new(move || {
-            black_box(oracle::search(black_box(&rust_input), &rust_reference, width, height));
+            for (input, reference) in &pairs {
+                black_box(oracle::search(black_box(input), reference, width, height));
+            }
+        }),
+        ready: None,
+    }
+}
+
+unsafe extern "C" {
+    /// `hand/search.c`.
+    fn hand_search(
+        input: *const u16,
+        reference: *const u16,
+        width: usize,
+        height: usize,
+        input_half: *mut u16,
+        reference_half: *mut u16,
+        words: *mut u32,
+    ) -> u32;
+}
+
+/// The search by hand, into the buffers of a job; it gives the rows added.
+fn by_hand(input: &[u16], reference: &[u16], width: usize, height: usize, lent: &mut Buffers) -> u32 {
+    let Lent { input_half, ref_half, words, .. } = lent.lend();
+    assert!(input.len() == width * height && reference.len() == width * height && width.max(height) <= 1024);
+    assert!(input_half.len() >= (width / 2) * (height / 2) && ref_half.len() >= (width / 2) * (height / 2));
+    assert!(words.len() >= (width / 16) * (height / 16));
+    // SAFETY: the planes have width times height pels, and each buffer has room for what the search writes.
+    unsafe {
+        hand_search(
+            input.as_ptr(),
+            reference.as_ptr(),
+            width,
+            height,
+            input_half.as_mut_ptr(),
+            ref_half.as_mut_ptr(),
+            words.as_mut_ptr(),
+        )
+    }
+}
+
+fn search_by_hand(scene: Scene, width: usize, height: usize) -> Sides {
+    let mut ours = Pictures::new(scene, width, height, inputs::pictures(width, height));
+    let mut left = Buffers::new(width, height);
+    ours.search(|(input, reference), answer, lent| {
+        let rows = by_hand(input, reference, width, height, &mut left);
+        assert_eq!(answer.map(|found| found.rows), Ok(rows));
+        assert!(lent.words == left.words && lent.input_half == left.input_half && lent.ref_half == left.ref_half);
+    });
+
+    let pairs = ours.pairs.clone();
+    Sides {
+        ours: Box::new(move || ours.search(|_, answer, _| _ = black_box(answer.ok()))),
+        rust: Box::new(move || {
+            for (input, reference) in &pairs {
+                black_box(by_hand(black_box(input), reference, width, height, black_box(&mut left)));
+            }
         }),
         ready: None,
     }
@@ -750,19 +879,26 @@ fn place_fields(fields: Vec<Field>) -> Sides {
 fn whole_job(job: Job, width: usize, height: usize) -> Sides {
     let mut lent = Buffers::new(width, height);
     let mut left = lent.clone();
-    let ours = job.run(&mut lent).expect("a job that isn't refused");
-    let rust = job.rust_run(&mut left).expect("a job that isn't refused");
-    job.rust_halves(&mut left);
-    assert!(ours == rust && same(ours.score, rust.score), "{ours:?} {rust:?}");
-    assert!(lent == left, "the buffers differ");
+    let jobs: Vec<Job> = (0..inputs::pictures(width, height)).map(|picture| job.clone().on(picture)).collect();
+    for job in &jobs {
+        let ours = job.run(&mut lent).expect("a job that isn't refused");
+        let rust = job.rust_run(&mut left).expect("a job that isn't refused");
+        job.rust_halves(&mut left);
+        assert!(ours == rust && same(ours.score, rust.score), "{ours:?} {rust:?}");
+        assert!(lent == left, "the buffers differ");
+    }
 
-    let rust_job = job.clone();
+    let rust_jobs = jobs.clone();
     Sides {
         ours: Box::new(move || {
-            black_box(black_box(&job).run(black_box(&mut lent)).ok());
+            for job in &jobs {
+                black_box(black_box(job).run(black_box(&mut lent)).ok());
+            }
         }),
         rust: Box::new(move || {
-            black_box(black_box(&rust_job).rust_run(black_box(&mut left)));
+            for job in &rust_jobs {
+                black_box(black_box(job).rust_run(black_box(&mut left)));
+            }
         }),
         ready: None,
     }

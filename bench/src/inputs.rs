@@ -27,15 +27,20 @@ impl Scene {
         }
     }
 
-    /// The input and the reference.
-    pub fn pair(self, width: usize, height: usize) -> (Vec<u16>, Vec<u16>) {
+    /// The input and the reference of a picture; each number has another part of the texture, or other noise.
+    pub fn pair(self, width: usize, height: usize, picture: usize) -> (Vec<u16>, Vec<u16>) {
         match self {
             Scene::Noise => {
-                let mut lcg = Lcg(1);
+                let mut lcg = Lcg(1 + picture as u32);
                 (lcg.plane(width, height, TEN_BITS), lcg.plane(width, height, TEN_BITS))
             }
-            Scene::Textured => (texture(width, height, 43, -29, 3), texture(width, height, 0, 0, 3)),
-            Scene::Static => (texture(width, height, 0, 0, 0), texture(width, height, 0, 0, 0)),
+            Scene::Textured => {
+                (texture(width, height, picture, (43, -29), 3), texture(width, height, picture, (0, 0), 3))
+            }
+            Scene::Static => {
+                let plane = texture(width, height, picture, (0, 0), 0);
+                (plane.clone(), plane)
+            }
         }
     }
 }
@@ -55,13 +60,26 @@ fn octave(x: i32, y: i32, cell: i32) -> i32 {
     (row(j) * (cell - g) + row(j + 1) * g) / (cell * cell)
 }
 
+/// How many pictures a search of these sides is measured on, one after the other: a processor learns the branches of
+/// a small one that it meets again and again.
+pub fn pictures(width: usize, height: usize) -> usize {
+    match oracle::sample_count(width, height) {
+        0..=64 => 200,
+        _ => 1,
+    }
+}
+
+/// Pictures lie so many eighths apart in the texture.
+const APART: i32 = 16_384;
+
 /// Three octaves of texture, moved by (dx, dy) eighths, each pel with noise of up to `noise`.
-fn texture(width: usize, height: usize, dx: i32, dy: i32, noise: u16) -> Vec<u16> {
-    let mut lcg = Lcg((7 + dx) as u32);
+fn texture(width: usize, height: usize, picture: usize, (dx, dy): (i32, i32), noise: u16) -> Vec<u16> {
+    let mut lcg = Lcg((7 + dx + picture as i32) as u32);
     let mut plane = Vec::with_capacity(width * height);
+    let left = 4096 + APART * picture as i32;
     for row in 0..height as i32 {
         for column in 0..width as i32 {
-            let (x, y) = (8 * column + dx + 4096, 8 * row + dy + 4096);
+            let (x, y) = (8 * column + dx + left, 8 * row + dy + 4096);
             let value = octave(x, y, 240) + octave(x + 999, y, 72) + octave(x, y + 999, 24);
             plane.push(value as u16 + lcg.below(noise + 1));
         }

@@ -24,7 +24,7 @@ pub struct Job {
 impl Job {
     /// A textured scene with a fit of this type; the six other references have affine models.
     pub fn new(kind: u8, width: usize, height: usize) -> Self {
-        let (input, reference) = Scene::Textured.pair(width, height);
+        let (input, reference) = Scene::Textured.pair(width, height, 0);
         Self {
             width,
             height,
@@ -47,6 +47,12 @@ impl Job {
         let mut job = Self::new(IDENTITY, width, height);
         job.settings.elect = 1;
         job
+    }
+
+    /// The same job on another picture.
+    pub fn on(mut self, picture: usize) -> Self {
+        (self.input, self.reference) = Scene::Textured.pair(self.width, self.height, picture);
+        self
     }
 
     /// The same job without the film.

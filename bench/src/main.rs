@@ -1,12 +1,16 @@
 //! Measures the proved library against the Rust that it ports, and writes the ratios.
 //!
-//!     bench FILE                  every case: a table on standard output, and a page in FILE
+//!     bench FILE PICTURE          every case: a table on standard output, a page in FILE, and the growth of the search in PICTURE
+//!     bench quick                 a few cases, a table on standard output
 //!     bench run                   the cases in a run alone: their lines on standard output
+//!     bench only TEXT             the cases that have TEXT in their line, a table on standard output
+//!     bench growth PICTURE        the growth of the search alone
 //!     bench list                  the cases and their numbers
 //!     bench repeat CASE SIDE N    one side ('ours', 'rust' or 'ready') of a case N times, for a profiler
 
 mod cases;
 mod frames;
+mod growth;
 mod header;
 mod inputs;
 mod job;
@@ -19,15 +23,23 @@ use std::{env, fs};
 
 use belt::Refusal;
 
+use cases::Case;
+use timing::Budget;
+
 fn main() {
     let words: Vec<String> = env::args().skip(1).collect();
     let words: Vec<&str> = words.iter().map(String::as_str).collect();
     match words[..] {
         ["list"] => list(),
         ["run"] => print!("{}", in_a_run()),
+        ["only", text] => drop(measure(only(text), timing::WHOLE)),
+        ["growth", picture] => print!("{}", growth(picture)),
         ["repeat", case, side, times] => repeat(case, side, times),
-        [file] => measure(file),
-        _ => panic!("usage: bench FILE | bench run | bench list | bench repeat CASE SIDE N"),
+        ["quick"] => drop(measure(cases::few(), timing::QUICK)),
+        [file, picture] => page(file, picture),
+        _ => panic!(
+            "usage: bench FILE PICTURE | bench quick | bench run | bench only TEXT | bench growth PICTURE | bench list | bench repeat CASE SIDE N"
+        ),
     }
 }
 
@@ -51,13 +63,36 @@ fn repeat(case: &str, side: &str, times: &str) {
     }
 }
 
-fn measure(file: &str) {
+/// Every case, and the growth of the search.
+fn page(file: &str, picture: &str) {
     compare_the_rest();
-    let cases = cases::all();
+    let (table, absolute) = measure(cases::all(), timing::WHOLE);
+    let in_a_run = in_a_run();
+    print!("{in_a_run}");
+    let growth = growth(picture);
+    let times = "## Times of a job\n\nIn milliseconds, on the machine above, one thread.\n\n\
+                 | call | input | ours | Rust |\n|---|---|---|---|\n";
+    let page = format!("{}\n{table}\n{in_a_run}\n{times}{absolute}\n{growth}", head());
+    fs::write(file, page).expect("the page's folder is there");
+}
+
+/// The growth of the search: drawn into a file, and as a part of the page.
+fn growth(picture: &str) -> String {
+    let growth = growth::measure();
+    fs::write(picture, growth::drawn(&growth)).expect("the picture's folder is there");
+    growth::told(&growth)
+}
+
+fn only(text: &str) -> Vec<Case> {
+    cases::all().into_iter().filter(|case| case.to_string().contains(text)).collect()
+}
+
+/// The table of the cases, a line printed when it is measured, and the times of the jobs among them.
+fn measure(cases: Vec<Case>, budget: Budget) -> (String, String) {
     let (count, begun) = (cases.len(), Instant::now());
     let mut absolute = String::new();
     let mut table = String::from(
-        "| call | input | ours / Rust | at most | ours / Rust, samples ready made |\n|---|---|---|---|---|\n",
+        "| call | input | ours / Rust | rounds | at most | ours / Rust, samples ready made |\n|---|---|---|---|---|---|\n",
     );
     print!("{table}");
     for (number, case) in cases.into_iter().enumerate() {
@@ -65,27 +100,35 @@ fn measure(file: &str) {
         let sides = case.sides();
         let mut works = vec![sides.ours, sides.rust];
         works.extend(sides.ready);
-        let best = timing::best(&mut works);
-        let most = case.most().map_or(String::new(), |most| format!("{most:.2}"));
-        let ready = best.get(2).map_or(String::new(), |rust| format!("{:.2}", best[0] / rust));
-        let line = format!("| {case} | {:.2} | {most} | {ready} |\n", best[0] / best[1]);
+        let times = timing::in_turns(&mut works, budget);
+        let (ratio, (least, greatest)) = (times.ratio(0, 1), times.spread(0, 1));
+        let most = case.most().map_or(String::new(), wanted);
+        let ready = if works.len() > 2 { format!("{:.2}", times.ratio(0, 2)) } else { String::new() };
+        let line = format!("| {case} | {} | {} to {} | {most} | {ready} |\n", said(ratio), said(least), said(greatest));
         print!("{line}");
         table += &line;
-        if case.is_a_job() {
-            absolute += &format!("| {case} | {:.2} | {:.2} |\n", 1000.0 * best[0], 1000.0 * best[1]);
+        if let Some(pictures) = case.jobs() {
+            let milliseconds = |i| 1000.0 * times.best(i) / pictures as f64;
+            absolute += &format!("| {case} | {:.2} | {:.2} |\n", milliseconds(0), milliseconds(1));
         }
     }
-    let in_a_run = in_a_run();
-    print!("{in_a_run}");
-    let times = "## Times of a job\n\nIn milliseconds, on the machine above, one thread.\n\n\
-                 | call | input | ours | Rust |\n|---|---|---|---|\n";
-    let page = format!("{}\n{table}\n{in_a_run}\n{times}{absolute}", head());
-    fs::write(file, page).expect("the page's folder is there");
+    (table, absolute)
+}
+
+/// A ratio with two figures after the point, or three where it is small.
+fn said(ratio: f64) -> String {
+    if ratio < 0.1 { format!("{ratio:.3}") } else { format!("{ratio:.2}") }
+}
+
+/// What is wanted, with as many figures as it has.
+fn wanted(most: f64) -> String {
+    let figures = if (100.0 * most).fract() > 0.01 { 3 } else { 2 };
+    format!("{most:.figures$}")
 }
 
 /// What a run costs, as a part of the page.
 fn in_a_run() -> String {
-    let line = |case: run::Case| case.line(&timing::best(&mut case.sides()));
+    let line = |case: run::Case| case.line(&timing::in_turns(&mut case.sides(), timing::WHOLE));
     run::all().into_iter().map(line).fold(run::head().into(), |page: String, line| page + &line)
 }
 
@@ -126,7 +169,10 @@ fn head() -> String {
          Processor: {}. Rust: {}, release build, opt-level {}, {flags}. Library: `bindings/library`, {}. \
          Both sides are compiled for plain x86-64 (SSE2).\n\n\
          One driver calls both sides on the same input, ours through `bindings/rust`, compares their answers, and then times them in turns. \
-         Each number is the best processor time of ours divided by the best of the Rust, over {} rounds or more. \
+         Each ratio is the best processor time of ours divided by the best of the Rust, over {} rounds or more; \
+         'rounds' has the least and the greatest of the rounds' own ratios. \
+         A search or a job of up to 64 blocks is measured on 200 pictures, one after the other: \
+         a processor learns the branches of a picture that it meets again and again. \
          'At most' is the ratio that is wanted; calls without one are only reported.\n\n\
          Searches, fits, scores, quantizations and headers are measured against the Rust that is ported. \
          Fits, scores and quantizations take sample words. The Rust has no such form: in the first ratio it makes its list of samples of the \
@@ -142,6 +188,8 @@ fn head() -> String {
          a far one is at the other end of the range and gives long codes; seven identities have no codes, and ours only judges their prior. \
          Ours judges models, prior and room before it writes, and the Rust doesn't. \
          The Rust reads bits by the stand-in of `oracle/src/stand_ins.rs`, one at a time, since its own bit reader isn't published.\n\n\
+         'Search / by hand' has no Rust: it is our time divided by that of the same search written by hand in C with SSE2 \
+         (`bench/hand/search.c`), which gives the same words, half planes and rows; nothing proves that one.\n\n\
          'Word / one by one' has no Rust: a field put into its bytes at once is divided by the same field put there bit by bit, \
          both proved to the same promise (`crates/placing`); 24 fields of a width from bit 3 on, or the fields of a header.\n\n\
          A job is measured against the composition of the Rust's parts: search, words, fit, quantization, score, \
@@ -154,7 +202,7 @@ fn head() -> String {
         env!("BENCH_RUSTC"),
         env!("BENCH_OPT_LEVEL"),
         env::var("BENCH_KIT").unwrap_or("an unnamed kit".into()),
-        timing::LEAST_ROUNDS,
+        timing::WHOLE.rounds,
     )
 }
 

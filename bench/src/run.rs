@@ -9,6 +9,7 @@ use crate::cases::Work;
 use crate::header::{Distance, Header};
 use crate::inputs::{AFFINE, HIGH_PRECISION, IDENTITY, ROTZOOM, TRANSLATION};
 use crate::job::Job;
+use crate::timing::Times;
 
 /// How much longer a frame may take in a run, in nanoseconds.
 const FRAME: f64 = 60.0;
@@ -59,12 +60,13 @@ impl Case {
         }
     }
 
-    /// A line of the page, of the best times in seconds; what is wanted of a frame is a difference, of a job a ratio.
-    pub fn line(&self, times: &[f64]) -> String {
-        let (ratio, more) = (times[0] / times[1], 1e9 * (times[0] - times[1]));
+    /// A line of the page, of the best times; what is wanted of a frame is a difference, of a job a ratio.
+    pub fn line(&self, times: &Times) -> String {
+        let (ratio, (least, greatest)) = (times.ratio(0, 1), times.spread(0, 1));
+        let more = 1e9 * (times.best(0) - times.best(1));
         match self {
-            Job(..) => format!("| {self} | {ratio:.3} | {JOB:.2} | | |\n"),
-            _ => format!("| {self} | {ratio:.2} | | {more:.0} | {FRAME:.0} |\n"),
+            Job(..) => format!("| {self} | {ratio:.3} | {least:.3} to {greatest:.3} | {JOB:.2} | | |\n"),
+            _ => format!("| {self} | {ratio:.2} | {least:.2} to {greatest:.2} | | {more:.0} | {FRAME:.0} |\n"),
         }
     }
 }
@@ -75,7 +77,7 @@ pub fn head() -> &'static str {
      A frame written or read in a run, and a job, divided by the plain call with the same flag and prior, both through \
      `bindings/rust`, measured in turns as above. Each frame follows its like, so that its prior is its own models. A run is handed in by \
      value each time, judged, and comes back with the answer. What is wanted of a frame is how many nanoseconds it may take more, of a job how many times as long.\n\n\
-     | call | input | in a run / plain | at most | more, ns | at most, ns |\n|---|---|---|---|---|---|\n"
+     | call | input | in a run / plain | rounds | at most | more, ns | at most, ns |\n|---|---|---|---|---|---|---|\n"
 }
 
 fn write(header: Header) -> [Work; 2] {

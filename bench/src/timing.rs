@@ -1,4 +1,4 @@
-//! Best times of several ways to do a thing, taken in turns.
+//! Times of several ways to do a thing, taken in turns.
 
 use std::time::{Duration, Instant};
 
@@ -6,9 +6,39 @@ use crate::cases::Work;
 
 /// One timing lasts at least this long, so that the clock's own steps don't count.
 const LEAST: Duration = Duration::from_micros(300);
-/// Turns go on for this long, and for so many rounds at least.
-const BUDGET: Duration = Duration::from_millis(2500);
-pub const LEAST_ROUNDS: usize = 11;
+/// Turns go on for so long, and for so many rounds at least.
+#[derive(Clone, Copy)]
+pub struct Budget {
+    pub time: Duration,
+    pub rounds: usize,
+}
+
+/// For the page, and for a quick look.
+pub const WHOLE: Budget = Budget { time: Duration::from_millis(2500), rounds: 11 };
+pub const QUICK: Budget = Budget { time: Duration::from_millis(250), rounds: 3 };
+
+/// The times of several ways in seconds: `rounds[r][i]` is what way i took in round r.
+pub struct Times {
+    rounds: Vec<Vec<f64>>,
+}
+
+impl Times {
+    /// The best time of a way.
+    pub fn best(&self, i: usize) -> f64 {
+        self.rounds.iter().map(|round| round[i]).fold(f64::MAX, f64::min)
+    }
+
+    /// The best time of a way divided by that of another.
+    pub fn ratio(&self, i: usize, of: usize) -> f64 {
+        self.best(i) / self.best(of)
+    }
+
+    /// The least and the greatest of the rounds' ratios of two ways.
+    pub fn spread(&self, i: usize, of: usize) -> (f64, f64) {
+        let ratios = self.rounds.iter().map(|round| round[i] / round[of]).filter(|ratio| ratio.is_finite());
+        ratios.fold((f64::MAX, 0.0), |(least, most), ratio| (least.min(ratio), most.max(ratio)))
+    }
+}
 
 #[repr(C)]
 struct Timespec {
@@ -49,22 +79,22 @@ fn runs_for(work: &mut Work) -> u32 {
     runs
 }
 
-/// The best time of each in seconds: one timing of each in every round, and the first of a round is the last of the
-/// next. A guest's clock can lose time to its host, so a timing far below the least one isn't taken.
-pub fn best(works: &mut [Work]) -> Vec<f64> {
+/// One timing of each way in every round, and the first of a round is the last of the next. A guest's clock can lose time
+/// to its host, so a timing far below the least one counts as endless.
+pub fn in_turns(works: &mut [Work], budget: Budget) -> Times {
     let runs: Vec<u32> = works.iter_mut().map(runs_for).collect();
-    let mut best = vec![f64::MAX; works.len()];
     let start = Instant::now();
-    let mut round = 0;
-    while round < LEAST_ROUNDS || start.elapsed() < BUDGET {
+    let mut rounds = Vec::new();
+    while rounds.len() < budget.rounds || start.elapsed() < budget.time {
+        let mut round = vec![f64::INFINITY; works.len()];
         for turn in 0..works.len() {
-            let i = (round + turn) % works.len();
+            let i = (rounds.len() + turn) % works.len();
             let took = time(runs[i], &mut works[i]);
             if took > LEAST / 4 {
-                best[i] = best[i].min(took.as_secs_f64() / f64::from(runs[i]));
+                round[i] = took.as_secs_f64() / f64::from(runs[i]);
             }
         }
-        round += 1;
+        rounds.push(round);
     }
-    best
+    Times { rounds }
 }

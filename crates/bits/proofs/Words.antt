@@ -2,12 +2,13 @@
 -- bit by bit; inside a byte it is one number in the place of another, and what stands above and below stays.
 -- Assumes nothing.
 use Prim.Native.Nat.{ℕ, zero, suc, _+_, _-_, _*_, _/_, _%_, _^_, _≤_, _<_}
-use mathlib.Core.List.{List, _∷_, _++_}
+use mathlib.Core.List.{List, _++_}
 use mathlib.Core.Path.{_≡_, refl, ap, sym, _∙_, subst}
 use native.Mathlib.Nat.{add-zero, mod-eq-of-lt, mod-lt, mod-one, zero-mul, zero-add}
 use native.Mathlib.Omega.{arith}
 use lib.ListN.{length, getD, set}
-use lib.Pow.{pow-pos, pow-add, split, high, low, mod-mod-pow, mod-pow-add}
+use lib.Bits.{bitAnd, and-high}
+use lib.Pow.{pow-pos, pow-add, split, high, low, mod-mod-pow, mod-pow-add, high-ones}
 use lib.Seq.{set-getD, set-set, getD-set-same, lt-length-set}
 use Rattle.bits.specs.Bits.{bitAt, bitOf, withBit, putBit, putBits}
 use Rattle.bits.specs.Fields.{field, fieldBits}
@@ -27,6 +28,14 @@ put-split l j w₁ w₂ v =
 -- y with the low n bits of v above its low s bits
 abbrev withField : ℕ → ℕ → ℕ → ℕ → ℕ
 withField y s n v = y / 2 ^ (s + n) * 2 ^ (s + n) + (v % 2 ^ n * 2 ^ s + y % 2 ^ s)
+
+-- y without the n bits above its low s bits
+pub kept-outside : (y s n : ℕ) → y - bitAnd y ((2 ^ n - 1) * 2 ^ s) ≡ y / 2 ^ (s + n) * 2 ^ (s + n) + y % 2 ^ s
+kept-outside y s n =
+    let c : s + n ≡ n + s = omega arith in
+    let under : bitAnd y ((2 ^ n - 1) * 2 ^ s) ≡ (y / 2 ^ s % 2 ^ n) * 2 ^ s = ap (λ (m : ℕ). bitAnd y m) (sym (high-ones n s)) ∙ and-high y n s in
+    let parts : y % 2 ^ (s + n) ≡ (y / 2 ^ s % 2 ^ n) * 2 ^ s + y % 2 ^ s = ap (λ (m : ℕ). y % 2 ^ m) c ∙ mod-pow-add y n s in
+    omega (arith, under, parts, split y (s + n))
 
 no-field : (y s v : ℕ) → withField y s 0 v ≡ y
 no-field y s v = rw (add-zero s, mod-one v) (omega (arith, split y s))

@@ -128,6 +128,28 @@ fn store_front(buffer: &mut [u8], at: usize, k: u32, word: u64)
     buffer[at] = with_front(buffer[at], k, word);
 }
 
+// The byte with the low n bits of value above its last ones, of which there are `behind`; the others stay. What goes is taken out by a mask,
+// so that between a byte's load and its store there are few steps: the next field often waits for it.
+fn with_inside(byte: u8, n: u32, behind: u32, value: u32) -> u8
+    requires { ⌜ behind + n ≤ 8 ⌝ }
+    ensures { λ r. ⌜ r ≡ byte / 2 ^ (behind + n) * 2 ^ (behind + n) + (value % 2 ^ n * 2 ^ behind + byte % 2 ^ behind) ⌝ }
+{
+    let whole = wide(byte);
+    let below = power(behind);
+    let size = power(n);
+    let mask = (size - 1) * below;
+    let kept = whole - (whole & mask);
+    (kept + value % size * below) as u8
+}
+
+// A field that lies in one byte, behind so many of its bits.
+fn store_inside(buffer: &mut [u8], at: usize, used: u32, n: u32, value: u32)
+    requires { ⌜ (used + n ≤ 8) × (at < length (now buffer)) ⌝ }
+    ensures { λ _. ⌜ now (buffer .exit) ≡ putBits (now (buffer .entry)) (8 * at + used) (fieldBits n value) ⌝ }
+{
+    buffer[at] = with_inside(buffer[at], n, BYTE - used - n, value);
+}
+
 // The low n bits of word, from the first bit of a byte on.
 fn store_word(buffer: &mut [u8], first: usize, n: u32, word: u64)
     requires { ⌜ (n ≤ 64) × (8 * first + n ≤ 8 * length (now buffer)) ⌝ }
@@ -272,8 +294,7 @@ impl BitCursor {
             if n == 0 {
                 return BitCursor { at };
             }
-            let held = joined(buffer[first], used, n, value);
-            store_front(buffer, first, used + n, held);
+            store_inside(buffer, first, used, n, value);
             return BitCursor {
                 at: at + n as usize,
             };

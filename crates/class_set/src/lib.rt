@@ -32,7 +32,7 @@ pub fn names_over(set: u8) -> bool
 }
 
 // The words of the named classes, moved to the front, and how many they are. Each word is stored where
-// the next named one belongs and then counted or not, so there is no branch to guess.
+// the next named one belongs and then counted or not: no store hangs on its class, only the count.
 pub fn choose(set: u8, words: &[u32], classes: &[u8], out: &mut [u32]) -> usize
     requires { ⌜ length (now words) ≡ length (now classes) ⌝ }
     requires { ⌜ length (now words) ≤ length (now out) ⌝ }

@@ -10,7 +10,7 @@ use native.Mathlib.Omega.{arith}
 use lib.Dec.{ltb}
 use lib.ListN.{length, drop, drop-of-length-le}
 use lib.Seq.{drop-cons}
-use borrow.Author.Tests.{ltb-false, lt-ltb, le-ltb}
+use borrow.Author.Tests.{ltb-true, ltb-false, lt-ltb, le-ltb}
 use Rattle.laws.specs.Loops.{sum}
 use Rattle.laws.specs.Parts.{listing}
 use Rattle.laws.proofs.Filling.{length-listing}
@@ -51,6 +51,18 @@ early best offset rows (c ∷ l) = by (ltb (offset + c) best) refl (early best (
         let g = ltb-false (offset + c) best e in
         rw e (record { below = λ h. absurd (omega arith); same = λ h. absurd (omega arith); few = omega arith })
 
+-- an ended sum wins exactly if the whole one does
+pub early-test : (best offset : ℕ) (l : List ℕ) → ltb (ended best offset 0 l .cost) best ≡ ltb (offset + total l) best
+early-test best offset l = by (ltb (offset + total l) best) (ltb (ended best offset 0 l .cost) best) refl refl
+  where
+    by : (t u : Bool) → ltb (offset + total l) best ≡ t → ltb (ended best offset 0 l .cost) best ≡ u → u ≡ t
+    by true true e f = refl
+    by false false e f = refl
+    by true false e f =
+        let s = early best offset 0 l .same (ltb-true (offset + total l) best e) in
+        sym f ∙ (ap (λ (a : Added). ltb (a .cost) best) s ∙ e)
+    by false true e f = sym (sym e ∙ lt-ltb (offset + total l) best (early best offset 0 l .below (ltb-true (ended best offset 0 l .cost) best f)))
+
 -- a sum that didn't reach the best is whole
 pub ended-whole : (best offset rows : ℕ) (l : List ℕ) → ended best offset rows l .cost < best → ended best offset rows l ≡ added (offset + total l) (rows + length l)
 ended-whole best offset rows l h = early best offset rows l .same (early best offset rows l .below h)
@@ -87,7 +99,7 @@ pub record Left (best start : ℕ) (f : ℕ → ℕ) (n b i cost : ℕ) : Type 0
   pub left : ended best cost i (drop i (listing f n)) ≡ ended best start 0 (listing f n)
   pub small : cost ≤ start + b * i
 
-row-next : (f : ℕ → ℕ) (n i d : ℕ) → i < n → d ≡ f i → drop i (listing f n) ≡ d ∷ drop (i + 1) (listing f n)
+pub row-next : (f : ℕ → ℕ) (n i d : ℕ) → i < n → d ≡ f i → drop i (listing f n) ≡ d ∷ drop (i + 1) (listing f n)
 row-next f n i d l e =
     rw (add-one i)
     (drop-cons (listing f n) i 0 (rw (length-listing f n) l) ∙ ap (λ (k : ℕ). k ∷ drop (suc i) (listing f n)) (getD-listing f n i 0 l ∙ sym e))

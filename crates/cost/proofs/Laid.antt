@@ -18,7 +18,7 @@ use Rattle.plane.proofs.Halves.{part-at}
 use Rattle.plane.proofs.Windows.{window-at, displaced-same, displaced-none}
 use Rattle.cost.specs.Cost.{blockCost, eighthsCost, rowCost, bilinearCost, bilinearRowCost, predicted, whole, fraction}
 use Rattle.cost.specs.Ended.{total, added, ended, rowCosts, eighthsCosts}
-use Rattle.cost.specs.Inner.{rowDifference, bilinearDifference, windowCost, windowCosts, bilinearWindowCost, bilinearWindowCosts, wholeIn, fractionOf, Reached, Sums}
+use Rattle.cost.specs.Inner.{rowDifference, windowCost, windowCosts, bilinearWindowCost, bilinearWindowCosts, wholeIn, fractionOf, Reached, Sums}
 use Rattle.cost.proofs.Ended.{Left, next, stops, all, total-listing}
 use Rattle.cost.proofs.Stored.{whole-of-stored, fraction-of-stored}
 
@@ -48,27 +48,6 @@ module _ {n side b : ℕ} {block window : List ℕ} {y x best start i cost : ℕ
   pub rows-all : n ≤ i → start + b * n ≤ 16777472 → Sums n (ended best start 0 (windowCosts n side block window y x)) (added cost i)
   unfolding windowCosts
   rows-all l k = all (a .rows) l k
-
-pub bilinear-row-laid : (n side : ℕ) (block window : List ℕ) (y x fy fx i : ℕ) →
-    bilinearDifference n
-    (take (i * n + n - i * n) (drop (i * n) block))
-    (take ((y + i) * side + x + (n + 1) - ((y + i) * side + x)) (drop ((y + i) * side + x) window))
-    (take ((y + i) * side + x + side + (n + 1) - ((y + i) * side + x + side)) (drop ((y + i) * side + x + side) window))
-    fy fx
-    ≡ bilinearWindowCost n side block window y x fy fx i
-unfolding bilinearDifference bilinearWindowCost
-bilinear-row-laid n side block window y x fy fx i =
-    sum-same _ _ n
-    (λ j g.
-    let g0 : j < n + 1 = omega arith in
-    let g1 : j + 1 < n + 1 = omega arith in
-    rw (
-      part-at block (i * n) n j g,
-      part-at window ((y + i) * side + x) (n + 1) j g0,
-      part-at window ((y + i) * side + x) (n + 1) (j + 1) g1,
-      part-at window ((y + i) * side + x + side) (n + 1) j g0,
-      part-at window ((y + i) * side + x + side) (n + 1) (j + 1) g1,
-    ))
 
 -- the whole sums
 pub total-rowCosts : (n : ℕ) (input ref : List ℕ) (place : Place) (dy dx : ℤ) → total (rowCosts n input ref place dy dx) ≡ blockCost n input ref place dy dx

@@ -1,5 +1,5 @@
 pub mod Sum
 pub mod Stored
-pub mod Bilinear
 pub mod Ended
 pub mod Laid
+pub mod Bounded

@@ -11,6 +11,10 @@ use Rattle.plane.specs.Difference.{difference}
 use Rattle.cost.specs.declared.Added.{Added}
 use Rattle.cost.specs.Cost.{bilinear}
 
+-- no number of a list is over n
+pub record AtMost (n : ℕ) (l : List ℕ) : Type 0 where
+  pub each : (i : ℕ) → i < length l → getD l i 0 ≤ n
+
 -- parts of n pels
 pub record Rows (n : ℕ) (a b : List ℕ) : Type 0 where
   pub first : length a ≡ n
@@ -20,27 +24,10 @@ pub record Rows (n : ℕ) (a b : List ℕ) : Type 0 where
 unfoldable pub rowDifference : ℕ → List ℕ → List ℕ → ℕ
 rowDifference n a b = sum (λ j. difference (getD a j 0) (getD b j 0)) n
 
--- 16 pels, and two rows of 17 to predict them from
-pub record BilinearRows (input top bottom : List ℕ) : Type 0 where
-  pub pels : length input ≡ 16
-  pub above : length top ≡ 17
-  pub below : length bottom ≡ 17
-
 -- eighths of a pel
 pub record Fractions (fy fx : ℕ) : Type 0 where
   pub fy-small : fy < 8
   pub fx-small : fx < 8
-
--- two pels, or two rows' sums of two, and eighths
-pub record Weighable (a b f : ℕ) : Type 0 where
-  pub a-small : a ≤ 524280
-  pub b-small : b ≤ 524280
-  pub f-small : f < 8
-
--- by how much the first n pels differ from those predicted
-unfoldable pub bilinearDifference : ℕ → List ℕ → List ℕ → List ℕ → ℕ → ℕ → ℕ
-bilinearDifference n input top bottom fy fx =
-    sum (λ j. difference (getD input j 0) (bilinear fy fx (getD top j 0) (getD top (j + 1) 0) (getD bottom j 0) (getD bottom (j + 1) 0))) n
 
 -- n × n pels of a block, a window of so many pels each way, and n × n pels of it from row y, column x on
 pub record Framed (n side : ℕ) (block window : List ℕ) (y x : ℕ) : Type 0 where
@@ -87,13 +74,6 @@ pub record Reached (corner motion : ℕ) : Type 0 where
   pub low : 8 * corner ≤ motion + 24
   pub high : motion ≤ 8 * corner + 38
   pub small : motion ≤ 512
-
--- a block, a window, and a motion whose pels lie in it
-pub record Aimed (block window : List ℕ) (corner motion : Offset) : Type 0 where
-  pub pels : length block ≡ 256
-  pub seen : length window ≡ 576
-  pub y-reached : Reached (corner .y) (motion .y)
-  pub x-reached : Reached (corner .x) (motion .x)
 
 -- this sum, of n rows at most, and a cost that isn't near 2^32
 pub record Sums (n : ℕ) (value result : Added) : Type 0 where

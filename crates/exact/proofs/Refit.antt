@@ -7,13 +7,14 @@ use mathlib.Core.Path.{_≡_, refl, ap, _∙_, subst}
 use native.Mathlib.Omega.{arith}
 use borrow.Author.Tests.{lt-ltb}
 use lib.Dec.{lit≤}
-use lib.IntN.{ℤ, pos, natAbs, _+ℤ_, _-ℤ_, _*ℤ_, +ℤ-negℤ-cancel, -ℤ-+ℤ-cancel, +ℤ-idr}
+use lib.IntN.{ℤ, pos, natAbs, _+ℤ_, _-ℤ_, _*ℤ_, -ℤ-+ℤ-cancel, +ℤ-idr}
 use lib.ListN.{length}
 use lib.Ieee.{ofBits, fits}
 use Rattle.laws.specs.Binary64.{_⊖_, one}
 use Rattle.laws.proofs.Signed.{natAbs-add-le}
 use Rattle.grid.specs.Grid.{Codable}
 use Rattle.grid.proofs.Table.{row-codable}
+use Rattle.grid.proofs.Reach.{codable-near}
 use Rattle.sample.specs.Word.{mostSamples, rowOf, colOf}
 use Rattle.fit.specs.declared.Fitted.{Fitted}
 use Rattle.fit.specs.declared.Fitted.the-variants.{Refused, Translation, RotZoom, Affine}
@@ -25,7 +26,7 @@ use Rattle.quantize.specs.Quantize.{linearOf, refitTotals, refittedFrom, refitt
 use Rattle.laws.specs.Stands.{wholeLimit, Stands}
 use Rattle.exact.specs.Words.{Words, SameWords}
 use Rattle.exact.specs.Refit.{whole1, mostTurn, sumLeftU, sumLeftV}
-use Rattle.laws.proofs.Stands.{ofInt-stands, sub-exact, div-exact, product-size}
+use Rattle.laws.proofs.Stands.{ofInt-stands, sub-exact, div-exact}
 use Rattle.laws.proofs.Interval.{Between, between-neg, between-size, between-of-size}
 use Rattle.exact.proofs.Counts.{same-length, same-or-refused}
 use Rattle.laws.proofs.Ranged.{Ranged, sum-ranged, difference-ranged, finer-ranged, right-product-ranged}
@@ -89,16 +90,14 @@ module _ (l : Linear) (near : Near l) where
 -- ---- a model on the grid is near the identity
 
 -- 4,096 steps of 2 either way
-codable-near : (z : ℤ) (c : ℕ) → Codable 12 15 c z → Between mostTurn mostTurn (z -ℤ pos c)
-codable-near z c k =
-    rw (k .is, +ℤ-negℤ-cancel (k .ordinal *ℤ pos 2) (pos c))
-    (between-of-size (k .ordinal *ℤ pos 2) (omega (arith, product-size (k .ordinal) 2, k .in-range .within)))
+in-reach : (z : ℤ) (c : ℕ) → Codable 12 15 c z → Between mostTurn mostTurn (z -ℤ pos c)
+in-reach z c k = between-of-size (z -ℤ pos c) (codable-near 12 15 c z k)
 
 zero-near : Between mostTurn mostTurn (pos 0)
 zero-near = record { high = zero-le; low = zero-le }
 
 plain-near : (z : ℤ) → Codable 12 15 0 z → Between mostTurn mostTurn z
-plain-near z k = rw (+ℤ-idr z) at (codable-near z 0 k)
+plain-near z k = rw (+ℤ-idr z) at (in-reach z 0 k)
 
 pub linear-near : (f : Fitted) (flag : ℕ) → Near (linearOf f flag)
 unfolding linearOf
@@ -106,17 +105,17 @@ linear-near (Refused n) flag = record { two = zero-near; three = zero-near; four
 linear-near (Translation m0 m1) flag = record { two = zero-near; three = zero-near; four = zero-near; five = zero-near }
 linear-near (RotZoom m0 m1 m2 m3) flag =
     record {
-      two = codable-near _ whole1 (row-codable 2 flag 2 (gridNumber m2));
+      two = in-reach _ whole1 (row-codable 2 flag 2 (gridNumber m2));
       three = plain-near _ (row-codable 2 flag 3 (gridNumber m3));
       four = between-neg _ (plain-near _ (row-codable 2 flag 3 (gridNumber m3)));
-      five = codable-near _ whole1 (row-codable 2 flag 2 (gridNumber m2));
+      five = in-reach _ whole1 (row-codable 2 flag 2 (gridNumber m2));
     }
 linear-near (Affine m0 m1 m2 m3 m4 m5) flag =
     record {
-      two = codable-near _ whole1 (row-codable 3 flag 2 (gridNumber m2));
+      two = in-reach _ whole1 (row-codable 3 flag 2 (gridNumber m2));
       three = plain-near _ (row-codable 3 flag 3 (gridNumber m3));
       four = plain-near _ (row-codable 3 flag 4 (gridNumber m4));
-      five = codable-near _ whole1 (row-codable 3 flag 5 (gridNumber m5));
+      five = in-reach _ whole1 (row-codable 3 flag 5 (gridNumber m5));
     }
 
 -- ---- two orders

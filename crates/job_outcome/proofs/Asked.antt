@@ -4,7 +4,7 @@ use mathlib.Core.Path.{_≡_}
 use Rattle.job_task.specs.Task.{Task, Lent}
 use Rattle.job_task.specs.Rows.{refusalBefore, early}
 use Rattle.job_outcome.specs.Outcome.{fitWords, fitIn, late, outcome}
-use Rattle.job_outcome.specs.Asked as asked
+use Rattle.job_outcome.proofs.AskedEnds as asked
 
 module _ (j : Task) (asks : j .settings .elect ≡ 0) where
   pub words-of-fit : fitWords j ≡ asked.fitWords j

@@ -8,9 +8,14 @@ pub mod Refused
 pub mod Six
 pub mod Demand3
 pub mod HeaderRead
+pub mod Ends
+pub mod AskedEnds
 pub mod Asked
+pub mod UntrimmedEnds
 pub mod Untrimmed
 pub mod Electing
+pub mod UnnamedEnds
 pub mod Unnamed
+pub mod OutsideEnds
 pub mod Outside
 pub mod Agreeing

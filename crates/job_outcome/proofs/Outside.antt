@@ -16,7 +16,7 @@ use Rattle.job_task.specs.Rows.{notHeld, sizeRows, codeRows, modelRows, roomRow
 use Rattle.job_task.proofs.Groups.{or-else-same}
 use Rattle.job_task.proofs.Accepted.{codes}
 use Rattle.job_outcome.specs.Outcome.{outcome}
-use Rattle.job_outcome.specs.Outside as outside
+use Rattle.job_outcome.proofs.OutsideEnds as outside
 
 either-false : (b : Bool) → either b false ≡ b
 either-false true = refl

@@ -17,7 +17,7 @@ use Rattle.job_task.specs.Rows.{tooLittle, tooFewToTrim, sizeRows, codeRows, ro
 use Rattle.job_task.proofs.Groups.{or-else-same}
 use Rattle.job_task.proofs.Accepted.{lengths, codes, ready}
 use Rattle.job_outcome.specs.Outcome.{samples, words, named, outcome}
-use Rattle.job_outcome.specs.Unnamed as unnamed
+use Rattle.job_outcome.proofs.UnnamedEnds as unnamed
 use Rattle.job_outcome.proofs.Samples.{words-length}
 
 module _ (j : Task) (all : j .settings .set ≡ allClasses) where

@@ -4,8 +4,8 @@ use mathlib.Core.Path.{_≡_, _∙_}
 use Rattle.job_task.specs.Task.{Task, Lent}
 use Rattle.job_task.specs.Rows.{early}
 use Rattle.job_outcome.specs.Outcome.{named, fitWords, fitIn, late, outcome}
-use Rattle.job_outcome.specs.Asked as asked
-use Rattle.job_outcome.specs.Untrimmed as untrimmed
+use Rattle.job_outcome.proofs.AskedEnds as asked
+use Rattle.job_outcome.proofs.UntrimmedEnds as untrimmed
 use Rattle.job_outcome.proofs.Asked as asking
 use Rattle.fit.specs.Fitted.{refusalOf}
 

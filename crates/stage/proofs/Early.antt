@@ -8,7 +8,7 @@ use native.Mathlib.Omega.{arith}
 use lib.Dec.{ltb, eqb}
 use lib.IntN.{ℤ, pos, _*ℤ_}
 use lib.ListN.{length}
-use borrow.Author.Tests.{ltb-true, lt-ltb, eqb-true, eqb-false}
+use borrow.Author.Tests.{ltb-true, eqb-true, eqb-false}
 use Rattle.laws.specs.Loops.{run, turns}
 use Rattle.laws.proofs.Filling.{length-listing}
 use Rattle.plane.specs.declared.Place.{Place}
@@ -16,7 +16,7 @@ use Rattle.plane.specs.Plane.{down}
 use Rattle.cost.specs.declared.Added.{Added}
 use Rattle.cost.specs.Cost.{blockCost, eighthsCost, rowCost, bilinearRowCost, whole, fraction}
 use Rattle.cost.specs.Ended.{total, ended, rowCosts, eighthsCosts}
-use Rattle.cost.proofs.Ended.{early, ended-adds}
+use Rattle.cost.proofs.Ended.{early, early-test, ended-adds}
 use Rattle.cost.proofs.Laid.{total-rowCosts, total-eighthsCosts}
 use Rattle.stage.specs.Stage.{Found, better, square, rowOffset, columnOffset, consider, scan, withOffset, coarse, fullPel, eighthsStep, refined}
 use Rattle.stage.specs.Early.{Tally, begun, considerEarly, scanEarly, magnitudes, nothing, coarseEarly, fullPelEarly, eighthsStepEarly, refinedEarly, fineEarly}
@@ -33,19 +33,7 @@ pub run-seen : {S T : Type 0} (φ : S → T) (f : ℕ → S → S) (g : ℕ → 
 unfolding run
 run-seen φ f g n s h = turns-seen φ f g n 0 (n - 0) s (omega arith) h
 
--- an ended sum wins exactly if the whole one does
-early-test : (best offset : ℕ) (l : List ℕ) → ltb (ended best offset 0 l .cost) best ≡ ltb (offset + total l) best
-early-test best offset l = by (ltb (offset + total l) best) (ltb (ended best offset 0 l .cost) best) refl refl
-  where
-    by : (t u : Bool) → ltb (offset + total l) best ≡ t → ltb (ended best offset 0 l .cost) best ≡ u → u ≡ t
-    by true true e f = refl
-    by false false e f = refl
-    by true false e f =
-        let s = early best offset 0 l .same (ltb-true (offset + total l) best e) in
-        sym f ∙ (ap (λ (a : Added). ltb (a .cost) best) s ∙ e)
-    by false true e f = sym (sym e ∙ lt-ltb (offset + total l) best (early best offset 0 l .below (ltb-true (ended best offset 0 l .cost) best f)))
-
--- and then at its cost
+-- an ended sum that wins does so at its cost
 pub early-better : (best : Found) (offset : ℕ) (l : List ℕ) (dy dx : ℤ) →
     better best (record { cost = ended (best .cost) offset 0 l .cost; dy = dy; dx = dx }) ≡ better best (record { cost = offset + total l; dy = dy; dx = dx })
 early-better best offset l dy dx = by (ltb (offset + total l) (best .cost)) refl

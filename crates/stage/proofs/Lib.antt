@@ -1,6 +1,8 @@
 pub mod Motion
 pub mod Turns
 pub mod Reach
+pub mod NoneWins
+pub mod Whole
 pub mod Scan
 pub mod Stages
 pub mod Early

@@ -8,7 +8,7 @@ use native.Mathlib.Omega.{arith}
 use Rattle.plane.specs.declared.Offset.{Offset}
 use Rattle.cost.specs.Inner.{windowCosts, bilinearWindowCosts, Reached}
 use Rattle.stage.specs.declared.Best.{Best}
-use Rattle.stage.specs.Inner.{startOf, at, magnitudesOf, coarseMotion, coarseIn, fullMotion, fullPelIn, stepMotion, stepIn, refinedIn, eightfold, fineIn, Lies, Roomy, Around, Steady}
+use Rattle.stage.specs.Inner.{startOf, at, magnitudesOf, coarseMotion, coarseIn, fullMotion, fullPelIn, stepMotion, stepIn, stepsIn, refinedIn, eightfold, fineIn, Lies, Roomy, Around, Steady}
 use Rattle.stage.proofs.Turns.{run-lies}
 
 -- a motion of a step: at most two steps are added before one is taken back
@@ -57,12 +57,12 @@ stepIn-lies corner step block window start r a =
     (record { y-low = omega arith; y-high = omega arith; x-low = omega arith; x-high = omega arith })
 
 -- a reach left over
-pub steady-after : (reach step : ℕ) (corner : Offset) (y x y' x' : ℕ) → Steady (reach + step) corner (at y x) → Lies step y x y' x' → Steady reach corner (at y' x')
-steady-after reach step corner y x y' x' s l =
-    let a : 8 * corner .y + (reach + step) ≤ y + 24 = s .y-around .low in
-    let b : y + (reach + step) ≤ 8 * corner .y + 38 = s .y-around .high in
-    let c : 8 * corner .x + (reach + step) ≤ x + 24 = s .x-around .low in
-    let d : x + (reach + step) ≤ 8 * corner .x + 38 = s .x-around .high in
+pub steady-after : {reach step before : ℕ} (corner : Offset) (y x y' x' : ℕ) → Steady before corner (at y x) → Lies step y x y' x' → reach + step ≤ before → Steady reach corner (at y' x')
+steady-after {reach} {step} {before} corner y x y' x' s l k =
+    let a : 8 * corner .y + before ≤ y + 24 = s .y-around .low in
+    let b : y + before ≤ 8 * corner .y + 38 = s .y-around .high in
+    let c : 8 * corner .x + before ≤ x + 24 = s .x-around .low in
+    let d : x + before ≤ 8 * corner .x + 38 = s .x-around .high in
     let e : y ≤ y' + step = l .y-low in
     let f : y' ≤ y + step = l .y-high in
     let g : x ≤ x' + step = l .x-low in
@@ -78,8 +78,8 @@ steady-start centre y x l =
     let h : x ≤ centre .x + 3 = l .x-high in
     record { y-around = record { low = omega arith; high = omega arith }; x-around = record { low = omega arith; high = omega arith } }
 
-pub steady-less : (reach less : ℕ) (corner motion : Offset) → less ≤ reach → Steady reach corner motion → Steady less corner motion
-steady-less reach less corner motion l s =
+pub steady-less : {reach less : ℕ} (corner motion : Offset) → Steady reach corner motion → less ≤ reach → Steady less corner motion
+steady-less {reach} {less} corner motion s l =
     let a : 8 * corner .y + reach ≤ motion .y + 24 = s .y-around .low in
     let b : motion .y + reach ≤ 8 * corner .y + 38 = s .y-around .high in
     let c : 8 * corner .x + reach ≤ motion .x + 24 = s .x-around .low in
@@ -118,16 +118,20 @@ lies-after a b y x y1 x1 y2 x2 l m =
     let w : x2 ≤ x1 + b = m .x-high in
     record { y-low = omega arith; y-high = omega arith; x-low = omega arith; x-high = omega arith }
 
+-- three steps on a window that was taken apart and is whole again
+pub steps-are : (corner : Offset) (block window : List ℕ) (first : Best) {again : List ℕ} {by-4 by-2 by-1 : Best} → again ≡ window → by-4 ≡ stepIn corner 4 block again first →
+    by-2 ≡ stepIn corner 2 block again by-4 → by-1 ≡ stepIn corner 1 block again by-2 → by-1 ≡ stepsIn corner block window first
+steps-are corner block window first e p q d = rw (d, q, p, e)
+
 -- the start, and three steps
-pub refinedIn-is : (corner start : Offset) (block window : List ℕ) {first by-4 by-2 by-1 : Best} →
-    first ≡ startOf (bilinearWindowCosts block window corner start) (start .y) (start .x) → by-4 ≡ stepIn corner 4 block window first →
-    by-2 ≡ stepIn corner 2 block window by-4 → by-1 ≡ stepIn corner 1 block window by-2 → by-1 ≡ refinedIn corner start block window
+pub refinedIn-is : (corner start : Offset) (block window : List ℕ) {first last : Best} → first ≡ startOf (bilinearWindowCosts block window corner start) (start .y) (start .x) →
+    last ≡ stepsIn corner block window first → last ≡ refinedIn corner start block window
 unfolding refinedIn
-refinedIn-is corner start block window e p q d = rw (d, q, p, e)
+refinedIn-is corner start block window e p = rw (p, e)
 
 -- both stages on planes
 pub fineIn-is : (centre : Offset) (block window : List ℕ) {full last : Best} → full ≡ fullPelIn centre block window →
-    last ≡ refinedIn centre (eightfold full) block window →
+    last ≡ refinedIn centre (eightfold (at (full .y) (full .x))) block window →
     record { cost = last .cost; y = last .y; x = last .x; rows = full .rows + last .rows } ≡ fineIn centre block window
 unfolding fineIn
 fineIn-is centre block window e q = rw (q, e) refl

@@ -145,10 +145,10 @@ module _ (input ref : List ℕ) (place : Place) (none : Offset) (zy : none .y �
         let first = startOf (bilinearWindowCosts block window by start) (start .y) (start .x) in
         let by-4 = stepIn by 4 block window first in
         let by-2 = stepIn by 2 block window by-4 in
-        let s4 : Steady 4 by (at (first .y) (first .x)) = steady-less 7 4 by start (omega arith) s in
-        let s3 : Steady 3 by (at (by-4 .y) (by-4 .x)) = steady-after 3 4 by (first .y) (first .x) (by-4 .y) (by-4 .x) s (stepIn-lies by 4 block window first room s4) in
-        let s2 : Steady 2 by (at (by-4 .y) (by-4 .x)) = steady-less 3 2 by (at (by-4 .y) (by-4 .x)) (omega arith) s3 in
-        let s1 : Steady 1 by (at (by-2 .y) (by-2 .x)) = steady-after 1 2 by (by-4 .y) (by-4 .x) (by-2 .y) (by-2 .x) s3 (stepIn-lies by 2 block window by-4 room s2) in
+        let s4 : Steady 4 by (at (first .y) (first .x)) = steady-less by start s (omega arith) in
+        let s3 : Steady 3 by (at (by-4 .y) (by-4 .x)) = steady-after by (first .y) (first .x) (by-4 .y) (by-4 .x) s (stepIn-lies by 4 block window first room s4) (omega arith) in
+        let s2 : Steady 2 by (at (by-4 .y) (by-4 .x)) = steady-less by (at (by-4 .y) (by-4 .x)) s3 (omega arith) in
+        let s1 : Steady 1 by (at (by-2 .y) (by-2 .x)) = steady-after by (by-4 .y) (by-4 .x) (by-2 .y) (by-2 .x) s3 (stepIn-lies by 2 block window by-4 room s2) (omega arith) in
         let ry = s .y-around in
         let rx = s .x-around in
         step-seen 1 by-2 s1
@@ -169,10 +169,10 @@ module _ (input ref : List ℕ) (place : Place) (none : Offset) (zy : none .y �
         let window = windowOf ref place by 31 24 in
         let full = fullPelIn by block window in
         let e = fullPel-seen in
-        let r = refined-seen (eightfold full) (steady-start by (full .y) (full .x) (fullPelIn-lies by block window room)) in
+        let r = refined-seen (eightfold (at (full .y) (full .x))) (steady-start by (full .y) (full .x) (fullPelIn-lies by block window room)) in
         let ty = eightfold-stored (full .y) (ap (λ (t : Tally). t .best .dy) e) in
         let tx = eightfold-stored (full .x) (ap (λ (t : Tally). t .best .dx) e) in
-        both-seen (full .rows) (refinedIn by (eightfold full) block window) (ap (λ (t : Tally). t .rows) e) (r ∙ rw (ty, tx) refl)
+        both-seen (full .rows) (refinedIn by (eightfold (at (full .y) (full .x))) block window) (ap (λ (t : Tally). t .rows) e) (r ∙ rw (ty, tx) refl)
 
 -- what the code of a stage finds in its copies
 pub coarse-leads : (input ref : List ℕ) (place : Place) (none : Offset) → none .y ≡ 0 → none .x ≡ 0 → Block 8 place → {block window : List ℕ} {best : Best} →

@@ -1,10 +1,11 @@
 -- What the functions below the public calls ask and answer; no public contract cites it.
 -- Assumes nothing.
-use Prim.Native.Nat.{ℕ, _+_, _*_, _-_, _/_, _%_, _≤_}
+use Prim.Native.Nat.{ℕ, _+_, _*_, _-_, _/_, _%_, _≤_, _<_}
+use mathlib.Core.Bool.{Bool}
 use mathlib.Core.List.{List}
 use mathlib.Core.Path.{_≡_}
 use lib.Dec.{ltb, eqb}
-use lib.ListN.{length}
+use lib.ListN.{length, getD}
 use Rattle.laws.specs.Loops.{run}
 use Rattle.laws.specs.Refusal.{choose}
 use Rattle.plane.specs.declared.Place.{Place}
@@ -14,7 +15,8 @@ use Rattle.plane.specs.Difference.{difference}
 use Rattle.plane.specs.Inner.{Small}
 use Rattle.cost.specs.declared.Added.{Added}
 use Rattle.cost.specs.Ended.{ended, total}
-use Rattle.cost.specs.Inner.{windowCosts, bilinearWindowCosts}
+use Rattle.cost.specs.Inner.{windowCosts, bilinearWindowCosts, AtMost}
+use Rattle.lanes.specs.Inner.{spreadOf, IfLow}
 use Rattle.stage.specs.declared.Best.{Best}
 use Rattle.stage.specs.Stage.{square}
 use Rattle.stage.specs.Early.{Tally}
@@ -29,6 +31,10 @@ replaced best new by =
     choose (ltb (new .cost) (best .cost))
     (record { cost = new .cost; y = by .y; x = by .x; rows = best .rows + new .rows })
     (record { cost = best .cost; y = best .y; x = best .x; rows = best .rows + new .rows })
+
+-- a best that no candidate replaced, with so many rows more
+abbrev pub moreRows : Best → ℕ → Best
+moreRows best n = record { cost = best .cost; y = best .y; x = best .x; rows = best .rows + n }
 
 -- a start: its motion, its whole cost and all its rows
 abbrev pub startOf : List ℕ → ℕ → ℕ → Best
@@ -78,19 +84,20 @@ stepTurn corner centre step block window =
 unfoldable pub stepIn : Offset → ℕ → List ℕ → List ℕ → Best → Best
 stepIn corner step block window start = run (stepTurn corner (at (start .y) (start .x)) step block window) 0 9 start
 
+abbrev pub stepsIn : Offset → List ℕ → List ℕ → Best → Best
+stepsIn corner block window first = stepIn corner 1 block window (stepIn corner 2 block window (stepIn corner 4 block window first))
+
 unfoldable pub refinedIn : Offset → Offset → List ℕ → List ℕ → Best
-refinedIn corner start block window =
-    stepIn corner 1 block window
-    (stepIn corner 2 block window (stepIn corner 4 block window (startOf (bilinearWindowCosts block window corner start) (start .y) (start .x))))
+refinedIn corner start block window = stepsIn corner block window (startOf (bilinearWindowCosts block window corner start) (start .y) (start .x))
 
 -- both: the full pel's winner, and eighths from eight times that
-abbrev pub eightfold : Best → Offset
+abbrev pub eightfold : Offset → Offset
 eightfold full = at (8 * full .y + 7) (8 * full .x + 7)
 
 unfoldable pub fineIn : Offset → List ℕ → List ℕ → Best
 fineIn centre block window =
     let full = fullPelIn centre block window in
-    let last = refinedIn centre (eightfold full) block window in
+    let last = refinedIn centre (eightfold (at (full .y) (full .x))) block window in
     record { cost = last .cost; y = last .y; x = last .x; rows = full .rows + last .rows }
 
 -- a block and a window of the coarse stage, or of the two others
@@ -101,6 +108,37 @@ pub record Coarse (block window : List ℕ) : Type 0 where
 pub record Fine (block window : List ℕ) : Type 0 where
   pub pels : length block ≡ 256
   pub seen : length window ≡ 576
+
+-- the part of an offset's cost that each of 25 columns has
+pub record Columns (costs : List ℕ) : Type 0 where
+  pub long : length costs ≡ 25
+  pub each : (x : ℕ) → x < 25 → getD costs x 0 ≡ difference x 12
+
+-- a block with each pel once for each lane, whether the pels of both fit sums of 16 bits, and the columns' costs
+pub record Spread (low : Bool) (block spread window columns : List ℕ) : Type 0 where
+  pub same : spread ≡ spreadOf block
+  pub spread-low : IfLow low spread
+  pub window-low : IfLow low window
+  pub column-costs : Columns columns
+
+-- eight candidates side by side in 25 columns, none of them the start
+pub record Beside (y x : ℕ) : Type 0 where
+  pub row : y < 25
+  pub columns : x + 8 ≤ 25
+  pub apart : y ≡ 12 → ⊥
+
+-- their offset costs
+pub record Offsets (y x : ℕ) (costs : List ℕ) : Type 0 where
+  pub each : (k : ℕ) → k < 8 → getD costs k 0 ≡ magnitudesOf 12 (at y (x + k))
+  pub small : (k : ℕ) → k < 8 → getD costs k 0 ≤ 512
+
+-- a block, and the bytes of a window
+pub record FineBytes (block highs lows : List ℕ) : Type 0 where
+  pub pels : length block ≡ 256
+  pub high-pels : length highs ≡ 576
+  pub low-pels : length lows ≡ 576
+  pub high-bytes : AtMost 255 highs
+  pub low-bytes : AtMost 255 lows
 
 -- it is this candidate, and has at most n rows more than before
 pub record Next (n before : ℕ) (value result : Best) : Type 0 where

