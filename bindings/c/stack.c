@@ -102,7 +102,7 @@ static const struct {
     {"a job in a run", plain_job_in_run, BELT_STACK_BYTES_PLAIN},
     {"a job in a run that trims", trimming_job_in_run, BELT_STACK_BYTES_TRIM},
     {"a job in a run that elects", electing_job_in_run, BELT_STACK_BYTES_ELECT},
-    {"belt_run_frame", frame_in_run, 2000},
+    {"belt_run_frame", frame_in_run, 1900},
     {"belt_fit_trimmed", fit_trimmed, 60000},
     {"belt_quantize_trimmed", quantize_trimmed, 60000},
     {"belt_elect", elect, 60000},

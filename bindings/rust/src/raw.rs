@@ -815,6 +815,7 @@ pub fn encode_inter_global_motion(
     }
 }
 
+#[inline]
 pub fn read_global_motion_params(header: &[u8], at: usize, flag: u8, prior: &[i32]) -> Models {
     // SAFETY: two slices are read; a position past the bytes, however large, is refused.
     unsafe { belt_read_global_motion_params(header.as_ptr(), header.len(), at, flag, prior.as_ptr(), prior.len()) }
@@ -847,6 +848,7 @@ pub fn encode_global_motion(
     }
 }
 
+#[inline]
 pub fn read_global_motion(intra: bool, header: &[u8], at: usize, flag: u8, prior: &[i32]) -> Models {
     // SAFETY: as for `read_global_motion_params`; of a key frame neither slice is read.
     unsafe { belt_read_global_motion(intra, header.as_ptr(), header.len(), at, flag, prior.as_ptr(), prior.len()) }
@@ -949,6 +951,7 @@ pub fn run_frame(run: Run, intra: bool, types: &[u8], params: &[i32], start: usi
     }
 }
 
+#[inline]
 pub fn run_read(run: Run, intra: bool, header: &[u8], at: usize) -> FrameModels {
     // SAFETY: as for `read_global_motion`; the prior is in the run, which is passed by value.
     unsafe { belt_run_read(run, intra, header.as_ptr(), header.len(), at) }

@@ -323,6 +323,7 @@ impl RunReader {
     /// assert_eq!(reader.prior(), &read.models);
     /// # Ok::<(), belt::Refusal>(())
     /// ```
+    #[inline]
     pub fn read(&mut self, kind: Kind, header: &[u8], at: usize) -> Result<Models, Refusal> {
         let read = raw::run_read(self.0, kind == Kind::Key, header, at);
         self.0 = read.run;
