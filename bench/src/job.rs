@@ -1,6 +1,6 @@
 //! A whole job: by the proved library, and composed of the Rust's parts with the blocks of `frames`.
 
-use belt::{Buffers, ClassSet, Model, Refusal, Report, Run, Settings, StoredModel, Task};
+use belt::{Buffers, ClassSet, GmType, Model, Refusal, Report, Run, Settings, StoredModel, Task};
 use oracle::Samples;
 
 use crate::frames;
@@ -21,23 +21,22 @@ pub struct Job {
     header: Header,
 }
 
+/// The types, the models, the score, the header's bits and the samples that a job reports.
+pub type Reported = ([u8; 7], [StoredModel; 7], f64, usize, usize);
+
 impl Job {
     /// A textured scene with a fit of this type; the six other references have affine models.
     pub fn new(kind: u8, width: usize, height: usize) -> Self {
         let (input, reference) = Scene::Textured.pair(width, height, 0);
+        let mut settings = Settings::fit(FRAME, GmType::Identity).reference(REFERENCE);
+        (settings.gm_type, settings.flag) = (kind, HIGH_PRECISION);
         Self {
             width,
             height,
             input,
             reference,
             classes: inputs::classes(oracle::sample_count(width, height)),
-            settings: Settings {
-                frame: FRAME,
-                gm_type: kind,
-                reference: REFERENCE,
-                flag: HIGH_PRECISION,
-                ..Settings::default()
-            },
+            settings,
             header: Header::new(AFFINE, Distance::Near),
         }
     }
@@ -86,7 +85,7 @@ impl Job {
     }
 
     /// Words, blocks and header go to the buffers.
-    pub fn rust_run(&self, left: &mut Buffers) -> Option<Report> {
+    pub fn rust_run(&self, left: &mut Buffers) -> Option<Reported> {
         let Settings { frame, gm_type, elect, set, .. } = self.settings;
         let found = oracle::search(&self.input, &self.reference, self.width, self.height);
         for (word, sample) in left.words.iter_mut().zip(&found) {
@@ -113,7 +112,7 @@ impl Job {
         left.header[..bytes.len()].copy_from_slice(&bytes);
         frames::write(frame, &left.words, &self.classes, &mut left.blocks).ok()?;
         let models = header.models.map(StoredModel);
-        Some(Report { types: header.types, models, score, bits, samples: found.len() })
+        Some((header.types, models, score, bits, found.len()))
     }
 
     /// The half planes of the Rust, which its search keeps to itself.

@@ -1,25 +1,32 @@
 /* The proved library's calls (crates/belt, lent_fit, lent_trim, lent_elect and lent_sets), for C and C++ on x86-64 Linux.
-   docs/RULES.md has the rules: what a plane, a sample word, a block, a model and a header are, bit by bit; names in
-   quotes are its sections.
+   docs/C.md is a page to begin with. docs/RULES.md has the rules: what a plane, a sample word, a block, a model and a
+   header are, bit by bit; names in quotes are its sections.
    belt_motion.h beside this file reads words and models in pels.
 
-   A list is a pointer and a count of elements; no pointer is NULL, and each is aligned for its elements.
-   Where the count is 0 the pointer is not read. Lent buffers (pointers that aren't const) overlap nothing
+   The promise: within a major version, from 0.14.0 on, no struct of this header changes its size, no field its place or
+   type, no call its parameters, no code its number, and no call goes away. What is new has a call of its own; a new field
+   means a new struct and a new call. So a program runs, without being compiled again, with every library whose major
+   version is the header's and whose minor version isn't lower: belt_library_fits says whether that is so. The shared
+   library's soname is libbelt.so and the major number. Layouts are asserted at the end of this file, and
+   bindings/c/abi.txt is the list that is kept. Sizes of stack below aren't part of the promise. What was compiled before
+   0.14.0 is to be compiled again: structs changed then, and the soname didn't.
+
+   A list is a pointer and a count of elements; each pointer is aligned for its elements. Where the count is 0 the pointer
+   is not read and may be NULL; no other pointer is NULL. Lent buffers (pointers that aren't const) overlap nothing
    else that is passed. A count that names more than there is can't be seen here, and is the caller's to get right.
 
    The library allocates nothing, keeps nothing between calls and has no state of its own: any number of threads
-   may call it at once, each with its own buffers. A call that trims or elects takes about 57 kB of the thread's stack
-   over words, 74 kB over words by a set of classes and 168 kB over samples, by a set or not, for what it keeps of them
-   and for residuals; another call by a set takes 22 kB over words and about 1 kB over samples, a job about 24 kB,
-   75 kB if it trims or elects, in a run 25 and 77 kB. The library expects the floating-point environment that a
-   process begins with: rounding to nearest, traps off, subnormal numbers kept. It needs memcpy, memset and no other
-   function.
+   may call it at once, each with its own buffers. BELT_STACK_BYTES and its kin say how much of the thread's stack a job
+   takes. Another call that trims or elects takes about 57 kB over words, 74 kB over words by a set of classes and 168 kB
+   over samples, by a set or not, for what it keeps of them and for residuals; another call by a set takes 22 kB over
+   words and about 1 kB over samples. The library expects the floating-point environment that a process begins with:
+   rounding to nearest, traps off, subnormal numbers kept. It needs memcpy, memset and no other function.
 
    A result's first field is the refusal: BELT_ACCEPTED, or the number of the row that refuses ('When a call
    says no'), and then all fields after it are 0, but for a run, which comes back as it was handed in. A refused call
-   leaves its lent buffers as they were; belt_job and belt_run_job have one exception. An accepted call writes only the part of a buffer that it uses. Rows are judged in the
-   order of enum belt_refusal, over the whole input; blocks go one by one, and a call that reads a frame judges
-   BELT_TOO_SHORT last. 'Refuses' at a call lists its rows in that order. */
+   leaves its lent buffers as they were; belt_job and belt_run_job have one exception. An accepted call writes only the
+   part of a buffer that it uses. Rows are judged in the order of enum belt_refusal, over the whole input; blocks go one
+   by one, and a call that reads a frame judges BELT_TOO_SHORT last. 'Refuses' at a call lists its rows in that order. */
 #ifndef BELT_H
 #define BELT_H
 
@@ -28,9 +35,11 @@
 #include <stdint.h>
 
 #define BELT_VERSION_MAJOR 0
-#define BELT_VERSION_MINOR 1
+#define BELT_VERSION_MINOR 14
 #define BELT_VERSION_PATCH 0
-#define BELT_VERSION "0.1.0"
+#define BELT_VERSION "0.14.0"
+/* The three in one number, as belt_version answers them. */
+#define BELT_VERSION_NUMBER (BELT_VERSION_MAJOR * 1000000u + BELT_VERSION_MINOR * 1000u + BELT_VERSION_PATCH)
 
 /* Sizes. */
 #define BELT_MOST_SIDE 1024       /* the longest side of a plane, in pels */
@@ -48,6 +57,32 @@
 #define BELT_OTHER_TYPES 6        /* of the references beside a job's own */
 #define BELT_OTHER_NUMBERS 36
 #define BELT_ONE 65536            /* 1 at 16 fraction bits */
+
+/* What a job takes of its thread's stack, at most, in a run too: of a type that is asked for; after trimming; of a type
+   that is elected. The last is the most that a job takes. bindings/c/stack.c measures them. A thread of 128 kB, as musl
+   makes them, has room for each. */
+#define BELT_STACK_BYTES_PLAIN 26000
+#define BELT_STACK_BYTES_TRIM 78000
+#define BELT_STACK_BYTES_ELECT 78000
+#define BELT_STACK_BYTES BELT_STACK_BYTES_ELECT
+
+/* Casts and assertions of either language; C99 has no _Static_assert. */
+#ifdef __cplusplus
+#define BELT_CAST(type, value) static_cast<type>(value)
+#define BELT_ADDRESS(pointer) reinterpret_cast<uintptr_t>(pointer)
+#else
+#define BELT_CAST(type, value) ((type)(value))
+#define BELT_ADDRESS(pointer) ((uintptr_t)(pointer))
+#endif
+#if defined __cplusplus && __cplusplus >= 201103L
+#define BELT_HOLDS(name, condition) static_assert(condition, #name)
+#elif defined __STDC_VERSION__ && __STDC_VERSION__ >= 201112L
+#define BELT_HOLDS(name, condition) _Static_assert(condition, #name)
+#else
+#define BELT_HOLDS(name, condition) typedef char name##_holds[(condition) ? 1 : -1]
+#endif
+#define BELT_SIZE(type, bytes) BELT_HOLDS(type##_size, sizeof(struct type) == (bytes))
+#define BELT_PLACE(type, field, bytes) BELT_HOLDS(type##_##field##_place, offsetof(struct type, field) == (bytes))
 
 #ifdef __cplusplus
 extern "C" {
@@ -155,6 +190,11 @@ struct belt_stored_model { int32_t params[6]; };
 
 #define BELT_IDENTITY_PARAMS {0, 0, BELT_ONE, 0, 0, BELT_ONE}
 
+/* The identity for each reference: the prior of a first frame, and the models of references that stand still. */
+static const struct belt_stored_model belt_identities[BELT_REFERENCES] = {
+    {BELT_IDENTITY_PARAMS}, {BELT_IDENTITY_PARAMS}, {BELT_IDENTITY_PARAMS}, {BELT_IDENTITY_PARAMS},
+    {BELT_IDENTITY_PARAMS}, {BELT_IDENTITY_PARAMS}, {BELT_IDENTITY_PARAMS}};
+
 /* One order from the other. */
 static inline struct belt_stored_model belt_row_first(uint8_t type, struct belt_model model) {
     struct belt_stored_model stored;
@@ -232,6 +272,15 @@ struct belt_moved { uint32_t refusal; struct belt_run run; };
 struct belt_framed { struct belt_written written; struct belt_run run; };
 struct belt_frame_models { struct belt_models models; struct belt_run run; };
 struct belt_job_done { struct belt_report report; struct belt_run run; };
+
+/* The library's own version, as BELT_VERSION_NUMBER is this header's. */
+uint32_t belt_version(void);
+/* The same, by a name that has the major number: what names it doesn't link with a library of another major version. */
+uint32_t belt_abi_0(void);
+/* Whether the library that runs has what this header promises: the major version is the header's, the minor at least. */
+static inline bool belt_library_fits(void) {
+    return belt_version() / 1000000 == BELT_VERSION_MAJOR && belt_version() / 1000 >= BELT_VERSION_NUMBER / 1000;
+}
 
 /* Motion search ('Search').
    In: two planes of width x height pels, row by row, and a class for each whole 16x16 block.
@@ -464,6 +513,9 @@ struct belt_price belt_frame_price(
    from the settings' start on. The header buffer needs BELT_HEADER_BYTES, whatever the start, the blocks'
    belt_block_bytes of the samples in BELT_FORM_2. A header read from there is the report's models, and by
    belt_read_both the blocks read as the words and the classes.
+   Motion goes from the input to the reference: with the earlier frame as input it is the way that the load moved; with
+   the later frame as input it is the negative of it, and belt_moved_since_reference of belt_motion.h turns it round.
+   belt_job_with below takes the same in two structs.
    Fit, score and election go by settings.set, as the calls by class do; blocks hold every sample, named or not.
    A job that trims fits as belt_quantize_trimmed_by_class does; its score takes all samples that are named. Its type's
    least number of them, 4, 6 or 8, is judged by the classes before the search (15). A job that elects has type, model and
@@ -543,6 +595,115 @@ struct belt_job_done belt_run_job(
     uint8_t *blocks, size_t blocks_room,
     uint8_t *header, size_t header_room);
 
+/* A job by name ('Job'). What belt_task leaves NULL is the plain case: every sample unsorted, the other six references
+   still, a prior of identities. The lists have the lengths that the sides and the seven references give them: width x
+   height pels, a class for each whole 16x16 block, 6 types and 6 models of the other references, 7 models of the prior. */
+struct belt_task {
+    const uint16_t *input; const uint16_t *reference; size_t width; size_t height;
+    struct belt_settings settings;
+    const uint8_t *classes; const uint8_t *types; const struct belt_stored_model *models;
+    const struct belt_stored_model *prior;
+};
+/* The five buffers that a job is lent, with how many elements each has. A room is good for every job that needs no more. */
+struct belt_room {
+    uint32_t *words; size_t word_room;
+    uint16_t *input_half; size_t input_half_pels;
+    uint16_t *ref_half; size_t ref_half_pels;
+    uint8_t *blocks; size_t blocks_room;
+    uint8_t *header; size_t header_room;
+};
+
+/* Settings of a job that elects its type, at high precision, for reference 1, among all classes, from bit 0 on. */
+static inline struct belt_settings belt_default_settings(uint16_t frame) {
+    struct belt_settings settings = {
+        frame, BELT_IDENTITY, 1, BELT_HIGH_PRECISION, BELT_ALL_SAMPLES, BELT_ELECT, BELT_ALL_CLASSES, 0};
+    return settings;
+}
+
+/* The bytes that belt_room_in needs for a job on planes of these sides whose blocks are of this form: BELT_FORM_2 but in
+   a run that holds form 1. 0 where a side is over BELT_MOST_SIDE, which every job refuses. */
+static inline size_t belt_room_bytes(size_t width, size_t height, enum belt_form form) {
+    if (width > BELT_MOST_SIDE || height > BELT_MOST_SIDE)
+        return 0;
+    size_t samples = belt_sample_count(width, height);
+    return sizeof(uint32_t) - 1 + sizeof(uint32_t) * samples +
+           2 * sizeof(uint16_t) * belt_half_plane_values(width, height) + BELT_HEADER_BYTES +
+           belt_block_bytes(samples, form);
+}
+
+/* The five buffers in one piece of memory, wherever it begins; the blocks have what is left behind the others. Memory of
+   fewer than belt_room_bytes, or NULL, makes a room that is too short, which a job refuses with 3. */
+static inline struct belt_room belt_room_in(void *memory, size_t bytes, size_t width, size_t height) {
+    struct belt_room room = {NULL, 0, NULL, 0, NULL, 0, NULL, 0, NULL, 0};
+    size_t samples = belt_sample_count(width, height), half = belt_half_plane_values(width, height);
+    size_t before = belt_room_bytes(width, height, BELT_FORM_2) - belt_block_bytes(samples, BELT_FORM_2);
+    if (memory == NULL || width > BELT_MOST_SIDE || height > BELT_MOST_SIDE || bytes < before)
+        return room;
+    uint8_t *at = BELT_CAST(uint8_t *, memory);
+    while (BELT_ADDRESS(at) % sizeof(uint32_t) != 0)
+        at++;
+    room.words = BELT_CAST(uint32_t *, BELT_CAST(void *, at));
+    room.word_room = samples;
+    room.input_half = BELT_CAST(uint16_t *, BELT_CAST(void *, room.words + samples));
+    room.input_half_pels = half;
+    room.ref_half = room.input_half + half;
+    room.ref_half_pels = half;
+    room.header = BELT_CAST(uint8_t *, BELT_CAST(void *, room.ref_half + half));
+    room.header_room = BELT_HEADER_BYTES;
+    room.blocks = room.header + BELT_HEADER_BYTES;
+    room.blocks_room = bytes - before;
+    return room;
+}
+
+/* The classes, and the types of the other references, that a task leaves out. */
+static inline const uint8_t *belt_or_zeros(const uint8_t *list) {
+    static const uint8_t zeros[BELT_MOST_SAMPLES] = {0};
+    return list == NULL ? zeros : list;
+}
+static inline const struct belt_stored_model *belt_or_identities(const struct belt_stored_model *models) {
+    return models == NULL ? belt_identities : models;
+}
+
+/* belt_job of a task, in a room. A plane that is NULL is refused with 2, unless it has no pels.
+   Which way the motion goes: see belt_job. */
+static inline struct belt_report belt_job_with(const struct belt_task *task, struct belt_room *room) {
+    size_t pels = task->width * task->height;
+    return belt_job(
+        task->input, task->input == NULL ? 0 : pels,
+        task->reference, task->reference == NULL ? 0 : pels,
+        task->width, task->height,
+        task->settings,
+        belt_or_zeros(task->classes), belt_sample_count(task->width, task->height),
+        belt_or_zeros(task->types), BELT_OTHER_TYPES,
+        belt_or_identities(task->models), BELT_OTHER_NUMBERS,
+        belt_or_identities(task->prior), BELT_NUMBERS,
+        room->input_half, room->input_half_pels,
+        room->ref_half, room->ref_half_pels,
+        room->words, room->word_room,
+        room->blocks, room->blocks_room,
+        room->header, room->header_room);
+}
+
+/* belt_run_job of a task, in a room; the task's prior and its flag aren't looked at. */
+static inline struct belt_job_done belt_run_job_with(
+    struct belt_run run, const struct belt_task *task, struct belt_room *room) {
+    size_t pels = task->width * task->height;
+    return belt_run_job(
+        run,
+        task->input, task->input == NULL ? 0 : pels,
+        task->reference, task->reference == NULL ? 0 : pels,
+        task->width, task->height,
+        task->settings,
+        belt_or_zeros(task->classes), belt_sample_count(task->width, task->height),
+        belt_or_zeros(task->types), BELT_OTHER_TYPES,
+        belt_or_identities(task->models), BELT_OTHER_NUMBERS,
+        room->input_half, room->input_half_pels,
+        room->ref_half, room->ref_half_pels,
+        room->words, room->word_room,
+        room->blocks, room->blocks_room,
+        room->header, room->header_room);
+}
+
 /* The shear check: will a decoder keep a model's warp?
    In: type 2 or 3 and the model's six numbers. Out: the verdict and the four shear numbers, multiples of 64
    at 16 fraction bits.
@@ -563,6 +724,64 @@ struct belt_made belt_make_practice_planes(
     uint32_t seed, size_t width, size_t height, int32_t dy, int32_t dx,
     uint16_t *input, size_t input_room,
     uint16_t *reference, size_t reference_room);
+
+/* Where everything stands: a struct's size, and the byte at which each field begins. */
+BELT_SIZE(belt_model, 24); BELT_PLACE(belt_model, params, 0);
+BELT_SIZE(belt_stored_model, 24); BELT_PLACE(belt_stored_model, params, 0);
+BELT_SIZE(belt_motion_sample, 32); BELT_PLACE(belt_motion_sample, x, 0); BELT_PLACE(belt_motion_sample, y, 8);
+    BELT_PLACE(belt_motion_sample, u, 16); BELT_PLACE(belt_motion_sample, v, 24);
+BELT_SIZE(belt_to_quantize, 56); BELT_PLACE(belt_to_quantize, type, 0); BELT_PLACE(belt_to_quantize, flag, 1);
+    BELT_PLACE(belt_to_quantize, numbers, 8);
+BELT_SIZE(belt_to_trim, 2); BELT_PLACE(belt_to_trim, type, 0); BELT_PLACE(belt_to_trim, flag, 1);
+BELT_SIZE(belt_searched, 24); BELT_PLACE(belt_searched, refusal, 0); BELT_PLACE(belt_searched, samples, 8);
+    BELT_PLACE(belt_searched, rows, 16);
+BELT_SIZE(belt_fit_answer, 56); BELT_PLACE(belt_fit_answer, refusal, 0); BELT_PLACE(belt_fit_answer, numbers, 8);
+BELT_SIZE(belt_quantized_model, 28); BELT_PLACE(belt_quantized_model, refusal, 0);
+    BELT_PLACE(belt_quantized_model, model, 4);
+BELT_SIZE(belt_trimmed, 56); BELT_PLACE(belt_trimmed, refusal, 0); BELT_PLACE(belt_trimmed, used, 4);
+    BELT_PLACE(belt_trimmed, numbers, 8);
+BELT_SIZE(belt_trimmed_model, 32); BELT_PLACE(belt_trimmed_model, refusal, 0);
+    BELT_PLACE(belt_trimmed_model, used, 4); BELT_PLACE(belt_trimmed_model, model, 8);
+BELT_SIZE(belt_elected, 40); BELT_PLACE(belt_elected, refusal, 0); BELT_PLACE(belt_elected, type, 4);
+    BELT_PLACE(belt_elected, model, 8); BELT_PLACE(belt_elected, score, 32);
+BELT_SIZE(belt_quantized_param, 8); BELT_PLACE(belt_quantized_param, refusal, 0);
+    BELT_PLACE(belt_quantized_param, value, 4);
+BELT_SIZE(belt_score, 16); BELT_PLACE(belt_score, refusal, 0); BELT_PLACE(belt_score, score, 8);
+BELT_SIZE(belt_stored, 16); BELT_PLACE(belt_stored, refusal, 0); BELT_PLACE(belt_stored, blocks, 8);
+BELT_SIZE(belt_frame_read, 16); BELT_PLACE(belt_frame_read, refusal, 0); BELT_PLACE(belt_frame_read, frame, 4);
+    BELT_PLACE(belt_frame_read, samples, 8);
+BELT_SIZE(belt_block_read, 24); BELT_PLACE(belt_block_read, refusal, 0); BELT_PLACE(belt_block_read, frame, 4);
+    BELT_PLACE(belt_block_read, ordinal, 8); BELT_PLACE(belt_block_read, count, 16);
+BELT_SIZE(belt_written, 16); BELT_PLACE(belt_written, refusal, 0); BELT_PLACE(belt_written, bits, 8);
+BELT_SIZE(belt_models, 192); BELT_PLACE(belt_models, refusal, 0); BELT_PLACE(belt_models, types, 4);
+    BELT_PLACE(belt_models, models, 12); BELT_PLACE(belt_models, bits, 184);
+BELT_SIZE(belt_settings, 16); BELT_PLACE(belt_settings, frame, 0); BELT_PLACE(belt_settings, type, 2);
+    BELT_PLACE(belt_settings, reference, 3); BELT_PLACE(belt_settings, flag, 4); BELT_PLACE(belt_settings, trim, 5);
+    BELT_PLACE(belt_settings, elect, 6); BELT_PLACE(belt_settings, set, 7); BELT_PLACE(belt_settings, start, 8);
+BELT_SIZE(belt_report, 208); BELT_PLACE(belt_report, refusal, 0); BELT_PLACE(belt_report, types, 4);
+    BELT_PLACE(belt_report, models, 12); BELT_PLACE(belt_report, score, 184); BELT_PLACE(belt_report, bits, 192);
+    BELT_PLACE(belt_report, samples, 200);
+BELT_SIZE(belt_shear, 24); BELT_PLACE(belt_shear, refusal, 0); BELT_PLACE(belt_shear, valid, 4);
+    BELT_PLACE(belt_shear, alpha, 8); BELT_PLACE(belt_shear, beta, 12); BELT_PLACE(belt_shear, gamma, 16);
+    BELT_PLACE(belt_shear, delta, 20);
+BELT_SIZE(belt_price_list, 96); BELT_PLACE(belt_price_list, refusal, 0); BELT_PLACE(belt_price_list, lengths, 8);
+    BELT_PLACE(belt_price_list, ordinals, 16);
+BELT_SIZE(belt_price, 16); BELT_PLACE(belt_price, refusal, 0); BELT_PLACE(belt_price, bits, 8);
+BELT_SIZE(belt_made, 16); BELT_PLACE(belt_made, refusal, 0); BELT_PLACE(belt_made, pels, 8);
+BELT_SIZE(belt_run, 176); BELT_PLACE(belt_run, prior, 0); BELT_PLACE(belt_run, flag, 168);
+    BELT_PLACE(belt_run, form, 172);
+BELT_SIZE(belt_moved, 180); BELT_PLACE(belt_moved, refusal, 0); BELT_PLACE(belt_moved, run, 4);
+BELT_SIZE(belt_framed, 192); BELT_PLACE(belt_framed, written, 0); BELT_PLACE(belt_framed, run, 16);
+BELT_SIZE(belt_frame_models, 368); BELT_PLACE(belt_frame_models, models, 0); BELT_PLACE(belt_frame_models, run, 192);
+BELT_SIZE(belt_job_done, 384); BELT_PLACE(belt_job_done, report, 0); BELT_PLACE(belt_job_done, run, 208);
+BELT_SIZE(belt_task, 80); BELT_PLACE(belt_task, input, 0); BELT_PLACE(belt_task, reference, 8);
+    BELT_PLACE(belt_task, width, 16); BELT_PLACE(belt_task, height, 24); BELT_PLACE(belt_task, settings, 32);
+    BELT_PLACE(belt_task, classes, 48); BELT_PLACE(belt_task, types, 56); BELT_PLACE(belt_task, models, 64);
+    BELT_PLACE(belt_task, prior, 72);
+BELT_SIZE(belt_room, 80); BELT_PLACE(belt_room, words, 0); BELT_PLACE(belt_room, word_room, 8);
+    BELT_PLACE(belt_room, input_half, 16); BELT_PLACE(belt_room, input_half_pels, 24);
+    BELT_PLACE(belt_room, ref_half, 32); BELT_PLACE(belt_room, ref_half_pels, 40); BELT_PLACE(belt_room, blocks, 48);
+    BELT_PLACE(belt_room, blocks_room, 56); BELT_PLACE(belt_room, header, 64); BELT_PLACE(belt_room, header_room, 72);
 
 #ifdef __cplusplus
 }

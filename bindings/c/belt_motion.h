@@ -1,7 +1,9 @@
 /* Sample words and models in pels, for people: functions of this header alone, in plain C, not proved.
    x runs to the right and y down from the centre of a plane's first pel. Motion goes from the input to the
-   reference: what the input shows at (x, y) stands at (x + u, y + v) in the reference. docs/RULES.md, 'Sample'
-   and 'Model'. belt_zoom and belt_degrees need the C library's mathematics (-lm). */
+   reference: what the input shows at (x, y) stands at (x + u, y + v) in the reference. So with the earlier frame as
+   input it is the load's motion, and with the later one as input the negative of it: belt_moved_since_reference.
+   docs/RULES.md, 'Sample' and 'Model'. belt_zoom and belt_degrees need the C library's mathematics (-lm), the rest
+   doesn't. */
 #ifndef BELT_MOTION_H
 #define BELT_MOTION_H
 
@@ -22,9 +24,9 @@ static inline struct belt_sample belt_sample_of(uint32_t word) {
     sample.column = word >> 20 & 63;
     sample.x = 16.0 * sample.column + 7.5;
     sample.y = 16.0 * sample.row + 7.5;
-    sample.u = ((double)(word >> 2 & 511) - BELT_MOST_EIGHTHS) / 8.0;
-    sample.v = ((double)(word >> 11 & 511) - BELT_MOST_EIGHTHS) / 8.0;
-    sample.class_bits = (uint8_t)(word & 3);
+    sample.u = (BELT_CAST(double, word >> 2 & 511) - BELT_MOST_EIGHTHS) / 8.0;
+    sample.v = (BELT_CAST(double, word >> 11 & 511) - BELT_MOST_EIGHTHS) / 8.0;
+    sample.class_bits = BELT_CAST(uint8_t, word & 3);
     return sample;
 }
 
@@ -43,10 +45,20 @@ static inline struct belt_motion_sample belt_motion_sample_of(uint32_t word) {
 static inline struct belt_motion belt_motion_at(struct belt_model model, double x, double y) {
     double m[6];
     for (int slot = 0; slot < 6; slot++)
-        m[slot] = model.params[slot] / (double)BELT_ONE;
+        m[slot] = model.params[slot] / BELT_CAST(double, BELT_ONE);
     struct belt_motion motion;
     motion.u = (m[2] - 1.0) * x + m[3] * y + m[0];
     motion.v = m[4] * x + (m[5] - 1.0) * y + m[1];
+    return motion;
+}
+
+/* How the load moved since the reference was taken, where the reference is the earlier of the two frames and the input
+   the later: what the input shows at (x, y) came from (x + u, y + v), so it moved by -u, -v. Where the input is the
+   earlier frame, belt_motion_at is the load's motion already. */
+static inline struct belt_motion belt_moved_since_reference(struct belt_model model, double x, double y) {
+    struct belt_motion motion = belt_motion_at(model, x, y);
+    motion.u = 0.0 - motion.u;
+    motion.v = 0.0 - motion.v;
     return motion;
 }
 
@@ -54,13 +66,13 @@ static inline struct belt_motion belt_motion_at(struct belt_model model, double 
    model those of the rotation-zoom nearest to it. 1 and 0 for a translation. A load that grew since the reference
    was taken has a zoom below 1, since motion goes back to the reference. */
 static inline double belt_zoom(struct belt_model model) {
-    double along = ((double)model.params[2] + model.params[5]) / 2.0;
-    double across = ((double)model.params[4] - model.params[3]) / 2.0;
+    double along = (BELT_CAST(double, model.params[2]) + model.params[5]) / 2.0;
+    double across = (BELT_CAST(double, model.params[4]) - model.params[3]) / 2.0;
     return sqrt(along * along + across * across) / BELT_ONE;
 }
 static inline double belt_degrees(struct belt_model model) {
-    double along = ((double)model.params[2] + model.params[5]) / 2.0;
-    double across = ((double)model.params[4] - model.params[3]) / 2.0;
+    double along = (BELT_CAST(double, model.params[2]) + model.params[5]) / 2.0;
+    double across = (BELT_CAST(double, model.params[4]) - model.params[3]) / 2.0;
     return atan2(across, along) * 57.295779513082320877;
 }
 
@@ -76,5 +88,10 @@ static inline size_t belt_agreeing(struct belt_model model, const uint32_t *word
     }
     return agreeing;
 }
+
+BELT_SIZE(belt_sample, 48); BELT_PLACE(belt_sample, row, 0); BELT_PLACE(belt_sample, column, 4);
+    BELT_PLACE(belt_sample, x, 8); BELT_PLACE(belt_sample, y, 16); BELT_PLACE(belt_sample, u, 24);
+    BELT_PLACE(belt_sample, v, 32); BELT_PLACE(belt_sample, class_bits, 40);
+BELT_SIZE(belt_motion, 16); BELT_PLACE(belt_motion, u, 0); BELT_PLACE(belt_motion, v, 8);
 
 #endif

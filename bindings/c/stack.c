@@ -1,6 +1,6 @@
 /* How much of a thread's stack the calls take that have lists of their own: each runs on a stack that was filled with
-   one value before, and what no longer has it was used. Ends with 1 where a call takes more than belt.h says, or
-   refuses. It is C99, and C++11, with the contexts of POSIX. */
+   one value before, and what no longer has it was used. Ends with 1 where a call takes more than belt.h says, takes so
+   much less that belt.h should say less, or refuses. It is C99, and C++11, with the contexts of POSIX. */
 #define _XOPEN_SOURCE 700
 #include <stdio.h>
 #include <stdlib.h>
@@ -18,8 +18,7 @@ enum {
     SAMPLES = (WIDTH / 16) * (HEIGHT / 16),
     BLOCKS = (SAMPLES + BELT_FORM_2_SAMPLES - 1) / BELT_FORM_2_SAMPLES * BELT_BLOCK_BYTES,
     STACK = 1 << 20,
-    FILL = 0xa5,
-    KB = 1000
+    FILL = 0xa5
 };
 
 static const struct belt_stored_model identity = {BELT_IDENTITY_PARAMS};
@@ -95,26 +94,26 @@ static void elect_samples_by_class(void) {
 static const struct {
     const char *name;
     void (*call)(void);
-    size_t most; /* kB */
+    size_t most; /* bytes; the least that it may take is four fifths of it */
 } calls[] = {
-    {"a job", plain_job, 40},
-    {"a job that trims", trimming_job, 80},
-    {"a job that elects", electing_job, 90},
-    {"a job in a run", plain_job_in_run, 40},
-    {"a job in a run that trims", trimming_job_in_run, 80},
-    {"a job in a run that elects", electing_job_in_run, 90},
-    {"belt_run_frame", frame_in_run, 5},
-    {"belt_fit_trimmed", fit_trimmed, 60},
-    {"belt_quantize_trimmed", quantize_trimmed, 60},
-    {"belt_elect", elect, 60},
-    {"belt_fit_by_class", fit_by_class, 25},
-    {"belt_fit_trimmed_by_class", fit_trimmed_by_class, 80},
-    {"belt_elect_by_class", elect_by_class, 80},
-    {"belt_fit_trimmed_samples", fit_trimmed_samples, 170},
-    {"belt_elect_samples", elect_samples, 170},
-    {"belt_fit_samples_by_class", fit_samples_by_class, 2},
-    {"belt_fit_trimmed_samples_by_class", fit_trimmed_samples_by_class, 170},
-    {"belt_elect_samples_by_class", elect_samples_by_class, 170},
+    {"a job", plain_job, BELT_STACK_BYTES_PLAIN},
+    {"a job that trims", trimming_job, BELT_STACK_BYTES_TRIM},
+    {"a job that elects", electing_job, BELT_STACK_BYTES_ELECT},
+    {"a job in a run", plain_job_in_run, BELT_STACK_BYTES_PLAIN},
+    {"a job in a run that trims", trimming_job_in_run, BELT_STACK_BYTES_TRIM},
+    {"a job in a run that elects", electing_job_in_run, BELT_STACK_BYTES_ELECT},
+    {"belt_run_frame", frame_in_run, 1900},
+    {"belt_fit_trimmed", fit_trimmed, 60000},
+    {"belt_quantize_trimmed", quantize_trimmed, 60000},
+    {"belt_elect", elect, 60000},
+    {"belt_fit_by_class", fit_by_class, 23000},
+    {"belt_fit_trimmed_by_class", fit_trimmed_by_class, 75000},
+    {"belt_elect_by_class", elect_by_class, 75000},
+    {"belt_fit_trimmed_samples", fit_trimmed_samples, 170000},
+    {"belt_elect_samples", elect_samples, 170000},
+    {"belt_fit_samples_by_class", fit_samples_by_class, 1300},
+    {"belt_fit_trimmed_samples_by_class", fit_trimmed_samples_by_class, 170000},
+    {"belt_elect_samples_by_class", elect_samples_by_class, 170000},
 };
 
 /* The bytes from the stack's upper end down to the last one that was written. */
@@ -137,7 +136,7 @@ static size_t used_by(void (*call)(void)) {
 }
 
 int main(void) {
-    int over = 0;
+    int wrong = 0;
     for (int r = 0; r < BELT_REFERENCES; r++)
         prior[r] = identity;
     if (belt_make_practice_planes(1, WIDTH, HEIGHT, 2, 3, input, PELS, reference, PELS).refusal != BELT_ACCEPTED)
@@ -149,8 +148,8 @@ int main(void) {
     size_t empty = used_by(nothing);
     for (size_t i = 0; i < sizeof calls / sizeof calls[0]; i++) {
         size_t used = used_by(calls[i].call) - empty;
-        printf("%s: %u bytes of stack, at most %u kB\n", calls[i].name, (unsigned)used, (unsigned)calls[i].most);
-        over |= used > calls[i].most * KB;
+        printf("%s: %u bytes of stack, at most %u\n", calls[i].name, (unsigned)used, (unsigned)calls[i].most);
+        wrong |= used > calls[i].most || used < calls[i].most / 5 * 4;
     }
-    return over;
+    return wrong;
 }

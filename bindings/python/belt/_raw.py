@@ -1,13 +1,14 @@
-"""The shared library's declarations, by ctypes: every call and struct of crates/belt, lent_fit, lent_trim and lent_elect, and
-no more.
+"""The shared library's declarations, by ctypes: every call and struct of crates/belt, lent_fit, lent_trim, lent_elect and
+lent_sets, the version, and no more.
 
 `bindings/declarations` holds them to the library's own.
 """
 
+from __future__ import annotations
+
 import ctypes
-import os
 from ctypes import POINTER, c_bool, c_double, c_int32, c_size_t, c_uint8, c_uint16, c_uint32
-from pathlib import Path
+from typing import Any, Dict, List, Tuple
 
 
 class Searched(ctypes.Structure):
@@ -145,7 +146,7 @@ class JobDone(ctypes.Structure):
     _fields_ = [("report", Report), ("run", Run)]
 
 
-def _list(element):
+def _list(element: Any) -> List[Any]:
     """A list passes as a pointer and a count."""
     return [POINTER(element), c_size_t]
 
@@ -154,7 +155,9 @@ _PELS, _BYTES, _WORDS, _NUMBERS = _list(c_uint16), _list(c_uint8), _list(c_uint3
 _SAMPLES = _list(MotionSample)
 
 # Each call: its parameters, and what it returns.
-CALLS = {
+CALLS: Dict[str, Tuple[List[Any], Any]] = {
+    "belt_version": ([], c_uint32),
+    "belt_abi_0": ([], c_uint32),
     "belt_collect_motion_samples": (
         _PELS + _PELS + [c_size_t, c_size_t] + _BYTES + _PELS + _PELS + _WORDS,
         Searched,
@@ -243,29 +246,3 @@ CALLS = {
         JobDone,
     ),
 }
-
-
-def _path():
-    """BELT_LIB names a folder that has libbelt.so; else the repository's own, else the system's."""
-    folder = os.environ.get("BELT_LIB")
-    if folder:
-        return str(Path(folder) / "libbelt.so")
-    own = Path(__file__).resolve().parents[3] / "target" / "library" / "libbelt.so"
-    return str(own) if own.exists() else "libbelt.so.0"
-
-
-def _open():
-    path = _path()
-    try:
-        library = ctypes.CDLL(path)
-    except OSError as error:
-        message = f"{error}; run bindings/library --shared, or set BELT_LIB to the folder that has libbelt.so"
-        raise ImportError(message) from None
-    for name, (parameters, result) in CALLS.items():
-        call = getattr(library, name)
-        call.argtypes = parameters
-        call.restype = result
-    return library
-
-
-library = _open()

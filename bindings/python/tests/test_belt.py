@@ -5,6 +5,7 @@ import math
 import sys
 import unittest
 from array import array
+from dataclasses import replace
 from pathlib import Path
 
 sys.path.insert(0, str(Path(__file__).resolve().parents[1]))
@@ -70,7 +71,7 @@ def task(width=48, height=32, gm_type=1, **changes):
         reference=plane,
         width=width,
         height=height,
-        settings=Settings(4660, gm_type, 3, 1, 5),
+        settings=Settings(4660, gm_type=gm_type, reference=3, flag=1, start=5),
         classes=bytes(i % 5 for i in range(samples)),
         types=bytes(6),
         models=IDENTITIES[:6],
@@ -204,7 +205,7 @@ def bowl(place=lambda r, c: (r, c)):
 
 class Elections(unittest.TestCase):
     def job(self, place, gm_type=1, trim=0):
-        settings = Settings(5, gm_type, 7, 1, 5, trim, 1)
+        settings = Settings(5, gm_type=gm_type, reference=7, flag=1, start=5, trim=trim, elect=1)
         buffers = Guarded(64, 64)
         buffers.header[:] = array("B", b"\xff" * belt.HEADER_BYTES)
         guards = buffers.guards()
@@ -267,7 +268,10 @@ class Elections(unittest.TestCase):
             buffers = Guarded(width, 16)
             reference = noisy(width, 16)
             arguments = task(width, 16, input_y=moved(reference, width, 16, 0, 4), reference=reference)
-            report = belt.job(buffers=buffers, **dict(arguments, settings=Settings(1, 3, 1, 1, 0, 1, 1)))
+            report = belt.job(
+                buffers=buffers,
+                **dict(arguments, settings=Settings(1, gm_type=3, reference=1, flag=1, start=0, trim=1, elect=1)),
+            )
             energy = belt.mean_sq_residual(Model(belt.STILL), buffers.words)
             self.assertEqual(report, ((0,) * 7, IDENTITIES, energy, 7, samples))
 
@@ -337,11 +341,11 @@ class Sets(unittest.TestCase):
         self.assertEqual([belt.set_of(named) for named in ((), [4, 1, 4], b"\x00\x03", 255)], [0, 18, 9, 255])
         self.assertEqual([belt.set_of([number]) for number in (5, 7, 8, 200, 10**9)], [32, 128, 128, 128, 128])
         for named in (-1, 256, [-1]):
-            with self.assertRaises(ValueError):
+            with self.assertRaises(OverflowError):
                 belt.set_of(named)
 
     def job(self, place, named, gm_type=0, trim=0, elect=1):
-        settings = Settings(5, gm_type, 7, 1, 5, trim, elect, named)
+        settings = Settings(5, gm_type=gm_type, reference=7, flag=1, start=5, trim=trim, elect=elect, set=named)
         buffers = Guarded(64, 64)
         buffers.header[:] = array("B", b"\xff" * belt.HEADER_BYTES)
         guards = buffers.guards()
@@ -385,9 +389,9 @@ class Sets(unittest.TestCase):
 
     def test_all_five(self):
         for gm_type, trim, elect in [(1, 0, 0), (2, 1, 0), (3, 0, 0), (0, 0, 1)]:
-            by_default = Settings(5, gm_type, 7, 1, 5, trim, elect)
+            by_default = Settings(5, gm_type=gm_type, reference=7, flag=1, start=5, trim=trim, elect=elect)
             reports = []
-            for settings in (by_default, by_default._replace(set=range(5)), by_default._replace(set=31)):
+            for settings in (by_default, replace(by_default, set=range(5)), replace(by_default, set=31)):
                 buffers = Guarded(64, 64)
                 place = lambda r, c: (r + r // 16, c + c // 16)  # noqa: E731
                 arguments = task(64, 64, input_y=bowl(place), reference=bowl(), settings=settings)
@@ -400,7 +404,11 @@ class Refused(unittest.TestCase):
         with self.assertRaises(Refusal) as caught:
             call(*arguments, **named)
         self.assertEqual((caught.exception.number, caught.exception.text), (number, belt.REFUSALS[number]))
-        self.assertEqual(str(caught.exception), f"{number}: {belt.REFUSALS[number]}")
+        refusal = caught.exception
+        length = f": {refusal.name} has {refusal.given} elements, {refusal.wanted} are wanted" if refusal.name else ""
+        self.assertEqual(str(refusal), f"{number}: {belt.REFUSALS[number]}{length}")
+        # rows 2 and 3 are those of a length, and say whose
+        self.assertEqual(refusal.name is not None, number in (2, 3))
 
 
 class Refusals(Refused):
@@ -427,31 +435,31 @@ class Refusals(Refused):
             (2, dict(models=IDENTITIES[:5])),
             (2, dict(prior=IDENTITIES[:6])),
             (4, dict(classes=bytes([0, 0, 0, 0, 0, 5]))),
-            (4, dict(settings=Settings(1, 0, 1, 1))),
-            (4, dict(settings=Settings(1, 4, 1, 1))),
-            (4, dict(settings=Settings(1, 1, 1, 2))),
-            (4, dict(settings=Settings(1, 1, 1, 1, trim=2))),
-            (4, dict(settings=Settings(1, 1, 1, 1, elect=2))),
-            (4, dict(settings=Settings(1, 1, 1, 2, elect=1))),
-            (4, dict(settings=Settings(1, 1, 1, 1, set=[belt.FIBRE, 5]))),
-            (4, dict(settings=Settings(1, 1, 1, 1, set=[200]))),
-            (4, dict(settings=Settings(1, 1, 0, 1, set=32))),
-            (19, dict(settings=Settings(1, 1, 0, 1, set=0))),
-            (19, dict(settings=Settings(1, 1, 1, 1, 8, elect=1, set=()))),
+            (4, dict(settings=Settings(1, gm_type=0, reference=1, flag=1))),
+            (4, dict(settings=Settings(1, gm_type=4, reference=1, flag=1))),
+            (4, dict(settings=Settings(1, gm_type=1, reference=1, flag=2))),
+            (4, dict(settings=Settings(1, gm_type=1, reference=1, flag=1, trim=2))),
+            (4, dict(settings=Settings(1, gm_type=1, reference=1, flag=1, elect=2))),
+            (4, dict(settings=Settings(1, gm_type=1, reference=1, flag=2, elect=1))),
+            (4, dict(settings=Settings(1, gm_type=1, reference=1, flag=1, set=[belt.FIBRE, 5]))),
+            (4, dict(settings=Settings(1, gm_type=1, reference=1, flag=1, set=[200]))),
+            (4, dict(settings=Settings(1, gm_type=1, reference=0, flag=1, set=32))),
+            (19, dict(settings=Settings(1, gm_type=1, reference=0, flag=1, set=0))),
+            (19, dict(settings=Settings(1, gm_type=1, reference=1, flag=1, start=8, elect=1, set=()))),
             (4, dict(types=bytes([0, 0, 0, 0, 0, 4]))),
-            (5, dict(settings=Settings(1, 1, 0, 1))),
-            (5, dict(settings=Settings(1, 1, 8, 1))),
-            (14, dict(settings=Settings(1, 1, 1, 1, 8))),
-            (14, dict(settings=Settings(1, 1, 1, 1, 2**64 - 1))),
+            (5, dict(settings=Settings(1, gm_type=1, reference=0, flag=1))),
+            (5, dict(settings=Settings(1, gm_type=1, reference=8, flag=1))),
+            (14, dict(settings=Settings(1, gm_type=1, reference=1, flag=1, start=8))),
+            (14, dict(settings=Settings(1, gm_type=1, reference=1, flag=1, start=2**64 - 1))),
             (7, dict(models=(stored(0, 1),) + IDENTITIES[:5])),
             (7, dict(models=IDENTITIES[:5] + (stored(2, 65537),), types=[0, 0, 0, 0, 0, 3])),
             (8, dict(prior=(stored(3, 8193),) + IDENTITIES[:6])),
             (8, dict(prior=IDENTITIES[:6] + (stored(1, -(2**31)),))),
-            (15, dict(settings=Settings(1, 3, 1, 1, trim=1))),
-            (15, dict(settings=Settings(0, 3, 1, 1, trim=1))),
-            (15, dict(settings=Settings(0, 1, 1, 1, trim=1, set=[belt.FILM]))),
-            (17, dict(settings=Settings(0, 2, 1, 1, trim=1))),
-            (17, dict(settings=Settings(0, 3, 1, 1, trim=1, elect=1))),
+            (15, dict(settings=Settings(1, gm_type=3, reference=1, flag=1, trim=1))),
+            (15, dict(settings=Settings(0, gm_type=3, reference=1, flag=1, trim=1))),
+            (15, dict(settings=Settings(0, gm_type=1, reference=1, flag=1, trim=1, set=[belt.FILM]))),
+            (17, dict(settings=Settings(0, gm_type=2, reference=1, flag=1, trim=1))),
+            (17, dict(settings=Settings(0, gm_type=3, reference=1, flag=1, trim=1, elect=1))),
         ]
         for number, change in changes:
             buffers = Guarded(48, 32)
@@ -911,7 +919,7 @@ class Runs(Refused):
 
         def job(classes, frame=5):
             buffers = Guarded(64, 64)
-            settings = Settings(frame, 0, 1, 2, elect=1)
+            settings = Settings(frame, gm_type=0, reference=1, flag=2, elect=1)
             lying = bytes(q % classes for q in range(16))
             planes = bowl(lambda r, c: (r + 2, c - 3)), bowl()
             return run.job(*planes, 64, 64, settings, lying, buffers), buffers
@@ -1008,7 +1016,7 @@ class Taken(unittest.TestCase):
             belt.fit_translation(memoryview(words(4))[::2])
         with self.assertRaises(TypeError):
             belt.write_frame(1, words(1), bytes(1), bytes(512))
-        with self.assertRaises(ValueError):
+        with self.assertRaises(OverflowError):
             belt.fit_translation([2**32])
         with self.assertRaises(TypeError):
             belt.mean_sq_residual(StoredModel(belt.STILL), words(1))

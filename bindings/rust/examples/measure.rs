@@ -1,15 +1,14 @@
-//! measure INPUT.pgm REFERENCE.pgm [translation | rotzoom | affine | elect]: how the picture moved from the input to the
-//! reference, of two binary PGM files (P5, up to 16 bits) of the same sides, up to 1,024 each.
+//! measure INPUT.pgm REFERENCE.pgm [elect | translation | rotzoom | affine]: how the picture moved from the input to the
+//! reference, of two binary PGM files (P5, up to 16 bits) of the same sides, up to 1,024 each. With the earlier picture as
+//! the input it is the load's own motion.
 
-use belt::{Buffers, IDENTITIES, MOST_SIDE, Settings, Task, sample_count};
+use belt::{Buffers, GmType, MOST_SIDE, Settings, Task};
 use std::error::Error;
 use std::process::ExitCode;
 use std::{env, fs};
 
-/// The reference that the model is written for.
-const REFERENCE: u8 = 1;
-/// What is asked for instead of a type: an election.
-const ELECT: u8 = 0;
+/// What is asked for unless a type is: an election.
+const ELECT: Settings = Settings::elect(1);
 /// A sample agrees with the model within a quarter of a pel.
 const NEAR: f64 = 0.25;
 
@@ -55,7 +54,7 @@ fn picture(path: &str) -> Result<Picture, String> {
     pgm(&bytes).ok_or(format!("{path}: this is no whole binary PGM file (P5)"))
 }
 
-fn measure(input: &Picture, reference: &Picture, asked: u8) -> Result<(), Box<dyn Error>> {
+fn measure(input: &Picture, reference: &Picture, settings: Settings) -> Result<(), Box<dyn Error>> {
     let (width, height) = (input.width, input.height);
     if (reference.width, reference.height) != (width, height) {
         return Err("the two pictures have other sides".into());
@@ -64,33 +63,15 @@ fn measure(input: &Picture, reference: &Picture, asked: u8) -> Result<(), Box<dy
         return Err(format!("a side over {MOST_SIDE}: cut the pictures, or halve them").into());
     }
     let mut buffers = Buffers::new(width, height);
-    let task = Task {
-        input: &input.pels,
-        reference: &reference.pels,
-        width,
-        height,
-        settings: Settings {
-            frame: 1,
-            gm_type: asked,
-            reference: REFERENCE,
-            flag: 1,
-            elect: u8::from(asked == ELECT),
-            ..Settings::default()
-        },
-        classes: &vec![0; sample_count(width, height)],
-        types: &[0; 6],
-        models: &IDENTITIES[..6],
-        prior: &IDENTITIES,
-    };
+    let task = Task { settings, ..Task::new(&input.pels, &reference.pels, width, height) };
     let report = belt::job(&task, &mut buffers.lend())?;
-    let gm_type = report.types[0];
-    let model = report.models[0].x_first(gm_type);
+    let (gm_type, model) = (report.gm_type(), report.model());
     let (shift, agreeing) = (model.shift(), model.agreeing(&buffers.words, NEAR));
-    if asked == ELECT {
-        println!("elected: {}", ["identity", "translation", "rotation-zoom", "affine"][usize::from(gm_type)]);
+    if settings == ELECT {
+        println!("elected: {gm_type}");
     }
     println!("moved {:.3} pels right, {:.3} down (input to reference, at the first pel)", shift.u, shift.v);
-    if gm_type > 1 {
+    if gm_type > GmType::Translation {
         println!("zoom {:.5}, turned by {:.3} degrees", model.zoom(), model.degrees());
     }
     println!("{agreeing} of {} blocks agree within {NEAR} pel; score {:.3} square pels", report.samples, report.score);
@@ -107,12 +88,12 @@ fn main() -> ExitCode {
     let words: Vec<String> = env::args().skip(1).collect();
     let words: Vec<&str> = words.iter().map(String::as_str).collect();
     let (input, reference, asked) = match words[..] {
-        [input, reference] | [input, reference, "translation"] => (input, reference, 1),
-        [input, reference, "rotzoom"] => (input, reference, 2),
-        [input, reference, "affine"] => (input, reference, 3),
-        [input, reference, "elect"] => (input, reference, ELECT),
+        [input, reference, "translation"] => (input, reference, Settings::fit(1, GmType::Translation)),
+        [input, reference, "rotzoom"] => (input, reference, Settings::fit(1, GmType::Rotzoom)),
+        [input, reference, "affine"] => (input, reference, Settings::fit(1, GmType::Affine)),
+        [input, reference] | [input, reference, "elect"] => (input, reference, ELECT),
         _ => {
-            eprintln!("usage: measure INPUT.pgm REFERENCE.pgm [translation | rotzoom | affine | elect]");
+            eprintln!("usage: measure INPUT.pgm REFERENCE.pgm [elect | translation | rotzoom | affine]");
             return ExitCode::from(2);
         }
     };

@@ -2,11 +2,9 @@
 //!
 //!     cargo run --example read_header A42000
 
-use belt::IDENTITIES;
+use belt::{IDENTITIES, Precision};
 use std::env;
 use std::process::ExitCode;
-
-const TYPES: [&str; 4] = ["identity", "translation", "rotation-zoom", "affine"];
 
 fn bytes(text: &str) -> Option<Vec<u8>> {
     let pair = |i: usize| u8::from_str_radix(text.get(i..i + 2)?, 16).ok();
@@ -20,13 +18,12 @@ fn main() -> ExitCode {
         eprintln!("usage: read_header HEXADECIMAL [BIT]");
         return ExitCode::from(2);
     };
-    match belt::read_global_motion_params(&header, at, 1, &IDENTITIES) {
+    match belt::read_global_motion_params(&header, at, Precision::High, &IDENTITIES) {
         Ok(read) => {
-            for (i, (&gm_type, stored)) in read.types.iter().zip(read.models).enumerate() {
-                let model = stored.x_first(gm_type);
-                let (shift, name) = (model.shift(), TYPES[usize::from(gm_type)]);
+            for (i, (gm_type, model)) in read.x_first().into_iter().enumerate() {
+                let shift = model.shift();
                 println!(
-                    "reference {}: {name}, moved {:.3} right, {:.3} down, zoom {:.5}, turned by {:.3} degrees",
+                    "reference {}: {gm_type}, moved {:.3} right, {:.3} down, zoom {:.5}, turned by {:.3} degrees",
                     i + 1,
                     shift.u,
                     shift.v,

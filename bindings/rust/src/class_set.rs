@@ -22,6 +22,14 @@ impl ClassSet {
 
     /// The set of these classes, in any order. One over 7 is taken as 7, so that the set is refused as for any class
     /// over 4.
+    ///
+    /// ```
+    /// use belt::{ClassSet, FIBRE, METAL};
+    ///
+    /// const HEAVY: ClassSet = ClassSet::of(&[METAL, FIBRE, METAL]);
+    /// assert_eq!(HEAVY.bits(), 0b01010);
+    /// ```
+    #[must_use]
     pub const fn of(classes: &[u8]) -> Self {
         let mut bits = 0;
         let mut place = 0;
@@ -34,16 +42,32 @@ impl ClassSet {
     }
 
     /// The set of these bits.
+    ///
+    /// ```
+    /// assert_eq!(belt::ClassSet::from_bits(31), belt::ClassSet::ALL);
+    /// ```
+    #[must_use]
     pub const fn from_bits(bits: u8) -> Self {
         Self(bits)
     }
 
     /// Its bits.
+    ///
+    /// ```
+    /// assert_eq!(belt::ClassSet::of(&[belt::FILM]).bits(), 0b10000);
+    /// ```
+    #[must_use]
     pub const fn bits(self) -> u8 {
         self.0
     }
 
     /// Whether it names a class; none over 4 is ever named.
+    ///
+    /// ```
+    /// let set = belt::ClassSet::from_bits(0xFF);
+    /// assert!(set.names(4) && !set.names(5));
+    /// ```
+    #[must_use]
     pub const fn names(self, class: u8) -> bool {
         class <= crate::FILM && self.0 >> class & 1 == 1
     }

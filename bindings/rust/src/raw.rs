@@ -509,13 +509,25 @@ unsafe extern "C" {
         header: *mut u8,
         header_room: usize,
     ) -> JobDone;
+    fn belt_version() -> u32;
+    fn belt_abi_0() -> u32;
+}
+
+/// The name of this call has the major number, so that a library of another one doesn't link.
+#[used]
+static SAME_MAJOR: unsafe extern "C" fn() -> u32 = belt_abi_0;
+
+/// The library's version, MAJOR * 1,000,000 + MINOR * 1,000 + PATCH.
+pub fn version() -> u32 {
+    // SAFETY: the call takes nothing and touches no memory.
+    unsafe { belt_version() }
 }
 
 /// The numbers of some models, one after the other.
 pub fn numbers(models: &[StoredModel]) -> &[i32] {
     let count = size_of_val(models) / size_of::<i32>();
     // SAFETY: a model is transparent over six i32, so the same memory is that many of them, for the same lifetime.
-    unsafe { std::slice::from_raw_parts(models.as_ptr().cast(), count) }
+    unsafe { core::slice::from_raw_parts(models.as_ptr().cast(), count) }
 }
 
 #[allow(clippy::too_many_arguments)]
@@ -803,6 +815,7 @@ pub fn encode_inter_global_motion(
     }
 }
 
+#[inline]
 pub fn read_global_motion_params(header: &[u8], at: usize, flag: u8, prior: &[i32]) -> Models {
     // SAFETY: two slices are read; a position past the bytes, however large, is refused.
     unsafe { belt_read_global_motion_params(header.as_ptr(), header.len(), at, flag, prior.as_ptr(), prior.len()) }
@@ -835,6 +848,7 @@ pub fn encode_global_motion(
     }
 }
 
+#[inline]
 pub fn read_global_motion(intra: bool, header: &[u8], at: usize, flag: u8, prior: &[i32]) -> Models {
     // SAFETY: as for `read_global_motion_params`; of a key frame neither slice is read.
     unsafe { belt_read_global_motion(intra, header.as_ptr(), header.len(), at, flag, prior.as_ptr(), prior.len()) }
@@ -937,6 +951,7 @@ pub fn run_frame(run: Run, intra: bool, types: &[u8], params: &[i32], start: usi
     }
 }
 
+#[inline]
 pub fn run_read(run: Run, intra: bool, header: &[u8], at: usize) -> FrameModels {
     // SAFETY: as for `read_global_motion`; the prior is in the run, which is passed by value.
     unsafe { belt_run_read(run, intra, header.as_ptr(), header.len(), at) }

@@ -1,11 +1,24 @@
 //! The table of refusals (docs/RULES.md, 'When a call says no').
 
-use std::error::Error;
-use std::fmt;
+use core::error::Error;
+use core::fmt;
 
 /// A row of the table, in the order in which rows are judged. Where a list or a buffer has the wrong length, it says
 /// which and what is wanted.
+///
+/// ```
+/// use belt::{Refusal, Task};
+///
+/// let plane = [7; 64 * 48];
+/// let refused = belt::job(&Task::new(&plane[1..], &plane, 64, 48), &mut belt::Buffers::new(64, 48).lend());
+/// match refused.unwrap_err() {
+///     Refusal::WrongLength(list) => assert_eq!((list.name, list.given, list.wanted), ("input", 3071, 3072)),
+///     // a later version may have more rows
+///     other => panic!("{other}"),
+/// }
+/// ```
 #[derive(Clone, Copy, Debug, PartialEq, Eq, Hash)]
+#[non_exhaustive]
 pub enum Refusal {
     /// 1: side over 1,024, or over 4,096 samples.
     TooLarge,
@@ -69,7 +82,7 @@ impl Length {
 
 impl Refusal {
     /// Every row's number and condition, in the table's order.
-    pub const TABLE: [(u32, &str); 19] = [
+    pub const TABLE: &[(u32, &str)] = &[
         (1, "side over 1,024, or over 4,096 samples"),
         (18, "motion of a practice belt beyond 24 pels"),
         (2, "plane, class, type, model or prior list of wrong length"),
@@ -92,6 +105,11 @@ impl Refusal {
     ];
 
     /// The row's number.
+    ///
+    /// ```
+    /// assert_eq!(belt::elect(2, &[]).map_err(belt::Refusal::number), Err(4));
+    /// ```
+    #[must_use]
     pub fn number(self) -> u32 {
         match self {
             Refusal::TooLarge => 1,
@@ -117,8 +135,13 @@ impl Refusal {
     }
 
     /// The row's condition.
+    ///
+    /// ```
+    /// assert_eq!(belt::Refusal::NoClass.condition(), "empty set of classes");
+    /// ```
+    #[must_use]
     pub fn condition(self) -> &'static str {
-        let row = Self::TABLE.into_iter().find(|&(number, _)| number == self.number());
+        let row = Self::TABLE.iter().find(|row| row.0 == self.number());
         row.expect("the table has every row").1
     }
 
@@ -169,12 +192,14 @@ impl fmt::Display for Refusal {
 impl Error for Refusal {}
 
 /// The value of a call that refused nothing.
+#[inline]
 pub(crate) fn judged<T>(number: u32, value: T) -> Result<T, Refusal> {
     judged_lists(number, value, || [], || [])
 }
 
 /// The same for a call that judges lists (row 2) and lent buffers (row 3): their lengths, in the order of the call.
 /// They are looked at only where the row is theirs.
+#[inline]
 pub(crate) fn judged_lists<T, const N: usize, const M: usize>(
     number: u32,
     value: T,

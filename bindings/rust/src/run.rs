@@ -1,8 +1,10 @@
 //! Runs of frames (docs/RULES.md, 'A run of frames').
 
+use crate::codes::byte;
 use crate::refusal::{judged, judged_lists};
 use crate::{
-    Form, HEADER_BYTES, Kind, Length, Lent, Models, Refusal, Report, StoredModel, Task, block_bytes, planes, raw, rooms,
+    Code, Form, HEADER_BYTES, Kind, Length, Lent, Models, Precision, Refusal, Report, StoredModel, Task, block_bytes,
+    raw,
 };
 
 /// The switch code to low precision.
@@ -19,10 +21,10 @@ pub const TO_FORM_2: u8 = 2;
 /// accepted; a [`RunReader`] begun alike gives the models back.
 ///
 /// ```
-/// use belt::{IDENTITIES, Kind, Refusal, Run, RunReader, StoredModel, TO_LOW_PRECISION};
+/// use belt::{Form, IDENTITIES, Kind, Precision, Refusal, Run, RunReader, StoredModel, TO_LOW_PRECISION};
 ///
-/// let mut run = Run::start(1, 1)?;
-/// let mut reader = RunReader::start(1, 1)?;
+/// let mut run = Run::start(Precision::High, Form::One)?;
+/// let mut reader = RunReader::start(Precision::High, Form::One)?;
 /// let types = [1, 0, 0, 0, 0, 0, 0];
 /// let mut models = IDENTITIES;
 /// models[0] = StoredModel([8192, -8192, 65536, 0, 0, 65536]);
@@ -45,15 +47,17 @@ pub const TO_FORM_2: u8 = 2;
 /// # Ok::<(), Refusal>(())
 /// ```
 #[derive(Clone, Copy, Debug, PartialEq, Eq)]
+#[non_exhaustive]
 pub struct Run(raw::Run);
 
 /// The reader of a [`Run`]: begun alike, and given in the same order the switches and the frames that were accepted, it
 /// gives each frame's models. A call that refuses leaves it as it was.
 #[derive(Clone, Copy, Debug, PartialEq, Eq)]
+#[non_exhaustive]
 pub struct RunReader(raw::Run);
 
-fn started(flag: u8, form: u32) -> Result<raw::Run, Refusal> {
-    let raw::Moved { refusal, run } = raw::run_start(flag, form);
+fn started(precision: impl Code<Precision>, form: impl Code<Form>) -> Result<raw::Run, Refusal> {
+    let raw::Moved { refusal, run } = raw::run_start(byte(precision), form.number());
     judged(refusal, run)
 }
 
@@ -67,32 +71,77 @@ fn switched(run: &mut raw::Run, code: u8) -> Result<(), Refusal> {
 macro_rules! held {
     ($name:ident) => {
         impl $name {
-            /// Begins with a flag, 0 or 1, and a form, 1 or 2; the first prior is identity.
+            /// Begins with a precision and a form, by name or by code; the first prior is identity.
             ///
             /// # Errors
             ///
             /// [`Refusal::NoSuchCode`].
-            pub fn start(flag: u8, form: u32) -> Result<Self, Refusal> {
-                started(flag, form).map(Self)
+            ///
+            /// ```
+            #[doc = concat!("use belt::{Form, Precision, Refusal, ", stringify!($name), "};")]
+            ///
+            #[doc = concat!("let begun = ", stringify!($name), "::start(Precision::High, Form::Two)?;")]
+            /// assert_eq!((begun.flag(), begun.form()), (1, 2));
+            #[doc = concat!("assert_eq!(", stringify!($name), "::start(2, 1), Err(Refusal::NoSuchCode));")]
+            /// # Ok::<(), Refusal>(())
+            /// ```
+            pub fn start(precision: impl Code<Precision>, form: impl Code<Form>) -> Result<Self, Refusal> {
+                started(precision, form).map(Self)
             }
 
             /// One that was kept elsewhere. Each call judges it: a bad flag or form is [`Refusal::NoSuchCode`], a prior
             /// out of range [`Refusal::PriorOut`].
+            ///
+            /// ```
+            #[doc = concat!("use belt::{IDENTITIES, Refusal, ", stringify!($name), ", TO_FORM_2};")]
+            ///
+            #[doc = concat!("let begun = ", stringify!($name), "::start(1, 1)?;")]
+            #[doc = concat!("let again = ", stringify!($name), "::of_parts(*begun.prior(), begun.flag(), begun.form());")]
+            /// assert_eq!(again, begun);
+            #[doc = concat!("let mut bad = ", stringify!($name), "::of_parts(IDENTITIES, 1, 3);")]
+            /// assert_eq!(bad.switch(TO_FORM_2), Err(Refusal::NoSuchCode));
+            /// # Ok::<(), Refusal>(())
+            /// ```
+            #[must_use]
             pub const fn of_parts(prior: [StoredModel; 7], flag: u8, form: u32) -> Self {
                 Self(raw::Run { prior, flag, form })
             }
 
             /// The prior of the next inter frame.
+            ///
+            /// ```
+            #[doc = concat!("assert_eq!(belt::", stringify!($name), "::start(1, 2)?.prior(), &belt::IDENTITIES);")]
+            /// # Ok::<(), belt::Refusal>(())
+            /// ```
+            #[must_use]
             pub const fn prior(&self) -> &[StoredModel; 7] {
                 &self.0.prior
             }
 
-            /// 1 for high precision, else 0.
+            /// 1 for high precision, else 0: a [`Precision`].
+            ///
+            /// ```
+            /// use belt::Precision;
+            ///
+            #[doc = concat!("let begun = belt::", stringify!($name), "::start(Precision::High, 2)?;")]
+            /// assert_eq!(Precision::try_from(begun.flag()), Ok(Precision::High));
+            /// # Ok::<(), belt::Refusal>(())
+            /// ```
+            #[must_use]
             pub const fn flag(&self) -> u8 {
                 self.0.flag
             }
 
-            /// The form that frames are stored in, 1 or 2.
+            /// The form that frames are stored in, 1 or 2: a [`Form`].
+            ///
+            /// ```
+            /// use belt::Form;
+            ///
+            #[doc = concat!("let begun = belt::", stringify!($name), "::start(1, Form::One)?;")]
+            /// assert_eq!(Form::try_from(begun.form()), Ok(Form::One));
+            /// # Ok::<(), belt::Refusal>(())
+            /// ```
+            #[must_use]
             pub const fn form(&self) -> u32 {
                 self.0.form
             }
@@ -103,6 +152,17 @@ macro_rules! held {
             /// # Errors
             ///
             /// [`Refusal::NoSuchCode`], [`Refusal::PriorOut`] of the run itself.
+            ///
+            /// ```
+            /// use belt::{Form, Precision, Refusal, TO_FORM_2, TO_LOW_PRECISION};
+            ///
+            #[doc = concat!("let mut begun = belt::", stringify!($name), "::start(Precision::High, Form::One)?;")]
+            /// begun.switch(TO_LOW_PRECISION)?;
+            /// begun.switch(TO_FORM_2)?;
+            /// assert_eq!((begun.flag(), begun.form()), (0, 2));
+            /// assert_eq!(begun.switch(3), Err(Refusal::NoSuchCode));
+            /// # Ok::<(), Refusal>(())
+            /// ```
             pub fn switch(&mut self, code: u8) -> Result<(), Refusal> {
                 switched(&mut self.0, code)
             }
@@ -126,6 +186,18 @@ impl Run {
     ///
     /// [`Refusal::WrongLength`], [`Refusal::NoSuchCode`] (the run's flag and form too), [`Refusal::StartOver`],
     /// [`Refusal::OffGrid`], [`Refusal::PriorOut`] (the run's prior, of a key frame too), [`Refusal::TooShort`].
+    ///
+    /// ```
+    /// use belt::{Form, IDENTITIES, Kind, Precision, Run, StoredModel};
+    ///
+    /// let mut run = Run::start(Precision::High, Form::Two)?;
+    /// let mut models = IDENTITIES;
+    /// models[0] = StoredModel([8192, -8192, 65536, 0, 0, 65536]);
+    /// let mut header = [0; belt::HEADER_BYTES];
+    /// assert_eq!(run.frame(Kind::Inter, &[1, 0, 0, 0, 0, 0, 0], &models, 0, &mut header), Ok(17));
+    /// assert_eq!(run.prior(), &models);
+    /// # Ok::<(), belt::Refusal>(())
+    /// ```
     pub fn frame(
         &mut self,
         kind: Kind,
@@ -161,9 +233,9 @@ impl Run {
     /// [`Refusal::ShutterClosed`], also without words.
     ///
     /// ```
-    /// use belt::{FILM, METAL, Refusal, Run, TO_FORM_2};
+    /// use belt::{FILM, Form, METAL, Precision, Refusal, Run, TO_FORM_2};
     ///
-    /// let mut run = Run::start(1, 1)?;
+    /// let mut run = Run::start(Precision::High, Form::One)?;
     /// let mut block = [0; belt::BLOCK_BYTES];
     /// assert_eq!(run.store(5, &[0x0006_FB7C], &[FILM], &mut block), Err(Refusal::NotHeld));
     /// assert_eq!(run.store(5, &[0x0006_FB7C], &[METAL], &mut block), Ok(1));
@@ -189,7 +261,26 @@ impl Run {
     /// # Errors
     ///
     /// Those of [`crate::job`], and [`Refusal::NotHeld`] where a class is [`crate::FILM`] in form 1, whichever are named;
-    /// [`Refusal::NoSuchCode`] and [`Refusal::PriorOut`] are the run's.
+    /// [`Refusal::NoSuchCode`] and [`Refusal::PriorOut`] are the run's too.
+    ///
+    /// ```
+    /// use belt::{Buffers, Form, Kind, Precision, Run, RunReader, Settings, Task};
+    ///
+    /// let (mut earlier, mut later) = ([0; 96 * 80], [0; 96 * 80]);
+    /// belt::make_practice_planes(1, 96, 80, -2, 4, &mut earlier, &mut later)?;
+    /// let mut run = Run::start(Precision::High, Form::Two)?;
+    /// let mut reader = RunReader::start(Precision::High, Form::Two)?;
+    /// let mut buffers = Buffers::new(96, 80);
+    /// let mut bits = Vec::new();
+    /// for frame in [1, 2] {
+    ///     let task = Task { settings: Settings::elect(frame), ..Task::new(&earlier, &later, 96, 80) };
+    ///     let report = run.job(&task, &mut buffers.lend())?;
+    ///     assert_eq!(reader.read(Kind::Inter, &buffers.header, 0)?.models, report.models);
+    ///     bits.push(report.bits);
+    /// }
+    /// assert!(bits[1] < bits[0], "the same motion again is cheaper");
+    /// # Ok::<(), belt::Refusal>(())
+    /// ```
     pub fn job(&mut self, task: &Task<'_>, lent: &mut Lent<'_>) -> Result<Report, Refusal> {
         let form = self.form_held();
         let raw::JobDone { report, run } = raw::run_job(
@@ -209,25 +300,9 @@ impl Run {
             lent.header,
         );
         self.0 = run;
-        let raw::Report { refusal, types, models, score, bits, samples } = report;
-        judged_lists(
-            refusal,
-            Report { types, models, score, bits, samples },
-            || {
-                let [input, reference, classes] =
-                    planes(task.input, task.reference, task.classes, task.width, task.height);
-                [input, reference, classes, Length::of("types", task.types, 6), Length::of("models", task.models, 6)]
-            },
-            || job_rooms(task, lent, form),
-        )
+        let (refusal, report) = Report::of_raw(report, task.settings);
+        judged_lists(refusal, report, || task.lists(), || lent.rooms(task, form))
     }
-}
-
-/// The buffers of a job whose blocks are of a form.
-pub(crate) fn job_rooms(task: &Task<'_>, lent: &Lent<'_>, form: Form) -> [Length; 5] {
-    let [input_half, ref_half, words] = rooms(lent.input_half, lent.ref_half, lent.words, task.width, task.height);
-    let blocks = Length::of("blocks", lent.blocks, block_bytes(words.wanted, form));
-    [input_half, ref_half, words, blocks, Length::of("header", lent.header, HEADER_BYTES)]
 }
 
 impl RunReader {
@@ -238,9 +313,20 @@ impl RunReader {
     ///
     /// [`Refusal::NoSuchCode`] and [`Refusal::PriorOut`] of the reader itself, of a key frame too;
     /// [`Refusal::EndsFirst`].
+    ///
+    /// ```
+    /// use belt::{Form, GmType, Kind, Precision, RunReader};
+    ///
+    /// let mut reader = RunReader::start(Precision::High, Form::Two)?;
+    /// let read = reader.read(Kind::Inter, &[0xA4, 0x20, 0x00], 0)?;
+    /// assert_eq!((read.x_first()[0].0, read.bits), (GmType::Translation, 17));
+    /// assert_eq!(reader.prior(), &read.models);
+    /// # Ok::<(), belt::Refusal>(())
+    /// ```
+    #[inline]
     pub fn read(&mut self, kind: Kind, header: &[u8], at: usize) -> Result<Models, Refusal> {
-        let raw::FrameModels { models, run } = raw::run_read(self.0, kind == Kind::Key, header, at);
-        self.0 = run;
-        judged(models.refusal, Models { types: models.types, models: models.params, bits: models.bits })
+        let read = raw::run_read(self.0, kind == Kind::Key, header, at);
+        self.0 = read.run;
+        judged(read.models.refusal, Models::of_raw(&read.models))
     }
 }

@@ -16,7 +16,7 @@ fn words(count: usize) -> Vec<u32> {
 
 #[test]
 fn the_table_is_that_of_the_rules() {
-    let numbers = Refusal::TABLE.map(|(number, _)| number);
+    let numbers: Vec<u32> = Refusal::TABLE.iter().map(|row| row.0).collect();
     assert_eq!(numbers, [1, 18, 2, 4, 19, 5, 14, 7, 8, 12, 13, 3, 15, 17, 6, 16, 9, 10, 11]);
     for row in [TooLarge, TooFar, NoSuchCode, NoClass, NoSuchSlot, OffGrid, PriorOut, NotRising, NotHeld, Singular] {
         assert_eq!(row.to_string(), format!("{}: {}", row.number(), row.condition()));

@@ -205,7 +205,8 @@ fn bowl_job(classes: u8) -> Handed {
     };
     let plane = |dy: i32, dx: i32| (0..64 * 64).map(|i| pel(i / 64 + dy, i % 64 + dx)).collect::<Vec<_>>();
     let mut handed = Handed::new(plane(2, -3), plane(0, 0), 64, 64, 1);
-    handed.settings = Settings { frame: 5, reference: 1, flag: 2, elect: 1, ..Settings::default() };
+    handed.settings = Settings::elect(5);
+    handed.settings.flag = 2;
     handed.classes = (0..16).map(|q| q % classes).collect();
     handed
 }

@@ -833,6 +833,9 @@ fn own_of_the_rust(settings: Settings, samples: &[[f64; 4]]) -> Result<(u8, [i32
     Ok((gm_type, Model(model).row_first(gm_type).0, oracle::score(&model, samples)))
 }
 
+/// The types, the models, the score, the header's bits and the samples that a job reports.
+type Reported = ([u8; 7], [StoredModel; 7], f64, usize, usize);
+
 /// The composition of the Rust's answers: what a job reports and leaves, its blocks in a form.
 fn job_of_the_rust(
     pair: &Pair,
@@ -840,8 +843,8 @@ fn job_of_the_rust(
     header: &Header,
     form: Form,
     left: &mut Buffers,
-) -> Result<Report, u32> {
-    let Settings { frame, gm_type, reference, flag, trim, elect, set, start } = settings;
+) -> Result<Reported, u32> {
+    let Settings { frame, gm_type, reference, flag, trim, elect, set, start, .. } = settings;
     if set.bits() > inputs::ALL_CLASSES {
         return Err(NO_SUCH_CODE);
     }
@@ -870,7 +873,7 @@ fn job_of_the_rust(
     left.header[..bytes.len()].copy_from_slice(&bytes);
     let stored = blocks::write(form, frame, &blocks::classed(&words, &pair.classes));
     left.blocks[..stored.len()].copy_from_slice(&stored);
-    Ok(Report { types: full.types, models: full.params.map(StoredModel), score, bits, samples: words.len() })
+    Ok((full.types, full.params.map(StoredModel), score, bits, words.len()))
 }
 
 /// A type and a trim code of any number go in with an election, which looks at neither.
@@ -895,17 +898,14 @@ fn job(case: &mut Case, trim: u8, elect: u8, held: Option<Form>) -> Result<(), S
     if held == Some(ONE) && !random.one_in(8) {
         pair.classes.iter_mut().for_each(|class| *class = (*class).min(ONE.last_class));
     }
-    let settings = Settings {
-        frame: frame_number(random),
-        gm_type: if elect == 1 { random.bits() as u8 } else { 1 + random.below(3) as u8 },
-        reference: 1 + random.below(7) as u8,
-        // in a run the settings' own isn't looked at
-        flag: if held.is_some() { random.bits() as u8 } else { header.flag },
-        trim,
-        elect,
-        set: if random.one_in(2) { ClassSet::ALL } else { ClassSet::from_bits(inputs::any_class_set(random)) },
-        start: start(random),
-    };
+    let mut settings = Settings::elect(frame_number(random));
+    settings.gm_type = if elect == 1 { random.bits() as u8 } else { 1 + random.below(3) as u8 };
+    settings.reference = 1 + random.below(7) as u8;
+    // in a run the settings' own isn't looked at
+    settings.flag = if held.is_some() { random.bits() as u8 } else { header.flag };
+    (settings.trim, settings.elect) = (trim, elect);
+    settings.set = if random.one_in(2) { ClassSet::ALL } else { ClassSet::from_bits(inputs::any_class_set(random)) };
+    settings.start = start(random);
     let mut ours = buffers(random, pair.width, pair.height);
     let mut theirs = ours.clone();
     case.note("settings", settings);
@@ -938,11 +938,13 @@ fn job(case: &mut Case, trim: u8, elect: u8, held: Option<Form>) -> Result<(), S
     });
     case.accepted = report.is_ok();
     let parts = |report: Report| (report.types, report.models, bits(report.score), report.bits, report.samples);
-    let rust_settings = Settings { flag: header.flag, ..settings };
+    let rust_parts = |(types, models, score, count, samples): Reported| (types, models, bits(score), count, samples);
+    let mut rust_settings = settings;
+    rust_settings.flag = header.flag;
     let rust = job_of_the_rust(&pair, rust_settings, &header, held.unwrap_or(TWO), &mut theirs);
-    let moved = rust.as_ref().map_or(prior, |report| report.models);
+    let moved = rust.as_ref().map_or(prior, |report| report.1);
     same("prior of the run", after, if held.is_some() { moved } else { prior })?;
-    same("types, models, bits of the score, header bits, samples", report.map(parts), rust.map(parts))?;
+    same("types, models, bits of the score, header bits, samples", report.map(parts), rust.map(rust_parts))?;
     same_list("half plane of the input", &ours.input_half, &theirs.input_half)?;
     same_list("half plane of the reference", &ours.ref_half, &theirs.ref_half)?;
     same_list("words", &ours.words, &theirs.words)?;

@@ -115,7 +115,7 @@ pub fn measure_planes(
     planes: Result<Planes, Refused>,
 ) -> Result<Measured, Failure> {
     let (width, height) = (input.width, input.height);
-    let settings = Settings { set: job.set, ..job.asked.settings(job.frame, job.reference, job.flag, job.start) };
+    let settings = job.asked.settings(job.frame, job.reference, job.flag, job.start).set(job.set);
     let unsorted = vec![belt::UNSORTED; belt::sample_count(width, height)];
     let mut buffers = Buffers::new(width, height);
     if let Some(Frame { name, whole: (own_width, own_height), .. }) =

@@ -48,7 +48,9 @@ impl Asked {
             Asked::Plain(kind) => (kind, 0, 0),
             Asked::Trimmed(kind) => (kind, 1, 0),
         };
-        Settings { frame, gm_type, reference, flag, trim, elect, start, ..Settings::default() }
+        let mut settings = Settings::elect(frame).reference(reference).start(start);
+        (settings.gm_type, settings.flag, settings.trim, settings.elect) = (gm_type, flag, trim, elect);
+        settings
     }
 }
 
@@ -72,14 +74,15 @@ pub fn off(model: &Model, sample: &Sample) -> f64 {
 #[cfg(test)]
 mod tests {
     use super::*;
+    use belt::GmType;
 
     #[test]
     fn settings_are_what_is_asked() {
         let settings = |asked: Asked| asked.settings(5, 7, 1, 3);
-        let plain = Settings { frame: 5, gm_type: 2, reference: 7, flag: 1, start: 3, ..Settings::default() };
+        let plain = Settings::fit(5, GmType::Rotzoom).reference(7).start(3);
         assert_eq!(settings(Asked::of(Some(Type::Rotzoom), false)), plain);
-        assert_eq!(settings(Asked::of(Some(Type::Rotzoom), true)), Settings { trim: 1, ..plain });
+        assert_eq!(settings(Asked::of(Some(Type::Rotzoom), true)), plain.trim());
         assert_eq!(Asked::of(None, true), Asked::Elected);
-        assert_eq!(settings(Asked::Elected), Settings { gm_type: 0, elect: 1, ..plain });
+        assert_eq!(settings(Asked::Elected), Settings::elect(5).reference(7).start(3));
     }
 }

@@ -317,7 +317,7 @@ impl<R: Read> Player<R> {
             Of::Pair(_) => Kind::Inter,
             _ => Kind::Key,
         };
-        let mut models = Models { types: [0; 7], models: IDENTITIES, bits: 0 };
+        let mut models = Models::default();
         if record.of != Of::Bad {
             models = self.reader.read(kind, &record.header, 0).map_err(|refusal| self.headers.refused(at, refusal))?;
             self.again(kind, &record, &models).map_err(|what| self.headers.bad(at, what))?;

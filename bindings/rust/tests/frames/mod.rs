@@ -1,7 +1,7 @@
 //! Made-up frame pairs, and the memory around a job's buffers.
 #![allow(dead_code)] // each test file uses a part
 
-use belt::{BLOCK_BYTES, Buffers, IDENTITIES, Settings, StoredModel, Task, sample_count};
+use belt::{BLOCK_BYTES, Buffers, GmType, IDENTITIES, Settings, StoredModel, Task, sample_count};
 
 /// Values by position alone, without a pattern.
 fn noise(y: i64, x: i64) -> u16 {
@@ -51,12 +51,14 @@ pub struct Handed {
 impl Handed {
     /// A job that no row refuses, with the six other models at the identity.
     pub fn new(input: Vec<u16>, reference: Vec<u16>, width: usize, height: usize, gm_type: u8) -> Self {
+        let mut settings = Settings::fit(4660, GmType::Translation).reference(3).start(5);
+        settings.gm_type = gm_type;
         Self {
             input,
             reference,
             width,
             height,
-            settings: Settings { frame: 4660, gm_type, reference: 3, flag: 1, start: 5, ..Settings::default() },
+            settings,
             classes: (0..sample_count(width, height)).map(|i| (i % 5) as u8).collect(),
             types: vec![0; 6],
             models: IDENTITIES[..6].to_vec(),

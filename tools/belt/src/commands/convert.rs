@@ -39,7 +39,7 @@ type Convert = fn(&[u8], &mut [u8]) -> Result<usize, Refusal>;
 fn converted(mut source: impl Read, out: &mut impl Write, to: Form) -> Result<(usize, usize), Stop> {
     let (convert, from): (Convert, Form) = match to {
         Form::One => (belt::to_form1, Form::Two),
-        Form::Two => (belt::to_form2, Form::One),
+        _ => (belt::to_form2, Form::One),
     };
     let mut room = vec![0; belt::block_bytes(MOST_SAMPLES, to)];
     let (mut at, mut frames, mut blocks) = (0, 0, 0);
