@@ -1,10 +1,10 @@
 //! The words of a command line, what the help says of each, and the manual page.
 
 use crate::failure::Failure;
-use crate::frames::Part;
 use crate::output;
 use clap::{Args, CommandFactory, Parser, Subcommand, ValueEnum};
 use clap_complete::Shell;
+use frames::Part;
 use std::ffi::OsString;
 use std::fmt::Write;
 use std::path::PathBuf;

@@ -1,6 +1,8 @@
 //! Why the tool ends without an answer: one line that says what and where, and a status.
 
 use belt::Refusal;
+use frames::{Unread, one_line};
+use record::{Damaged, Why};
 use std::fmt;
 
 /// What the tool says on standard error.
@@ -58,6 +60,21 @@ impl Failure {
     }
 }
 
+impl From<Unread> for Failure {
+    fn from(Unread { place, what }: Unread) -> Self {
+        Failure::Bad { place, what }
+    }
+}
+
+impl From<Damaged> for Failure {
+    fn from(Damaged { place, why }: Damaged) -> Self {
+        match why {
+            Why::Bad(what) => Failure::bad(place, what),
+            Why::Refused(refusal) => Failure::refused(place, refusal),
+        }
+    }
+}
+
 impl fmt::Display for Failure {
     fn fmt(&self, f: &mut fmt::Formatter<'_>) -> fmt::Result {
         let line = match self {
@@ -66,9 +83,4 @@ impl fmt::Display for Failure {
         };
         f.write_str(&one_line(&line))
     }
-}
-
-/// A text without control characters, which file names and broken files may bring in.
-pub fn one_line(text: &str) -> String {
-    text.chars().flat_map(|c| if c.is_control() { c.escape_default().collect() } else { vec![c] }).collect()
 }

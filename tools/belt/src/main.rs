@@ -1,15 +1,15 @@
 //! belt: the motion core from a command line.
 //!
-//! Pictures, blocks and headers come in (`frames`, `lists`), the library is asked (`measure`, by `way`), and the answer
-//! goes out in words, as JSON (`report`) or as a picture (`picture`); a clip is recorded too (`recorded`). `cli` has the
-//! words that are taken and their help; the manual page is made of it. Whatever goes wrong is a [`failure::Failure`]: one
-//! line and a status.
+//! Pictures, blocks and headers come in (the crate `frames`, `clip`, `lists`), the library is asked (`measure`, by the
+//! crate `track`), and the answer goes out in words, as JSON (`report`) or as a picture (`picture`); a clip is recorded
+//! too (the crate `record`). `cli` has the words that are taken and their help; the manual page is made of it. Whatever
+//! goes wrong is a [`failure::Failure`]: one line and a status.
 
 mod cli;
+mod clip;
 mod commands;
 mod demo;
 mod failure;
-mod frames;
 mod lists;
 mod measure;
 mod memory;
@@ -17,10 +17,8 @@ mod model;
 mod ordered;
 mod output;
 mod picture;
-mod recorded;
 mod report;
 mod tracked;
-mod way;
 
 use std::io::{self, Write};
 use std::process::ExitCode;

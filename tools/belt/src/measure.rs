@@ -1,12 +1,15 @@
-//! A job on two pictures: what is stored, what was measured (by `way`), and what each block has to do with it.
+//! A job on two pictures: what is stored, what was measured (by `track`), and what each block has to do with it.
+//!
+//! One search serves both: the job runs on pictures without their light, and its samples are what `track` goes by. Where
+//! a type is named the samples are of the pictures as they are, and that type is fitted to them.
 
 use crate::failure::Failure;
-use crate::frames::Frame;
 use crate::model::{self, Asked, IDENTITY};
 use crate::report::words;
-use crate::way::{Answer, Question, Warning};
 use belt::{Buffers, ClassSet, IDENTITIES, Motion, Refusal, Report, Sample, Settings, StoredModel, Task};
-use track::{Common, Model, Planes, Refused, Status};
+use frames::{Frame, Part};
+use serde::Serialize;
+use track::{Answer, Common, How, Model, Named, Options, Planes, Refused, Status};
 
 /// The share of blocks that stand still, or don't, from which on they are a part of the picture.
 const PART: f64 = 0.05;
@@ -15,6 +18,18 @@ const TOGETHER: f64 = 4.0;
 const TOGETHER_SHARE: f64 = 0.02;
 /// From this many pels on a part surely moves.
 const MOVES: f64 = 0.5;
+
+/// A picture of fewer blocks than this can't have as many that agree as `track` asks for.
+const LARGE: usize = 24;
+
+/// What to know of an answer.
+#[derive(Clone, Debug, PartialEq, Eq, Serialize)]
+pub struct Warning {
+    /// For programs.
+    pub name: &'static str,
+    /// What is the matter, and what to do.
+    pub text: String,
+}
 
 /// What a job is told beside its pictures.
 #[derive(Clone, Debug)]
@@ -101,9 +116,24 @@ pub fn judge_sides(width: usize, height: usize) -> Result<(), Refusal> {
     }
 }
 
+/// Whether a part of a picture of these sides can be measured.
+pub fn judged(name: &str, part: Part, sides: (usize, usize)) -> Result<(), Failure> {
+    part.inside(sides).map_err(|what| Failure::bad(name, what))?;
+    let (width, height) = part.sides(sides);
+    judge_sides(width, height).map_err(|refusal| {
+        let advice = format!("{width}×{height} pels are too many: --crop X,Y,W,H measures a part, --halve all");
+        Failure::refused(name, refusal).with_advice(advice)
+    })
+}
+
+/// A picture as `track` takes it.
+pub fn lent(frame: &Frame) -> track::Frame<'_> {
+    track::Frame { pels: &frame.pels, width: frame.width, height: frame.height, most: frame.most }
+}
+
 /// Runs the job on two pictures of the same sides.
 pub fn measure(job: &Job, input: &Frame, reference: &Frame) -> Result<Measured, Failure> {
-    let planes = Planes::of(&input.lent(), &reference.lent());
+    let planes = Planes::of(&lent(input), &lent(reference));
     measure_planes(job, input, reference, planes)
 }
 
@@ -156,19 +186,20 @@ pub fn measure_planes(
     let left_out = |(&word, &class): (&u32, &u8)| !job.set.names(class) || masked(word);
     let some = job.mask.is_some() || job.set != ClassSet::ALL;
     let mask: Option<Vec<bool>> = some.then(|| stored.iter().zip(task.classes).map(left_out).collect());
-    let (asked, fast, within) = (job.asked, job.fast, job.within);
-    let question = Question { asked, fast, within, mask: mask.as_deref(), stored, sides: (width, height) };
-    let answer = question.answer(&planes).map_err(refused)?;
+    let named = |gm_type: u8, is_trimmed: bool| {
+        planes.named(&Named { gm_type, is_trimmed, within: job.within }, stored, mask.as_deref())
+    };
+    let answer = match job.asked {
+        Asked::Elected => planes.measure(Some(stored), &Options { fast: job.fast, mask: mask.as_deref() }),
+        Asked::Plain(gm_type) => named(gm_type, false),
+        Asked::Trimmed(gm_type) => named(gm_type, true),
+    };
+    let answer = answer.map_err(refused)?;
     let block = |(at, &word): (usize, &u32)| {
-        let sample = Sample::of_word(word);
-        let Sample { x, y, motion, .. } = sample;
-        Block {
-            x,
-            y,
-            motion,
-            off: model::off(&answer.model, &sample),
-            masked: mask.as_ref().is_some_and(|mask| mask[at]),
-        }
+        let Sample { x, y, motion, .. } = Sample::of_word(word);
+        let own = answer.model.motion_at(x, y);
+        let off = (motion.u - own.u).hypot(motion.v - own.v);
+        Block { x, y, motion, off, masked: mask.as_ref().is_some_and(|mask| mask[at]) }
     };
     let blocks = stored.iter().enumerate().map(block).collect();
     let mut measured = Measured {
@@ -211,7 +242,27 @@ fn warnings(measured: &Measured) -> Vec<Warning> {
     };
     let answered = !matches!(measured.answer.status, Status::Flat | Status::NoBlocks);
     let unkept = (answered && !kept).then(unkept);
-    measured.answer.warnings.iter().cloned().chain(part(measured)).chain(unkept).collect()
+    let own = measured.answer.warnings.iter().map(|warning| told(*warning, &measured.answer));
+    own.chain(part(measured)).chain(unkept).collect()
+}
+
+/// A warning of the answer, with what else helps here.
+fn told(warning: track::Warning, answer: &Answer) -> Warning {
+    let text = match (warning, answer.how) {
+        (track::Warning::FewAgree, How::Plain | How::Trimmed) => {
+            let share = words::per_cent(answer.agree as f64 / answer.usable.max(1) as f64);
+            let model = model::words(answer.model.gm_type);
+            format!(
+                "only {share} of the blocks agree with {model}: it moved otherwise, or not as one piece, or further than \
+                 the search looks, 27 pels; without --type the model is found too, and --crop or --mask leave a part out"
+            )
+        }
+        (track::Warning::FewBlocks, _) if answer.blocks < LARGE => {
+            format!("{}; --type fits a model to fewer", warning.advice())
+        }
+        _ => warning.advice().into(),
+    };
+    Warning { name: warning.name(), text }
 }
 
 /// What is to be known of a part that moves otherwise.
@@ -265,12 +316,13 @@ impl Measured {
 
     /// The error to be expected, in pels of the picture.
     pub fn predicted(&self) -> Option<f64> {
-        self.answer.predicted.map(|pels| pels * self.times as f64)
+        let Answer { predicted, status, .. } = self.answer;
+        (predicted.is_finite() && status.is_known()).then_some(predicted * self.times as f64)
     }
 
     /// The mean square of how far the blocks that agree are off, in square pels of the picture.
-    pub fn score(&self) -> Option<f64> {
-        self.answer.score.map(|score| score * (self.times * self.times) as f64)
+    pub fn score(&self) -> f64 {
+        self.answer.score * (self.times * self.times) as f64
     }
 
     /// The model that was measured, in pels of the picture.

@@ -1,7 +1,7 @@
 //! Which model a job is to find, how types are called, and models in pels.
 
 use crate::cli::Type;
-use belt::{Sample, Settings};
+use belt::Settings;
 use track::Model;
 
 /// The types as options and files name them, by their codes.
@@ -57,18 +57,6 @@ impl Asked {
 /// A model on the grid, in pels.
 pub fn of_grid(gm_type: u8, model: belt::Model) -> Model {
     Model { gm_type, numbers: model.0.map(|number| f64::from(number) / 65536.0) }
-}
-
-/// The library's plain fit of a type to samples, where there is one.
-pub fn fitted(gm_type: u8, words: &[u32]) -> Option<Model> {
-    let fit = [belt::fit_translation, belt::fit_rotzoom, belt::fit_affine][usize::from(gm_type) - 1];
-    Model::of_fitted(&fit(words).ok()?)
-}
-
-/// How far a model is from a sample's motion, in pels.
-pub fn off(model: &Model, sample: &Sample) -> f64 {
-    let own = model.motion_at(sample.x, sample.y);
-    (sample.motion.u - own.u).hypot(sample.motion.v - own.v)
 }
 
 #[cfg(test)]

@@ -1,6 +1,7 @@
 //! What the tool writes: standard output, and files that are there whole or not at all.
 
-use crate::failure::{Failure, one_line};
+use crate::failure::Failure;
+pub use frames::shown;
 use signal_hook::consts::{SIGHUP, SIGINT, SIGTERM};
 use signal_hook::iterator::Signals;
 use std::collections::hash_map::RandomState;
@@ -14,14 +15,6 @@ use std::sync::atomic::{AtomicBool, Ordering};
 use std::sync::{Mutex, MutexGuard, PoisonError};
 use std::{env, thread};
 
-/// A path as a person reads it, in one line.
-pub fn shown(path: impl AsRef<Path>) -> String {
-    match path.as_ref().to_string_lossy().as_ref() {
-        "-" => "standard input".into(),
-        text => one_line(text),
-    }
-}
-
 /// Whether nobody reads standard output any more.
 static CLOSED: AtomicBool = AtomicBool::new(false);
 
@@ -34,23 +27,21 @@ pub struct Out;
 
 impl Write for Out {
     fn write(&mut self, bytes: &[u8]) -> io::Result<usize> {
-        match io::stdout().lock().write(bytes) {
-            Err(error) if error.kind() == ErrorKind::BrokenPipe => {
-                CLOSED.store(true, Ordering::Relaxed);
-                Ok(bytes.len())
-            }
-            written => written,
-        }
+        unless_closed(io::stdout().lock().write(bytes), bytes.len())
     }
 
     fn flush(&mut self) -> io::Result<()> {
-        match io::stdout().lock().flush() {
-            Err(error) if error.kind() == ErrorKind::BrokenPipe => {
-                CLOSED.store(true, Ordering::Relaxed);
-                Ok(())
-            }
-            flushed => flushed,
+        unless_closed(io::stdout().lock().flush(), ())
+    }
+}
+
+fn unless_closed<T>(done: io::Result<T>, all: T) -> io::Result<T> {
+    match done {
+        Err(error) if error.kind() == ErrorKind::BrokenPipe => {
+            CLOSED.store(true, Ordering::Relaxed);
+            Ok(all)
         }
+        done => done,
     }
 }
 

@@ -12,6 +12,9 @@ const STILL: f64 = 1.0 / 16.0;
 /// Nor is one of at most so many times the error to be expected.
 const STILL_ERRORS: f64 = 2.0;
 
+/// Where nothing can be measured, a block would agree within so many pels.
+const WITHIN_OF_NOTHING: f64 = 0.25;
+
 /// Whether a motion was measured.
 #[derive(Clone, Copy, Debug, PartialEq, Eq, Hash)]
 pub enum Status {
@@ -23,7 +26,7 @@ pub enum Status {
     Unexplained,
     /// A frame has one value throughout.
     Flat,
-    /// No whole 16×16 block lies in the frames.
+    /// No whole 16×16 block lies in the frames, or the mask leaves none.
     NoBlocks,
 }
 
@@ -57,6 +60,10 @@ pub enum How {
     HalfSize,
     /// After the second frame was moved by what coarser planes say.
     Shifted,
+    /// A type that was named, fitted to all blocks.
+    Plain,
+    /// A type that was named, fitted without the blocks that lie far off.
+    Trimmed,
 }
 
 impl How {
@@ -67,6 +74,8 @@ impl How {
             Self::Robust => "robust",
             Self::HalfSize => "half-size",
             Self::Shifted => "shifted",
+            Self::Plain => "plain",
+            Self::Trimmed => "trimmed",
         }
     }
 }
@@ -91,7 +100,7 @@ pub struct Answer {
     pub angle: f64,
     /// How many usable blocks agree with the model.
     pub agree: usize,
-    /// A block agrees within so many pels of the planes that were searched.
+    /// A block agrees within so many pels.
     pub within: f64,
     /// How many blocks can tell their motion.
     pub usable: usize,
@@ -127,7 +136,7 @@ impl Answer {
             zoom: 1.0,
             angle: 0.0,
             agree: 0,
-            within: 0.0,
+            within: WITHIN_OF_NOTHING,
             usable: 0,
             blocks,
             score: 0.0,
@@ -156,25 +165,21 @@ impl Answer {
                 (full, model, predicted, plain, warnings)
             }
         };
-        let Motion { u, v } = model.middle(width, height);
         let status = match model.rms(width, height) {
             _ if !warnings.is_empty() => Status::Unexplained,
             motion if motion <= STILL.max(STILL_ERRORS * predicted) => Status::Still,
             _ => Status::Measured,
         };
+        // of half planes a pel is two
+        let pels = if how == How::HalfSize { 2.0 } else { 1.0 };
         Self {
             status,
             how,
-            model,
-            right: u,
-            down: v,
-            zoom: model.zoom(),
-            angle: model.degrees(),
             agree: found.agree,
-            within: f64::from(found.fit.within),
+            within: pels * f64::from(found.fit.within),
             usable: found.usable.len(),
             blocks: found.words.len(),
-            score: score(&found.usable, &found.fit.model, found.fit.within),
+            score: pels * pels * score(&found.usable, &found.fit.model, found.fit.within),
             predicted,
             warnings,
             shares,
@@ -182,7 +187,15 @@ impl Answer {
             searches,
             words,
             elected,
+            ..Self::nothing(status, 0)
         }
+        .with_model(model, width, height)
+    }
+
+    /// The same answer with this model.
+    pub(crate) fn with_model(self, model: Model, width: usize, height: usize) -> Self {
+        let Motion { u, v } = model.middle(width, height);
+        Self { model, right: u, down: v, zoom: model.zoom(), angle: model.degrees(), ..self }
     }
 }
 

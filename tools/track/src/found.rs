@@ -72,7 +72,7 @@ fn is_at_end(word: u32) -> bool {
 }
 
 /// Whether many of the words' motions lie at the end of the range.
-fn many_at_end(words: &[u32]) -> bool {
+pub(crate) fn many_at_end(words: &[u32]) -> bool {
     let at_end = words.iter().filter(|&&word| is_at_end(word)).count();
     at_end > 0 && at_end as f64 >= MANY_AT_END * words.len() as f64
 }

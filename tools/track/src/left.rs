@@ -61,12 +61,7 @@ fn by_translation(pair: Pair<'_>, block: usize, across: isize, down: isize) -> f
     for step in (0..BLOCK_SIDE).step_by(BLOCK_SIDE / ROWS) {
         let upper = gathered(pair.second, left, top + step as isize);
         let lower = gathered(pair.second, left, top + step as isize + 1);
-        let mut moved = [0; BLOCK_SIDE];
-        for (i, moved) in moved.iter_mut().enumerate() {
-            let column = |i: usize| i32::from(upper[i]) * (ONE - fy) + i32::from(lower[i]) * fy;
-            *moved = (column(i) * (ONE - fx) + column(i + 1) * fx + HALF) >> (2 * WEIGHT);
-        }
-        sums.add(&moved, &pair.first.row(y + step)[x..][..BLOCK_SIDE]);
+        sums.add(&blended(&upper, &lower, fx, fy), &pair.first.row(y + step)[x..][..BLOCK_SIDE]);
     }
     sums.variance()
 }
@@ -111,12 +106,47 @@ pub(crate) fn moved(plane: &Plane, model: &Model, x: usize, y: usize) -> [i32; B
     let (step_x, step_y) = (fixed(m2.clamp(-STEEP, STEEP)), fixed(m4.clamp(-STEEP, STEEP)));
     let (x, y) = (x as f64, y as f64);
     let (place_x, place_y) = (fixed(m2 * x + m3 * y + m0), fixed(m4 * x + m5 * y + m1));
-    std::array::from_fn(|i| between(plane, (place_x + i as i32 * step_x, place_y + i as i32 * step_y)))
+    let place = |i: usize| (place_x + i as i32 * step_x, place_y + i as i32 * step_y);
+    if (step_x, step_y) == (1 << FRACTION, 0) {
+        let (left, top) = ((place_x >> FRACTION) as isize, (place_y >> FRACTION) as isize);
+        let (upper, lower) = (gathered(plane, left, top), gathered(plane, left, top + 1));
+        return blended(&upper, &lower, fraction(place_x), fraction(place_y));
+    }
+    let (last_x, last_y) = place(BLOCK_SIDE - 1);
+    let inside =
+        |one: i32, other: i32, side: usize| one.min(other) >= 0 && (one.max(other) >> FRACTION) + 1 < side as i32;
+    if inside(place_x, last_x, plane.width) && inside(place_y, last_y, plane.height) {
+        return std::array::from_fn(|i| within(plane, place(i)));
+    }
+    std::array::from_fn(|i| between(plane, place(i)))
+}
+
+/// The weight of what lies behind a place.
+fn fraction(place: i32) -> i32 {
+    (place >> (FRACTION - WEIGHT)) & (ONE - 1)
+}
+
+/// Two rows between which values lie, by the weights of what is right and below.
+fn blended(upper: &[u16; BLOCK_SIDE + 1], lower: &[u16; BLOCK_SIDE + 1], fx: i32, fy: i32) -> [i32; BLOCK_SIDE] {
+    let mut blended = [0; BLOCK_SIDE];
+    for (i, blended) in blended.iter_mut().enumerate() {
+        let column = |i: usize| i32::from(upper[i]) * (ONE - fy) + i32::from(lower[i]) * fy;
+        *blended = (column(i) * (ONE - fx) + column(i + 1) * fx + HALF) >> (2 * WEIGHT);
+    }
+    blended
+}
+
+/// The value at a place that isn't near an edge.
+fn within(plane: &Plane, (x, y): (i32, i32)) -> i32 {
+    let (fx, fy) = (fraction(x), fraction(y));
+    let corner = (y >> FRACTION) as usize * plane.width + (x >> FRACTION) as usize;
+    let near = &plane.pels[corner..][..plane.width + 2];
+    let across = |i: usize| i32::from(near[i]) * (ONE - fx) + i32::from(near[i + 1]) * fx;
+    (across(0) * (ONE - fy) + across(plane.width) * fy + HALF) >> (2 * WEIGHT)
 }
 
 /// The value at a place, edges repeated.
 fn between(plane: &Plane, (x, y): (i32, i32)) -> i32 {
-    let fraction = |place: i32| (place >> (FRACTION - WEIGHT)) & (ONE - 1);
     let (fx, fy) = (fraction(x), fraction(y));
     let inside = |place: i32, side: usize| place.clamp(0, side as i32 - 1) as usize;
     let (left, top) = (x >> FRACTION, y >> FRACTION);
@@ -153,6 +183,28 @@ mod tests {
             assert!(truth[block] < 16.0 && other[block] > 4.0 * truth[block], "{truth:?} {other:?}");
             let own = by_word(pair, block, word);
             assert!((own - truth[block]).abs() < 1.0, "{own} {}", truth[block]);
+        }
+    }
+
+    #[test]
+    fn a_row_is_its_values_one_by_one() {
+        let plane = plane(0.3, 0.7);
+        let models = [
+            Model::translation(2.3, -1.7),
+            Model::translation(-9.1, 40.0),
+            Model { gm_type: 3, numbers: [1.5, -0.4, 1.02, -0.03, 0.05, 0.97] },
+            Model { gm_type: 3, numbers: [-3.0, 4.0, 0.9, 0.2, -0.1, 1.1] },
+        ];
+        for model in models {
+            let fixed = |place: f64| (place * 65536.0) as i32;
+            let [m0, m1, m2, m3, m4, m5] = model.numbers;
+            for (x, y) in [(0, 0), (16, 17), (32, 40), (48, 47)] {
+                let (fx, fy) = (f64::from(x), f64::from(y));
+                let (at_x, at_y) = (fixed(m2 * fx + m3 * fy + m0), fixed(m4 * fx + m5 * fy + m1));
+                let one = |i: i32| between(&plane, (at_x + i * fixed(m2), at_y + i * fixed(m4)));
+                let row = moved(&plane, &model, x as usize, y as usize);
+                assert_eq!(row.to_vec(), (0..16).map(one).collect::<Vec<_>>(), "{model:?} at {x}, {y}");
+            }
         }
     }
 

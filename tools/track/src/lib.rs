@@ -31,6 +31,7 @@ mod cost;
 mod found;
 mod left;
 mod model;
+mod named;
 mod normalise;
 mod plane;
 mod polish;
@@ -45,6 +46,7 @@ mod warning;
 
 pub use answer::{Answer, How, Status};
 pub use model::Model;
+pub use named::Named;
 pub use normalise::Detail;
 pub use refused::Refused;
 pub use shares::{Common, Shares};
@@ -146,7 +148,8 @@ impl Planes {
         if let Some(given) = words.map(<[u32]>::len).filter(|given| *given != wanted) {
             return Err(Refused::Words { given, wanted });
         }
-        if let Some(status) = self.nothing {
+        let all_out = options.mask.is_some_and(|mask| mask.iter().all(|out| *out));
+        if let Some(status) = self.nothing.or(all_out.then_some(Status::NoBlocks)) {
             return Ok(Answer::nothing(status, wanted));
         }
         let kept: Vec<bool> = options.mask.map_or(vec![true; wanted], |mask| mask.iter().map(|out| !out).collect());

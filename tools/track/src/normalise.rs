@@ -50,7 +50,7 @@ impl Detail {
         if pels.len() != width * height {
             return Err(Refused::Pels { given: pels.len(), wanted: width * height });
         }
-        let values = if pels.is_empty() { Vec::new() } else { less_around(&smoothed(frame), width, height) };
+        let values = if pels.is_empty() { Vec::new() } else { less_around(frame) };
         let unit = SCALE / f64::from(most.max(1)) / f64::from(WEIGHTS * WINDOW);
         let is_flat = pels.iter().all(|pel| *pel == pels[0]);
         Ok(Self { width, height, deviation: unit * deviation(&values), values, unit, is_flat })
@@ -58,8 +58,8 @@ impl Detail {
 
     fn plane(&self, contrast: f64) -> Plane {
         let factor = (self.unit * contrast) as f32;
-        // the cast rounds down, and holds what is below 0
-        let pel = |&value: &i32| (value as f32 * factor + (MIDDLE + 0.5) as f32).min(MOST) as u16;
+        // the cast rounds down
+        let pel = |&value: &i32| (value as f32 * factor + (MIDDLE + 0.5) as f32).clamp(0.0, MOST) as i32 as u16;
         Plane { width: self.width, height: self.height, pels: self.values.iter().map(pel).collect() }
     }
 }
@@ -85,39 +85,24 @@ pub(crate) fn planes(first: &Detail, second: &Detail) -> (Plane, Plane) {
     (first.plane(1.0), second.plane(contrast))
 }
 
-/// Weights 1, 2, 1 across and down, edges repeated.
-fn smoothed(frame: &Frame<'_>) -> Vec<u32> {
+/// Each smoothed value [`WINDOW`] times, less the sum over the window around it, edges repeated.
+fn less_around(frame: &Frame<'_>) -> Vec<i32> {
     let (width, height) = (frame.width, frame.height);
-    let mut smooth = vec![0; width * height];
-    let row = |y: usize| &frame.pels[y * width..][..width];
-    let mut column = vec![0u32; width + 2];
-    for (y, out) in smooth.chunks_exact_mut(width).enumerate() {
-        let rows = row(y.saturating_sub(1)).iter().zip(row(y)).zip(row((y + 1).min(height - 1)));
-        for (sum, ((&above, &own), &below)) in column[1..=width].iter_mut().zip(rows) {
-            *sum = u32::from(above) + 2 * u32::from(own) + u32::from(below);
-        }
-        column[0] = column[1];
-        column[width + 1] = column[width];
-        for (out, near) in out.iter_mut().zip(column.windows(3)) {
-            *out = near[0] + 2 * near[1] + near[2];
-        }
-    }
-    smooth
-}
-
-/// Each value [`WINDOW`] times, less the sum over the window around it, edges repeated.
-fn less_around(values: &[u32], width: usize, height: usize) -> Vec<i32> {
-    let across = summed_across(values, width);
-    let row = |y: usize| &across[y.min(height - 1) * width..][..width];
+    let mut rows = Rows::of(frame);
     // the window of the row before the first
     let mut sums = vec![0u32; width];
     for step in 0..=2 * REACH {
-        sums.iter_mut().zip(row(step.saturating_sub(REACH + 1))).for_each(|(sum, &value)| *sum += value);
+        let row = step.saturating_sub(REACH + 1).min(height - 1);
+        rows.reach(row);
+        sums.iter_mut().zip(rows.across(row)).for_each(|(sum, &value)| *sum += value);
     }
-    let mut less = vec![0; values.len()];
-    for (y, (less, own)) in less.chunks_exact_mut(width).zip(values.chunks_exact(width)).enumerate() {
-        let changes = row(y + REACH).iter().zip(row(y.saturating_sub(REACH + 1)));
-        for (((less, &own), sum), (&enters, &leaves)) in less.iter_mut().zip(own).zip(&mut sums).zip(changes) {
+    let mut less = vec![0; width * height];
+    for (y, less) in less.chunks_exact_mut(width).enumerate() {
+        let (enters, leaves) = ((y + REACH).min(height - 1), y.saturating_sub(REACH + 1));
+        rows.reach(enters);
+        let changes = rows.across(enters).iter().zip(rows.across(leaves));
+        for (((less, &own), sum), (&enters, &leaves)) in less.iter_mut().zip(rows.smooth(y)).zip(&mut sums).zip(changes)
+        {
             *sum = *sum + enters - leaves;
             // both at most 16 · 65,535 · 961 < 2^31
             *less = (own * WINDOW) as i32 - *sum as i32;
@@ -126,21 +111,77 @@ fn less_around(values: &[u32], width: usize, height: usize) -> Vec<i32> {
     less
 }
 
-/// For each value the sum over the window's width around it, edges repeated.
-fn summed_across(values: &[u32], width: usize) -> Vec<u32> {
-    let mut across = vec![0; values.len()];
-    let mut padded = vec![0u32; width + 2 * REACH + 1];
-    for (row, out) in values.chunks_exact(width).zip(across.chunks_exact_mut(width)) {
-        padded[..=REACH].fill(row[0]);
-        padded[REACH + 1..][..width].copy_from_slice(row);
-        padded[REACH + 1 + width..].fill(row[width - 1]);
-        let mut sum: u32 = padded[..=2 * REACH].iter().sum();
-        for ((out, &leaves), &enters) in out.iter_mut().zip(&padded).zip(&padded[2 * REACH + 1..]) {
-            sum = sum + enters - leaves;
-            *out = sum;
+/// The last rows of a frame that a window has and the one that leaves it, so that they stay near the processor.
+struct Rows<'a> {
+    frame: &'a Frame<'a>,
+    /// So many were made, the smoothed row and its sums over the window's width, one for each place of the ring.
+    made: usize,
+    smooth: Vec<u32>,
+    across: Vec<u32>,
+    column: Vec<u32>,
+    padded: Vec<u32>,
+}
+
+impl<'a> Rows<'a> {
+    /// The rows of the ring.
+    const COUNT: usize = 2 * REACH + 2;
+
+    fn of(frame: &'a Frame<'a>) -> Self {
+        let ring = || vec![0; Self::COUNT * frame.width];
+        let (column, padded) = (vec![0; frame.width + 2], vec![0; frame.width + 2 * REACH + 1]);
+        Self { frame, made: 0, smooth: ring(), across: ring(), column, padded }
+    }
+
+    fn place(&self, y: usize) -> std::ops::Range<usize> {
+        let from = y % Self::COUNT * self.frame.width;
+        from..from + self.frame.width
+    }
+
+    fn smooth(&self, y: usize) -> &[u32] {
+        &self.smooth[self.place(y)]
+    }
+
+    fn across(&self, y: usize) -> &[u32] {
+        &self.across[self.place(y)]
+    }
+
+    /// Makes the rows up to this one.
+    fn reach(&mut self, y: usize) {
+        while self.made <= y {
+            let place = self.place(self.made);
+            smooth(self.frame, self.made, &mut self.column, &mut self.smooth[place.clone()]);
+            sum_across(&self.smooth[place.clone()], &mut self.padded, &mut self.across[place]);
+            self.made += 1;
         }
     }
-    across
+}
+
+/// A row with weights 1, 2, 1 across and down, edges repeated.
+fn smooth(frame: &Frame<'_>, y: usize, column: &mut [u32], out: &mut [u32]) {
+    let (width, height) = (frame.width, frame.height);
+    let row = |y: usize| &frame.pels[y * width..][..width];
+    let rows = row(y.saturating_sub(1)).iter().zip(row(y)).zip(row((y + 1).min(height - 1)));
+    for (sum, ((&above, &own), &below)) in column[1..=width].iter_mut().zip(rows) {
+        *sum = u32::from(above) + 2 * u32::from(own) + u32::from(below);
+    }
+    column[0] = column[1];
+    column[width + 1] = column[width];
+    for (out, near) in out.iter_mut().zip(column.windows(3)) {
+        *out = near[0] + 2 * near[1] + near[2];
+    }
+}
+
+/// For each value of a row the sum over the window's width around it, edges repeated.
+fn sum_across(row: &[u32], padded: &mut [u32], out: &mut [u32]) {
+    let width = row.len();
+    padded[..=REACH].fill(row[0]);
+    padded[REACH + 1..][..width].copy_from_slice(row);
+    padded[REACH + 1 + width..].fill(row[width - 1]);
+    let mut sum: u32 = padded[..=2 * REACH].iter().sum();
+    for ((out, &leaves), &enters) in out.iter_mut().zip(&*padded).zip(&padded[2 * REACH + 1..]) {
+        sum = sum + enters - leaves;
+        *out = sum;
+    }
 }
 
 #[cfg(test)]

@@ -78,12 +78,20 @@ fn step(pair: Pair<'_>, x: usize, y: usize, model: &Model) -> (f64, f64) {
         let [across, down] = slopes(pair.first, x, row);
         let moved = left::moved(pair.second, model, x, row);
         let own = &pair.first.row(row)[x..][..BLOCK_SIDE];
-        for i in 0..BLOCK_SIDE {
-            let (gx, gy, difference) = (across[i], down[i], (i32::from(own[i]) - moved[i]) as f32);
-            let terms = [gx, gy, difference, gx * gx, gx * gy, gy * gy, gx * difference, gy * difference];
-            for (sum, term) in sums.iter_mut().zip(terms) {
-                sum[i] += term;
-            }
+        let difference: [f32; BLOCK_SIDE] = std::array::from_fn(|i| (i32::from(own[i]) - moved[i]) as f32);
+        let [sx, sy, sd, xx, xy, yy, xd, yd] = &mut sums;
+        for (sum, one) in [(sx, &across), (sy, &down), (sd, &difference)] {
+            (0..BLOCK_SIDE).for_each(|i| sum[i] += one[i]);
+        }
+        let products = [
+            (xx, &across, &across),
+            (xy, &across, &down),
+            (yy, &down, &down),
+            (xd, &across, &difference),
+            (yd, &down, &difference),
+        ];
+        for (sum, one, other) in products {
+            (0..BLOCK_SIDE).for_each(|i| sum[i] += one[i] * other[i]);
         }
     }
     let [sx, sy, sd, xx, xy, yy, xd, yd] = sums.map(|lanes| f64::from(lanes.iter().sum::<f32>()));

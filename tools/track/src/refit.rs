@@ -32,7 +32,7 @@ pub(crate) struct Refitted {
 }
 
 /// The library's plain fit of a type.
-fn fit(gm_type: u8, words: &[u32]) -> Option<Model> {
+pub(crate) fn fit(gm_type: u8, words: &[u32]) -> Option<Model> {
     let fitted = match gm_type {
         TRANSLATION => belt::fit_translation(words),
         ROTZOOM => belt::fit_rotzoom(words),

@@ -15,6 +15,8 @@ const STEEP: f64 = 0.14;
 const REACH: f32 = 0.75;
 /// A draw is judged by about so many blocks.
 const JUDGES: usize = 600;
+/// Sums are made in so many lanes.
+const LANES: usize = 8;
 
 /// The practice belt's generator (docs/RULES.md, 'Practice belt').
 struct Generator(u32);
@@ -37,8 +39,9 @@ struct Best {
 impl Best {
     const NONE: Self = Self { model: None, cost: f32::INFINITY };
 
-    fn offer(&mut self, model: Model, judges: &Cloud) {
-        if let Some(cost) = cost(&model, judges, self.cost) {
+    fn offer(&mut self, model: Model, judges: &mut Judges) {
+        let cost = judges.cost(&model);
+        if cost < self.cost {
             *self = Self { model: Some(model), cost };
         }
     }
@@ -46,28 +49,41 @@ impl Best {
 
 /// Two starts at most: the best rotation-zoom or translation, and the best affine map.
 pub(crate) fn starts(cloud: &Cloud) -> Vec<Model> {
-    let judges = cloud.thinned(JUDGES);
+    let mut judges = Judges { cloud: cloud.thinned(JUDGES), squares: Vec::new() };
     let mut generator = Generator(1);
     let (mut plain, mut affine) = (Best::NONE, Best::NONE);
     for _ in 0..if cloud.len() == 0 { 0 } else { DRAWS } {
         let drawn = [0; 3].map(|_| generator.below(cloud.len()));
         let [first, second, third] = drawn.map(|i| [cloud.x[i], cloud.y[i], cloud.u[i], cloud.v[i]].map(f64::from));
         let Some(rotzoom) = through_two(first, second) else {
-            plain.offer(Model::translation(first[2], first[3]), &judges);
+            plain.offer(Model::translation(first[2], first[3]), &mut judges);
             continue;
         };
-        plain.offer(rotzoom, &judges);
+        plain.offer(rotzoom, &mut judges);
         if let Some(model) = through_three(first, second, third) {
-            affine.offer(model, &judges);
+            affine.offer(model, &mut judges);
         }
     }
     [plain, affine].into_iter().filter_map(|best| best.model).collect()
 }
 
-/// Half a sum of capped squares; none if it reaches the best so far.
-fn cost(model: &Model, judges: &Cloud, best: f32) -> Option<f32> {
-    let cost: f32 = judges.squares(model).map(|square| square.min(REACH * REACH)).sum();
-    (cost < best).then_some(cost)
+/// The blocks that draws are judged by, and room for their squares.
+struct Judges {
+    cloud: Cloud,
+    squares: Vec<f32>,
+}
+
+impl Judges {
+    /// The sum of the capped squares, in lanes.
+    fn cost(&mut self, model: &Model) -> f32 {
+        self.squares.clear();
+        self.squares.extend(self.cloud.squares(model).map(|square| square.min(REACH * REACH)));
+        let mut lanes = [0f32; LANES];
+        for squares in self.squares.chunks(LANES) {
+            lanes.iter_mut().zip(squares).for_each(|(lane, square)| *lane += square);
+        }
+        lanes.iter().sum()
+    }
 }
 
 /// The rotation-zoom through two samples x, y, u, v, where they lie apart and it isn't steep.

@@ -54,7 +54,7 @@ fn a_mask_may_leave_nothing() {
     let [first, second] = [&pels[0], &pels[1]].map(|pels| Frame { pels, width: 96, height: 96, most: 65_535 });
     let options = |mask| Options { mask: Some(mask), fast: false };
     let answer = track::measure(&first, &second, &options(&[true; 36])).unwrap();
-    assert_eq!((answer.status, answer.usable, answer.agree), (Status::Unexplained, 0, 0));
+    assert_eq!((answer.status, answer.usable, answer.agree), (Status::NoBlocks, 0, 0));
     let answer = track::measure(&first, &second, &options(&[false; 36])).unwrap();
     assert_eq!((answer.status, answer.usable), (Status::Still, 36));
     let refused = track::measure(&first, &second, &options(&[true; 35]));

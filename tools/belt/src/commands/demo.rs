@@ -2,12 +2,12 @@
 
 use crate::demo;
 use crate::failure::Failure;
-use crate::frames::Frame;
 use crate::measure::{Job, measure};
 use crate::output::{Files, print, shown};
 use crate::picture;
 use crate::tracked::plot::Plot;
 use crate::tracked::{Pair, Row, Scale, Summary};
+use frames::Frame;
 use std::fs;
 use std::path::Path;
 

@@ -3,14 +3,14 @@
 use super::flag_and_prior;
 use crate::cli::Measure;
 use crate::failure::Failure;
-use crate::frames::{self, Frame, Part};
 use crate::lists;
-use crate::measure::{Job, Measured, measure};
+use crate::measure::{Job, Measured, judged, measure};
 use crate::model::Asked;
 use crate::output::{self, Files};
 use crate::picture;
 use crate::report::{json, words};
 use belt::ClassSet;
+use frames::{Frame, Part};
 use std::path::{Path, PathBuf};
 
 pub fn run(words: &Measure) -> Result<(), Failure> {
@@ -126,7 +126,7 @@ fn frames(place: &Path, before: Option<Frame>, next: &Path, part: Part) -> Resul
         }
         Err(opened) => {
             frames::alike(opened.looks(), reference.looks())?;
-            frames::judged(&opened.name, part, opened.sides())?;
+            judged(&opened.name, part, opened.sides())?;
             opened.read(part)?
         }
     };

@@ -12,10 +12,11 @@ mod track;
 
 use crate::cli::{self, Command, Header, Seen};
 use crate::failure::Failure;
-use crate::frames::{self, Frame};
 use crate::lists;
+use crate::measure::judged;
 use crate::output::{Files, print};
 use belt::{IDENTITIES, Kind, StoredModel};
+use frames::Frame;
 use std::path::Path;
 
 /// Runs the command that the words name.
@@ -58,8 +59,8 @@ fn flag_and_prior(header: &Header) -> Result<(u8, [StoredModel; 7]), Failure> {
 fn mask(seen: &Seen) -> Result<Option<Frame>, Failure> {
     let Some(path) = &seen.mask else { return Ok(None) };
     let opened = frames::open(path)?;
-    frames::judged(&opened.name, seen.part(), opened.sides())?;
-    opened.read(seen.part()).map(Some)
+    judged(&opened.name, seen.part(), opened.sides())?;
+    Ok(Some(opened.read(seen.part())?))
 }
 
 /// Inputs and outputs, before anything is read; standard input can be read once alone.

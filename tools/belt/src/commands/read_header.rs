@@ -9,6 +9,7 @@ use crate::output::{print, shown};
 use crate::report::json;
 use crate::report::words;
 use belt::{Kind, Models};
+use hex::FromHexError;
 use serde::Serialize;
 use std::fmt::Write;
 use std::path::Path;
@@ -30,15 +31,10 @@ pub fn run(place: &Path, at: usize, hex: bool, header: &Header, kind: Kind, json
 /// Bytes from hexadecimal digits, with spaces or without.
 fn digits(text: &[u8]) -> Result<Vec<u8>, String> {
     let digits: Vec<u8> = text.iter().copied().filter(|byte| !byte.is_ascii_whitespace()).collect();
-    let digit = |&byte: &u8| {
-        let value = char::from(byte).to_digit(16).map(|value| value as u8);
-        value.ok_or(format!("'{}' is no hexadecimal digit", char::from(byte).escape_default()))
-    };
-    let values: Vec<u8> = digits.iter().map(digit).collect::<Result<_, _>>()?;
-    if values.len() % 2 == 1 {
-        return Err(format!("it has {} hexadecimal digits; a byte has two", values.len()));
-    }
-    Ok(values.chunks(2).map(|pair| pair[0] << 4 | pair[1]).collect())
+    hex::decode(&digits).map_err(|error| match error {
+        FromHexError::InvalidHexCharacter { c, .. } => format!("'{}' is no hexadecimal digit", c.escape_default()),
+        _ => format!("it has {} hexadecimal digits; a byte has two", digits.len()),
+    })
 }
 
 fn in_words(read: &Models, at: usize) -> String {

@@ -4,16 +4,16 @@ use crate::failure::Failure;
 use crate::lists;
 use crate::model::{self, IDENTITY, TYPES};
 use crate::output::{self, Out, shown, unwritten};
-use crate::recorded::{Of, Player, Replayed};
 use crate::report::json;
 use crate::report::words::{count, many, moved};
+use record::{Of, Player, Replayed};
 use serde::Serialize;
 use std::io::{BufWriter, Write};
 use std::path::{Path, PathBuf};
 
 pub fn run(headers: &Path, blocks: Option<&PathBuf>, json: bool) -> Result<(), Failure> {
     super::judge([headers].into_iter().chain(blocks.map(PathBuf::as_path)), [])?;
-    let opened = |place: &Path| Ok((shown(place), lists::open(place)?));
+    let opened = |place: &Path| Ok::<_, Failure>((shown(place), lists::open(place)?));
     let samples = blocks.map(|place| opened(place)).transpose()?;
     let mut player = Player::begin(opened(headers)?, samples)?;
     let mut out = BufWriter::new(Out);

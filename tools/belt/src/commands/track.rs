@@ -1,16 +1,16 @@
 //! belt track: a clip in, its motion out pair by pair.
 
 use crate::cli::Track;
+use crate::clip::{Chosen, Clip, Turn};
 use crate::failure::Failure;
-use crate::frames::{self, Chosen, Clip, Turn};
 use crate::measure::{Job, measure_planes};
 use crate::ordered;
 use crate::output::{self, At, Files};
-use crate::recorded::Recorder;
 use crate::report::json;
 use crate::tracked::plot::Plot;
 use crate::tracked::{Pair, Row, Scale, Summary};
 use indicatif::{ProgressBar, ProgressStyle};
+use record::{Found, Recorder};
 use std::io::{self, IsTerminal};
 use std::path::{Path, PathBuf};
 use std::sync::Arc;
@@ -128,7 +128,7 @@ fn measured(two: Two, job: &Job, rate: Option<f64>, millimetres: Option<f64>) ->
                     found => found.map_err(|failure| failure.what()),
                 }
             }
-            Err(unlike) => Err(format!("{}: {}", second.name, unlike.what())),
+            Err(unlike) => Err(format!("{}: {}", second.name, unlike.what)),
         },
         (Err(reason), _) => Err(format!("{}: {reason}", first.name)),
         (_, Err(reason)) => Err(format!("{}: {reason}", second.name)),
@@ -194,7 +194,15 @@ impl Told {
             return Ok(());
         }
         let refused = |refusal| Failure::refused(format!("{} to {}", pair.first, pair.second), refusal);
-        let stored = self.recorder.pair(pair).map_err(refused)?;
+        let found = pair.found.as_ref().ok().map(|found| Found {
+            status: found.answer.status,
+            halvings: found.times.trailing_zeros() as u8,
+            sides: (found.width as u16, found.height as u16),
+            types: &found.report.types,
+            models: &found.report.models,
+            words: &found.samples,
+        });
+        let stored = self.recorder.pair(pair.frames, found.as_ref()).map_err(refused)?;
         self.blocks.map_or(Ok(()), |blocks| files.append(blocks, &stored.blocks))?;
         self.headers.map_or(Ok(()), |headers| files.append(headers, &stored.headers))
     }

@@ -2,7 +2,7 @@
 
 mod scene;
 
-use crate::frames::Frame;
+use frames::Frame;
 use scene::Scene;
 
 /// The sides of the clip, and its frames.

@@ -1,98 +1,75 @@
 //! The scene as pixels.
 
 use super::{ADVANCE, Colour, HALO, HALO_SHARE, HALO_WIDTH, INK, PAPER, Point, Scene, Strokes, Text, font};
-use std::ops::Range;
-
-struct Canvas {
-    width: usize,
-    height: usize,
-    pixels: Vec<Colour>,
-}
+use tiny_skia::{Color, LineCap, LineJoin, Paint, Path, PathBuilder, Pixmap, PixmapPaint, Rect, Stroke, Transform};
 
 pub fn draw(scene: &Scene) -> Vec<u8> {
-    let (width, height) = (scene.width, scene.height);
-    let mut canvas = Canvas { width, height, pixels: vec![PAPER; width * height] };
-    canvas.input(scene);
+    let mut canvas = Pixmap::new(scene.width as u32, scene.height as u32).expect("a scene has sides");
+    canvas.fill(shade(PAPER, 1.0));
+    input(&mut canvas, scene);
     for strokes in &scene.strokes {
-        canvas.stroke(strokes, strokes.radius + HALO_WIDTH, HALO, HALO_SHARE);
-        canvas.stroke(strokes, strokes.radius, strokes.colour, 1.0);
+        stroke(&mut canvas, strokes, strokes.radius + HALO_WIDTH, shade(HALO, HALO_SHARE));
+        stroke(&mut canvas, strokes, strokes.radius, shade(strokes.colour, 1.0));
     }
-    for text in &scene.texts {
-        canvas.text(text, scene.dot);
+    for letters in &scene.texts {
+        text(&mut canvas, letters, scene.dot);
     }
-    super::png([width, height], ::png::ColorType::Rgb, canvas.pixels.as_flattened())
+    let pixels = canvas.pixels().iter().flat_map(|pixel| [pixel.red(), pixel.green(), pixel.blue()]);
+    super::png([scene.width, scene.height], ::png::ColorType::Rgb, &pixels.collect::<Vec<_>>())
 }
 
-impl Canvas {
-    /// The input, each pel a square.
-    fn input(&mut self, scene: &Scene) {
-        let ([width, height], scale) = (scene.sides, scene.scale);
-        for y in 0..height * scale {
-            for x in 0..width * scale {
-                let shade = scene.grey[y / scale * width + x / scale];
-                self.pixels[(scene.corner[1] + y) * self.width + scene.corner[0] + x] = [shade; 3];
-            }
+fn shade([red, green, blue]: Colour, share: f64) -> Color {
+    Color::from_rgba8(red, green, blue, (255.0 * share).round() as u8)
+}
+
+fn paint(colour: Color) -> Paint<'static> {
+    let mut paint = Paint { anti_alias: true, ..Paint::default() };
+    paint.set_color(colour);
+    paint
+}
+
+/// The input, each pel a square.
+fn input(canvas: &mut Pixmap, scene: &Scene) {
+    let [width, height] = scene.sides.map(|side| side as u32);
+    let mut input = Pixmap::new(width, height).expect("a picture has sides");
+    for (pixel, &grey) in input.data_mut().chunks_exact_mut(4).zip(&scene.grey) {
+        pixel.copy_from_slice(&[grey, grey, grey, 255]);
+    }
+    let (scale, [left, top]) = (scene.scale as f32, scene.corner.map(|place| place as f32));
+    let place = Transform::from_row(scale, 0.0, 0.0, scale, left, top);
+    canvas.draw_pixmap(0, 0, input.as_ref(), &PixmapPaint::default(), place, None);
+}
+
+/// A path of all lines, so that a pixel where two of them cross is coloured once.
+fn path(lines: &[Vec<Point>]) -> Option<Path> {
+    let mut path = PathBuilder::new();
+    for line in lines {
+        for (i, [x, y]) in line.iter().map(|point| point.map(|place| place as f32)).enumerate() {
+            if i == 0 { path.move_to(x, y) } else { path.line_to(x, y) }
         }
     }
+    path.finish()
+}
 
-    /// Lines of a radius with round ends. Where two of them cross, a pixel is coloured once.
-    fn stroke(&mut self, strokes: &Strokes, radius: f64, colour: Colour, share: f64) {
-        if strokes.lines.is_empty() {
-            return;
-        }
-        let ends = || strokes.lines.iter().flatten();
-        let (rows, columns) = (reached(ends().map(|end| end[1]), radius, self.height), 0..self.width);
-        let mut covered = vec![0.0f32; rows.len() * self.width];
-        for line in &strokes.lines {
-            for ends in line.windows(2) {
-                cover(&mut covered, &rows, &columns, [ends[0], ends[1]], radius);
-            }
-        }
-        let pixels = &mut self.pixels[rows.start * self.width..rows.end * self.width];
-        for (pixel, &part) in pixels.iter_mut().zip(&covered).filter(|(_, part)| **part > 0.0) {
-            let part = f64::from(part) * share;
-            let mix = |i: usize| f64::from(pixel[i]) * (1.0 - part) + f64::from(colour[i]) * part;
-            *pixel = [mix(0), mix(1), mix(2)].map(|value| value.round() as u8);
-        }
-    }
-
-    /// A text whose letters have dots of a side.
-    fn text(&mut self, text: &Text, dot: usize) {
-        let [left, top] = text.at.map(|place| place as usize);
-        for (i, letter) in text.text.chars().enumerate() {
-            for y in 0..font::HEIGHT * dot {
-                for x in 0..font::WIDTH * dot {
-                    let (row, column) = (top + y, left + i * ADVANCE * dot + x);
-                    if font::pixel(letter, y / dot, x / dot) && row < self.height && column < self.width {
-                        self.pixels[row * self.width + column] = INK;
-                    }
-                }
-            }
-        }
+/// Lines of a radius with round ends.
+fn stroke(canvas: &mut Pixmap, strokes: &Strokes, radius: f64, colour: Color) {
+    let (line_cap, line_join) = (LineCap::Round, LineJoin::Round);
+    let stroke = Stroke { width: 2.0 * radius as f32, line_cap, line_join, ..Stroke::default() };
+    if let Some(path) = path(&strokes.lines) {
+        canvas.stroke_path(&path, &paint(colour), &stroke, Transform::identity(), None);
     }
 }
 
-/// The pixels of a side that lines of a radius reach, from one of their ends at least.
-fn reached(ends: impl Iterator<Item = f64> + Clone, radius: f64, side: usize) -> Range<usize> {
-    let held = |value: f64| value.clamp(0.0, side as f64) as usize;
-    let least = ends.clone().fold(f64::INFINITY, f64::min);
-    let most = ends.fold(f64::NEG_INFINITY, f64::max);
-    held(least - radius - 1.0)..held(most + radius + 2.0)
-}
-
-/// How much of each pixel of some rows a line covers, by the distance of its centre.
-fn cover(covered: &mut [f32], rows: &Range<usize>, columns: &Range<usize>, [from, to]: [Point; 2], radius: f64) {
-    let along = [to[0] - from[0], to[1] - from[1]];
-    let square = along[0] * along[0] + along[1] * along[1];
-    for y in reached([from[1], to[1]].into_iter(), radius, rows.end) {
-        for x in reached([from[0], to[0]].into_iter(), radius, columns.end) {
-            let [px, py] = [x as f64 + 0.5 - from[0], y as f64 + 0.5 - from[1]];
-            let nearest = if square > 0.0 { (px * along[0] + py * along[1]) / square } else { 0.0 };
-            let nearest = nearest.clamp(0.0, 1.0);
-            let distance = (px - nearest * along[0]).hypot(py - nearest * along[1]);
-            let part = (radius + 0.5 - distance).clamp(0.0, 1.0) as f32;
-            let own = &mut covered[(y - rows.start) * columns.len() + x];
-            *own = own.max(part);
+/// A text whose letters have dots of a side.
+fn text(canvas: &mut Pixmap, text: &Text, dot: usize) {
+    let ([left, top], dot) = (text.at.map(|place| place as f32), dot as f32);
+    let ink = Paint { anti_alias: false, ..paint(shade(INK, 1.0)) };
+    let dots = (0..font::HEIGHT).flat_map(|row| (0..font::WIDTH).map(move |column| (row, column)));
+    for (i, letter) in text.text.chars().enumerate() {
+        for (row, column) in dots.clone().filter(|(row, column)| font::pixel(letter, *row, *column)) {
+            let (x, y) = (left + (i * ADVANCE + column) as f32 * dot, top + row as f32 * dot);
+            let square = Rect::from_xywh(x, y, dot, dot).expect("a dot has a side");
+            canvas.fill_rect(square, &ink, Transform::identity(), None);
         }
     }
 }
@@ -101,22 +78,30 @@ fn cover(covered: &mut [f32], rows: &Range<usize>, columns: &Range<usize>, [from
 mod tests {
     use super::*;
 
+    fn canvas(width: u32, height: u32) -> Pixmap {
+        let mut canvas = Pixmap::new(width, height).unwrap();
+        canvas.fill(Color::WHITE);
+        canvas
+    }
+
     #[test]
-    fn a_line_covers_what_lies_on_it() {
-        let mut canvas = Canvas { width: 9, height: 5, pixels: vec![[255; 3]; 45] };
-        let strokes = Strokes { colour: [0; 3], radius: 1.0, lines: vec![vec![[2.5, 2.5], [6.5, 2.5]]] };
-        canvas.stroke(&strokes, 1.0, [0; 3], 1.0);
-        let row = |y: usize| canvas.pixels[9 * y..9 * y + 9].iter().map(|pixel| pixel[0]).collect::<Vec<_>>();
-        assert_eq!(row(0), [255; 9]);
-        assert_eq!(row(2)[1..8], [128, 0, 0, 0, 0, 0, 128]);
-        assert_eq!((row(2)[0], row(1)[4]), (255, 128));
-        canvas.stroke(&Strokes { lines: vec![vec![[-40.0, 90.0], [80.0, -7.0]]], ..strokes }, 1.0, [9; 3], 1.0);
+    fn a_line_covers_what_lies_on_it_and_a_dot_is_drawn() {
+        let mut drawn = canvas(9, 5);
+        let strokes = |line: Vec<Point>| Strokes { colour: [0; 3], radius: 1.0, lines: vec![line] };
+        stroke(&mut drawn, &strokes(vec![[2.5, 2.5], [6.5, 2.5]]), 1.0, Color::BLACK);
+        let grey = |canvas: &Pixmap, x: u32, y: u32| canvas.pixel(x, y).unwrap().red();
+        assert!((3..6).all(|x| grey(&drawn, x, 2) == 0 && (100..156).contains(&grey(&drawn, x, 1))));
+        assert_eq!([grey(&drawn, 0, 2), grey(&drawn, 4, 0)], [255; 2]);
+        stroke(&mut drawn, &strokes(vec![[-40.0, 90.0], [80.0, -7.0]]), 1.0, Color::BLACK);
+        let mut dotted = canvas(7, 7);
+        stroke(&mut dotted, &strokes(vec![[3.5, 3.5], [3.5, 3.5]]), 2.0, Color::BLACK);
+        assert_eq!([grey(&dotted, 3, 3), grey(&dotted, 2, 3), grey(&dotted, 0, 0)], [0, 0, 255]);
     }
 
     #[test]
     fn letters_end_at_the_canvas() {
-        let mut canvas = Canvas { width: 8, height: 8, pixels: vec![[255; 3]; 64] };
-        canvas.text(&Text { at: [0.0, 0.0], text: "LL".into() }, 2);
-        assert_eq!((canvas.pixels[0], canvas.pixels[2]), (INK, [255; 3]));
+        let mut canvas = canvas(8, 8);
+        text(&mut canvas, &Text { at: [0.0, 0.0], text: "LL".into() }, 2);
+        assert_eq!((canvas.pixel(0, 0).unwrap().red(), canvas.pixel(2, 0).unwrap().red()), (INK[0], 255));
     }
 }

@@ -5,8 +5,8 @@ use super::{ADVANCE, Colour, MARGIN, Point, Scene, Strokes, Text};
 use crate::measure::Measured;
 use crate::model;
 use crate::report::words;
-use crate::way::How;
-use track::Status;
+use textwrap::WordSplitter;
+use track::{How, Status};
 
 /// Sizes of the legend, in dots of its letters: from line to line, between text and keys, the room for a key, and where
 /// its text begins.
@@ -19,16 +19,11 @@ const ANY: Colour = [200; 3];
 
 /// A text in lines of at most so many letters.
 fn wrapped(text: &str, letters: usize) -> Vec<String> {
-    let mut lines: Vec<String> = vec![String::new()];
-    for word in text.split(' ') {
-        let last = lines.last_mut().expect("there is a line");
-        let fits = last.is_empty() || last.chars().count() + 1 + word.chars().count() <= letters;
-        if fits && !last.is_empty() {
-            *last += " ";
-        }
-        if fits { *last += word } else { lines.push(word.into()) }
-    }
-    lines.into_iter().map(|line| cut(&line, letters)).collect()
+    let lines = textwrap::wrap(
+        text,
+        textwrap::Options::new(letters).break_words(false).word_splitter(WordSplitter::NoHyphenation),
+    );
+    lines.iter().map(|line| cut(line, letters)).collect()
 }
 
 /// A text's end, if it has more letters.
@@ -61,14 +56,13 @@ fn blocks(measured: &Measured) -> String {
         Status::Unexplained => format!("The colours are of a guess, {name}, that isn't to be trusted"),
         _ => {
             let (share, usable) = (words::per_cent(measured.share()), words::many(answer.usable, "block"));
-            let which = if matches!(answer.how, How::Tracked(_)) { " that can tell their motion" } else { "" };
+            let named = matches!(answer.how, How::Plain | How::Trimmed);
+            let which = if named { "" } else { " that can tell their motion" };
             let coarse = match answer.how {
-                How::Tracked(track::How::Shifted) => {
+                How::Shifted => {
                     " once the second picture is moved; the arrows are of the search as it is, which doesn't reach so far"
                 }
-                How::Tracked(track::How::HalfSize) => {
-                    " at half the size; the arrows are of the full size, which doesn't tell it"
-                }
+                How::HalfSize => " at half the size; the arrows are of the full size, which doesn't tell it",
                 _ => "",
             };
             format!("{share} of {usable}{which} agree with {name}{coarse}")
@@ -142,7 +136,7 @@ pub fn add(scene: &mut Scene, measured: &Measured, times: f64) {
 mod tests {
     use super::super::tests::example;
     use super::*;
-    use crate::way::Warning;
+    use crate::measure::Warning;
 
     #[test]
     fn texts_are_cut_and_wrapped() {

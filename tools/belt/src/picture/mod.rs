@@ -8,9 +8,9 @@ mod legend;
 mod svg;
 
 use crate::failure::Failure;
-use crate::frames::Frame;
 use crate::measure::Measured;
 use crate::output::shown;
+use frames::Frame;
 use std::path::Path;
 
 type Point = [f64; 2];

@@ -1,9 +1,8 @@
 //! What was measured, for programs: one object in one line.
 
 use super::words;
-use crate::measure::Measured;
+use crate::measure::{Measured, Warning};
 use crate::model::{self, TYPES};
-use crate::way::Warning;
 use belt::{Motion, StoredModel};
 use serde::Serialize;
 
@@ -13,7 +12,7 @@ pub fn line(value: &impl Serialize) -> String {
 }
 
 /// A motion in pels: nulls where none is known.
-#[derive(Serialize)]
+#[derive(Default, Serialize)]
 struct Moved {
     r#type: Option<&'static str>,
     right_pels: Option<f64>,
@@ -25,16 +24,6 @@ struct Moved {
 }
 
 impl Moved {
-    const UNKNOWN: Moved = Moved {
-        r#type: None,
-        right_pels: None,
-        down_pels: None,
-        first_pel_right: None,
-        first_pel_down: None,
-        zoom: None,
-        angle_degrees: None,
-    };
-
     fn of(model: &track::Model, middle: Motion) -> Moved {
         let first = model.motion_at(0.0, 0.0);
         Moved {
@@ -80,19 +69,6 @@ struct Common {
     share: f64,
 }
 
-/// A warning.
-#[derive(Serialize)]
-pub struct Warned<'a> {
-    pub name: &'static str,
-    text: &'a str,
-}
-
-impl<'a> Warned<'a> {
-    pub fn of(warning: &'a Warning) -> Self {
-        Warned { name: warning.name, text: &warning.text }
-    }
-}
-
 #[derive(Serialize)]
 struct Stored {
     #[serde(flatten)]
@@ -132,7 +108,7 @@ struct Pair<'a> {
     header: Header,
     frame: u16,
     models: Vec<Model>,
-    warnings: Vec<Warned<'a>>,
+    warnings: &'a [Warning],
 }
 
 pub fn pair(measured: &Measured) -> String {
@@ -149,7 +125,7 @@ pub fn pair(measured: &Measured) -> String {
         how: known.then(|| answer.how.name()),
         measured: match known {
             true => Moved::of(&measured.model(), measured.middle()),
-            false => Moved::UNKNOWN,
+            false => Moved::default(),
         },
         stored: Stored {
             model: Moved::of(&measured.stored_model(), measured.stored_middle()),
@@ -173,6 +149,6 @@ pub fn pair(measured: &Measured) -> String {
         },
         frame: settings.frame,
         models: report.types.iter().zip(&report.models).map(model).collect(),
-        warnings: measured.warnings.iter().map(Warned::of).collect(),
+        warnings: &measured.warnings,
     })
 }

@@ -2,9 +2,9 @@
 
 use crate::measure::Measured;
 use crate::model::{self, Asked};
-use crate::way::How;
 use belt::Motion;
-use track::{Common, Model, Status};
+use indicatif::HumanCount;
+use track::{Common, How, Model, Status};
 
 /// Motions below this many pels are none.
 const STILL: f64 = 0.0005;
@@ -13,15 +13,7 @@ const LEAST_ERROR: f64 = 0.001;
 
 /// A whole number with commas.
 pub fn count(number: usize) -> String {
-    let digits = number.to_string();
-    let mut text = String::new();
-    for (i, digit) in digits.chars().enumerate() {
-        if i > 0 && (digits.len() - i) % 3 == 0 {
-            text.push(',');
-        }
-        text.push(digit);
-    }
-    text
+    HumanCount(number as u64).to_string()
 }
 
 /// So many of something, in the plural but for one.
@@ -138,12 +130,10 @@ fn kind(measured: &Measured) -> String {
     let how = match measured.answer.how {
         How::Plain => return name.into(),
         How::Trimmed => "fitted without the blocks that lie far off",
-        How::Tracked(track::How::Elected) => "elected",
-        How::Tracked(track::How::Robust) => "robust: as most of the blocks say that can tell their motion",
-        How::Tracked(track::How::HalfSize) => "half-size: as the blocks say at half the size",
-        How::Tracked(track::How::Shifted) => {
-            "shifted: the second picture was moved first, by what it shows at less size"
-        }
+        How::Elected => "elected",
+        How::Robust => "robust: as most of the blocks say that can tell their motion",
+        How::HalfSize => "half-size: as the blocks say at half the size",
+        How::Shifted => "shifted: the second picture was moved first, by what it shows at less size",
     };
     format!("{name}, {how}")
 }
@@ -154,8 +144,8 @@ fn agreement(measured: &Measured) -> String {
     let (agree, usable, share) = (count(answer.agree), many(answer.usable, "block"), per_cent(measured.share()));
     let which = match answer.how {
         How::Plain | How::Trimmed => "",
-        How::Tracked(track::How::HalfSize) => " of the half size that can tell their motion",
-        How::Tracked(_) => " that can tell their motion",
+        How::HalfSize => " of the half size that can tell their motion",
+        _ => " that can tell their motion",
     };
     let halved = if measured.times > 1 { " of the halved picture" } else { "" };
     let masked = match measured.blocks.len() - measured.used().count() {

@@ -9,6 +9,8 @@ use std::error::Error;
 const SIZE: (u32, u32) = (960, 640);
 /// Pairs are gathered by two as soon as there are more points than this.
 const MOST: usize = 2048;
+/// The room above all values, of theirs, in which the legend hides none.
+const HEADROOM: f64 = 0.45;
 /// With fewer points than this each has a dot.
 const FEW: usize = 150;
 const SPEED: RGBColor = RGBColor(0, 0, 0);
@@ -139,6 +141,7 @@ impl Plot {
         values: std::ops::Range<f64>,
         name: &str,
     ) -> Result<Chart<'a, 'f>, Box<dyn Error>> {
+        let values = values.start..values.end + HEADROOM * (values.end - values.start);
         let mut chart = ChartBuilder::on(area)
             .margin(10)
             .margin_right(24)
@@ -290,6 +293,20 @@ mod tests {
         assert_eq!(speeds.iter().map(Vec::len).collect::<Vec<_>>(), [2, 2]);
         assert!((plot.end[0] + 4.0).abs() < 0.2);
         let svg = plot.svg("a & b", &[]).unwrap();
+        let numbers = |name: &str, element: &str| -> f64 {
+            let from = element.find(&format!(" {name}=\"")).unwrap() + name.len() + 3;
+            element[from..].split('"').next().unwrap().parse().unwrap()
+        };
+        let elements = |name: &str, with: &str| -> Vec<String> {
+            let own = svg.split('<').filter(|element| element.starts_with(name) && element.contains(with));
+            own.map(String::from).collect()
+        };
+        // no dot lies under the legend of its chart, which is the half of the picture that it is in
+        for legend in elements("rect", "opacity=\"0.85\"") {
+            let (top, end) = (numbers("y", &legend), numbers("y", &legend) + numbers("height", &legend));
+            let dots = elements("circle", "r=\"3\"").iter().map(|dot| numbers("cy", dot)).collect::<Vec<_>>();
+            assert!(dots.iter().all(|dot| *dot < top - 5.0 || *dot > end), "{legend}: {dots:?}");
+        }
         assert!(svg.contains("nothing measured") && svg.contains("a &amp; b") && !svg.contains("warned of"), "{svg}");
     }
 

@@ -1,103 +1,62 @@
 //! A pair as a row: a name and a value for each column, the same in a table and in JSON.
 
 use super::Pair;
+use crate::measure::Measured;
 use crate::model::TYPES;
-use crate::report::json::Warned;
 use belt::Motion;
 use serde::ser::{Serialize, SerializeMap, Serializer};
+use serde_json::{Value, json};
 use track::Status;
 
 /// Digits behind the point: a millionth of a pel is no knowledge.
 const DIGITS: f64 = 1e6;
 
-/// What stands in a column.
-enum Cell<'a> {
-    None,
-    Whole(u64),
-    Number(f64),
-    Text(&'a str),
-    Warnings(Vec<Warned<'a>>),
-}
-
-impl<T: Into<Self>> From<Option<T>> for Cell<'_> {
-    fn from(cell: Option<T>) -> Self {
-        cell.map_or(Cell::None, Into::into)
-    }
-}
-
-impl From<f64> for Cell<'_> {
-    fn from(number: f64) -> Self {
-        // no -0
-        Cell::Number((number * DIGITS).round() / DIGITS + 0.0)
-    }
-}
-
-impl From<usize> for Cell<'_> {
-    fn from(number: usize) -> Self {
-        Cell::Whole(number as u64)
-    }
-}
-
-impl<'a> From<&'a str> for Cell<'a> {
-    fn from(text: &'a str) -> Self {
-        Cell::Text(text)
-    }
-}
-
-impl Serialize for Cell<'_> {
-    fn serialize<S: Serializer>(&self, serializer: S) -> Result<S::Ok, S::Error> {
-        match self {
-            Cell::None => serializer.serialize_none(),
-            Cell::Whole(number) => serializer.serialize_u64(*number),
-            Cell::Number(number) => serializer.serialize_f64(*number),
-            Cell::Text(text) => serializer.serialize_str(text),
-            Cell::Warnings(warnings) => warnings.serialize(serializer),
-        }
-    }
+/// A number with so many digits, and no -0.
+fn rounded(number: Option<f64>) -> Value {
+    number.map(|number| (number * DIGITS).round() / DIGITS + 0.0).into()
 }
 
 /// A pair's columns in order.
-pub struct Row<'a> {
-    cells: Vec<(&'static str, Cell<'a>)>,
+pub struct Row {
+    cells: Vec<(&'static str, Value)>,
     /// Why the pair is bad: in a table it stands among the warnings.
-    reason: Option<&'a str>,
+    reason: Option<String>,
 }
 
-impl<'a> Row<'a> {
-    pub fn of(pair: &'a Pair) -> Row<'a> {
+impl Row {
+    pub fn of(pair: &Pair) -> Row {
         let (found, known, way) = (pair.found.as_ref().ok(), pair.known(), pair.way());
-        let middle = known.map(|measured| measured.middle());
+        let middle = known.map(Measured::middle);
         // in pels of the picture, as all else
         let stored = found.map(|measured| (measured.stored_middle(), measured.times as f64));
-        let warnings = found.map_or(Vec::new(), |measured| measured.warnings.iter().map(Warned::of).collect());
         let answer = found.map(|measured| &measured.answer);
         let mut cells = vec![
-            ("pair", Cell::Whole(pair.number)),
-            ("first", Cell::Text(&pair.first)),
-            ("second", Cell::Text(&pair.second)),
-            ("time_s", pair.time().into()),
-            ("status", Cell::Text(pair.status())),
+            ("pair", pair.number.into()),
+            ("first", pair.first.as_str().into()),
+            ("second", pair.second.as_str().into()),
+            ("time_s", rounded(pair.time())),
+            ("status", pair.status().into()),
             ("how", known.map(|measured| measured.answer.how.name()).into()),
             ("type", known.map(|measured| TYPES[usize::from(measured.answer.model.gm_type)]).into()),
-            ("right_pels", middle.map(|middle| middle.u).into()),
-            ("down_pels", middle.map(|middle| middle.v).into()),
-            ("zoom", known.map(|measured| measured.model().zoom()).into()),
-            ("angle_degrees", known.map(|measured| measured.model().degrees()).into()),
-            ("stored_right", stored.map(|(stored, times)| times * stored.u).into()),
-            ("stored_down", stored.map(|(stored, times)| times * stored.v).into()),
+            ("right_pels", rounded(middle.map(|middle| middle.u))),
+            ("down_pels", rounded(middle.map(|middle| middle.v))),
+            ("zoom", rounded(known.map(|measured| measured.model().zoom()))),
+            ("angle_degrees", rounded(known.map(|measured| measured.model().degrees()))),
+            ("stored_right", rounded(stored.map(|(stored, times)| times * stored.u))),
+            ("stored_down", rounded(stored.map(|(stored, times)| times * stored.v))),
             ("agree", answer.map(|answer| answer.agree).into()),
             ("usable", answer.map(|answer| answer.usable).into()),
             ("blocks", answer.map(|answer| answer.blocks).into()),
-            ("score", known.and_then(|measured| measured.score()).into()),
-            ("warnings", Cell::Warnings(warnings)),
+            ("score", rounded(known.map(Measured::score))),
+            ("warnings", found.map_or(json!([]), |measured| json!(measured.warnings))),
         ];
         if pair.scale.millimetres.is_some() {
             let moved = known.filter(|measured| measured.answer.status == Status::Measured).and(way);
             let direction = moved.map(|Motion { u, v }| v.atan2(u).to_degrees());
             let speed = pair.scale.rate.and(pair.speed());
-            cells.extend([("speed_mm_s", speed.into()), ("direction_degrees", direction.into())]);
+            cells.extend([("speed_mm_s", rounded(speed)), ("direction_degrees", rounded(direction))]);
         }
-        Row { cells, reason: pair.found.as_ref().err().map(String::as_str) }
+        Row { cells, reason: pair.found.as_ref().err().cloned() }
     }
 
     /// The names of the columns, as a line of a table.
@@ -105,23 +64,24 @@ impl<'a> Row<'a> {
         line(self.cells.iter().map(|(name, _)| name.to_string()))
     }
 
-    /// The values, as a line of a table.
+    /// The values, as a line of a table: of warnings the names.
     pub fn values(&self) -> csv::Result<Vec<u8>> {
-        let value = |(_, cell): &(_, Cell<'_>)| match cell {
-            Cell::None => String::new(),
-            Cell::Whole(number) => number.to_string(),
-            Cell::Number(number) => number.to_string(),
-            Cell::Text(text) => text.to_string(),
-            Cell::Warnings(warnings) => self
-                .reason
-                .map_or_else(|| warnings.iter().map(|own| own.name).collect::<Vec<_>>().join(" "), Into::into),
-        };
-        line(self.cells.iter().map(value))
+        let name = |warning: &Value| warning["name"].as_str().unwrap_or_default().to_string();
+        line(self.cells.iter().map(|(_, cell)| match cell {
+            Value::Null => String::new(),
+            Value::String(text) => text.clone(),
+            Value::Array(warnings) => {
+                let names = || warnings.iter().map(name).collect::<Vec<_>>().join(" ");
+                self.reason.clone().unwrap_or_else(names)
+            }
+            Value::Number(number) if number.is_f64() => number.as_f64().unwrap_or_default().to_string(),
+            other => other.to_string(),
+        }))
     }
 
     /// The same row with more columns.
-    pub fn with(mut self, more: impl IntoIterator<Item = (&'static str, f64)>) -> Row<'a> {
-        self.cells.extend(more.into_iter().map(|(name, number)| (name, number.into())));
+    pub fn with(mut self, more: impl IntoIterator<Item = (&'static str, f64)>) -> Row {
+        self.cells.extend(more.into_iter().map(|(name, number)| (name, rounded(Some(number)))));
         self
     }
 }
@@ -133,7 +93,7 @@ fn line(values: impl Iterator<Item = String>) -> csv::Result<Vec<u8>> {
 }
 
 /// An object, with the reason of a bad pair last.
-impl Serialize for Row<'_> {
+impl Serialize for Row {
     fn serialize<S: Serializer>(&self, serializer: S) -> Result<S::Ok, S::Error> {
         let mut object = serializer.serialize_map(None)?;
         self.cells.iter().try_for_each(|(name, cell)| object.serialize_entry(name, cell))?;

@@ -1,8 +1,8 @@
 //! The frames of a clip one after the other, each read once: of a Y4M file or pipe all, of a folder its pictures.
 
-use super::{Frame, Kind, Opened, Part, named, open, y4m};
 use crate::failure::Failure;
-use crate::measure::judge_sides;
+use crate::measure::{judged, lent};
+use frames::{Frame, Opened, Part, named, open, shown};
 use std::collections::VecDeque;
 use std::fs;
 use std::path::{Path, PathBuf};
@@ -45,7 +45,7 @@ pub struct Turn {
 impl Turn {
     /// The frame without its light.
     pub fn detail(&self, frame: &Frame) -> Result<&Detail, Refused> {
-        self.detail.get_or_init(|| Detail::of(&frame.lent())).as_ref().map_err(|refused| *refused)
+        self.detail.get_or_init(|| Detail::of(&lent(frame))).as_ref().map_err(|refused| *refused)
     }
 }
 
@@ -53,7 +53,7 @@ impl Turn {
 pub struct Clip {
     places: VecDeque<PathBuf>,
     /// The file whose frames come next, the name of its frames without their numbers, and the number of the next in it.
-    file: Option<(y4m::Clip, String, u64)>,
+    file: Option<(frames::Clip, String, u64)>,
     part: Part,
     chosen: Chosen,
     /// The number of the next frame.
@@ -101,29 +101,26 @@ impl Clip {
 
     /// The next place: a clip to go through, or a picture. A first one that can't be measured at its size ends all.
     fn next_place(&mut self, place: &Path) -> Result<Option<Turn>, Failure> {
-        let name = if place == Path::new("-") { "-".into() } else { super::shown(place) };
+        let name = if place == Path::new("-") { "-".into() } else { shown(place) };
         let opened = open(place);
-        let sides = opened.as_ref().ok().map(Opened::sides);
-        if let Some(Err(failure)) = sides.map(|sides| judged(&name, self.part, sides)).filter(|_| !self.begun) {
-            return Err(failure);
+        let judge = |opened: &Opened| judged(&name, self.part, opened.sides());
+        if !self.begun {
+            opened.as_ref().map_or(Ok(()), judge)?;
         }
-        let single = named(place).0 != place;
-        let opened = match opened {
-            Ok(Opened { file: Kind::Clip(clip), .. }) if !single => {
-                self.file = Some((clip, name, 0));
-                return Ok(None);
-            }
-            opened => opened,
-        };
+        let is_one = named(place).0 != place;
+        if !is_one && opened.as_ref().is_ok_and(Opened::is_clip) {
+            self.file = opened.ok().and_then(Opened::into_clip).map(|clip| (clip, name, 0));
+            return Ok(None);
+        }
         let number = self.next;
         self.next += 1;
         if !self.chosen.takes(number) {
             return Ok(None);
         }
         let rate = opened.as_ref().ok().and_then(Opened::rate);
-        let frame = opened.and_then(|opened| {
-            judged(&name, self.part, opened.sides())?;
-            opened.read(self.part)
+        let frame = opened.map_err(Failure::from).and_then(|opened| {
+            judge(&opened)?;
+            Ok(opened.read(self.part)?)
         });
         let frame = frame.map_err(|failure| failure.what());
         Ok(Some(Turn { number, name, rate, frame, detail: OnceLock::new() }))
@@ -137,20 +134,8 @@ fn frames_of(place: &Path) -> Option<u64> {
         return (file != place).then_some(1);
     }
     let bytes = fs::metadata(place).ok().filter(|data| data.is_file())?.len();
-    match open(place).ok()?.file {
-        Kind::Picture(_) => Some(1),
-        Kind::Clip(clip) => Some((bytes - clip.head).div_ceil(clip.size() + 6)),
-    }
-}
-
-/// Whether a part of a picture of these sides can be measured.
-pub fn judged(name: &str, part: Part, sides: (usize, usize)) -> Result<(), Failure> {
-    part.inside(sides).map_err(|what| Failure::bad(name, what))?;
-    let (width, height) = part.sides(sides);
-    judge_sides(width, height).map_err(|refusal| {
-        let advice = format!("{width}×{height} pels are too many: --crop X,Y,W,H measures a part, --halve all");
-        Failure::refused(name, refusal).with_advice(advice)
-    })
+    let Some(clip) = open(place).ok()?.into_clip() else { return Some(1) };
+    Some((bytes - clip.head).div_ceil(clip.size() + 6))
 }
 
 impl Iterator for Clip {

@@ -1,20 +1,32 @@
-//! Pictures from files, known by their content: PGM and PPM (`pnm`), PNG (`png`), and frames of Y4M (`y4m`), one by one or
-//! all of a clip (`clip`).
+//! Grey pictures from files, known by their content: PGM and PPM (`pnm`), PNG (`png`), and frames of Y4M (`y4m`), one by
+//! one or all of a clip.
 //!
 //! A picture is opened first, so that its sides are judged before its pels are read. It is read row by row: nothing is
-//! kept but the part that is measured.
+//! kept but the part that is asked for.
+//!
+//! ```
+//! use frames::Part;
+//! use std::path::Path;
+//!
+//! let opened = frames::open(Path::new("../belt/tests/pictures/deep-pan.pgm"))?;
+//! let (width, height) = opened.sides();
+//! let half = opened.read(Part { window: None, halvings: 1 })?;
+//! assert_eq!((half.width, half.height, half.times), (width / 2, height / 2, 2));
+//! # Ok::<(), frames::Unread>(())
+//! ```
+#![forbid(unsafe_code)]
+#![deny(missing_docs)]
 
-mod clip;
 mod order;
 mod png;
 mod pnm;
 mod y4m;
 
-pub use clip::{Chosen, Clip, Turn, judged};
+pub use y4m::Clip;
 
-use crate::failure::Failure;
-use crate::output::shown;
+use std::error::Error;
 use std::ffi::OsStr;
+use std::fmt;
 use std::fs::{self, File};
 use std::io::{self, BufRead, BufReader, Cursor, Read};
 use std::os::unix::ffi::OsStrExt;
@@ -25,11 +37,51 @@ const LONGEST_SIDE: u64 = 65_535;
 /// No head of a picture is longer than this, comments and all.
 const LONGEST_HEAD: usize = 65_536;
 
+/// Room for at most so many pels is made ahead of them: a head may say more than there are.
+const MOST_AHEAD: usize = 1 << 20;
+
+/// Why a picture or a folder can't be read.
+#[derive(Clone, Debug, PartialEq, Eq)]
+pub struct Unread {
+    /// The file, as it was named.
+    pub place: String,
+    /// What is wrong with it, and what helps.
+    pub what: String,
+}
+
+impl Unread {
+    fn of(place: impl Into<String>, what: impl ToString) -> Self {
+        Unread { place: place.into(), what: what.to_string() }
+    }
+}
+
+impl fmt::Display for Unread {
+    fn fmt(&self, f: &mut fmt::Formatter<'_>) -> fmt::Result {
+        write!(f, "{}: {}", self.place, self.what)
+    }
+}
+
+impl Error for Unread {}
+
+/// A text without control characters, which file names and broken files may bring in.
+pub fn one_line(text: &str) -> String {
+    text.chars().flat_map(|c| if c.is_control() { c.escape_default().collect() } else { vec![c] }).collect()
+}
+
+/// A path as a person reads it, in one line.
+pub fn shown(path: impl AsRef<Path>) -> String {
+    match path.as_ref().to_string_lossy().as_ref() {
+        "-" => "standard input".into(),
+        text => one_line(text),
+    }
+}
+
 /// A part of a picture, in pels, and how often it is halved.
 #[derive(Clone, Copy, Debug, Default, PartialEq, Eq)]
 pub struct Part {
     /// Column, row, width and height.
     pub window: Option<[usize; 4]>,
+    /// So many times.
     pub halvings: u32,
 }
 
@@ -40,8 +92,8 @@ impl Part {
         (width >> self.halvings, height >> self.halvings)
     }
 
-    /// Its column, row, width and height, if it lies inside a picture of these sides.
-    fn inside(self, (width, height): (usize, usize)) -> Result<[usize; 4], String> {
+    /// Its column, row, width and height, if it lies inside a picture of these sides, or why it doesn't.
+    pub fn inside(self, (width, height): (usize, usize)) -> Result<[usize; 4], String> {
         let window @ [x, y, w, h] = self.window.unwrap_or([0, 0, width, height]);
         let inside = |from: usize, count: usize, side: usize| count > 0 && count <= side && from <= side - count;
         match inside(x, w, width) && inside(y, h, height) {
@@ -54,8 +106,11 @@ impl Part {
 /// A picture in memory: 16 bits a pel, row by row.
 #[derive(Clone, Debug, PartialEq, Eq)]
 pub struct Frame {
+    /// Where it is from, as a person reads it.
     pub name: String,
+    /// Its pels across.
     pub width: usize,
+    /// Its pels down.
     pub height: usize,
     /// The sides of the picture that it is a part of, or all.
     pub whole: (usize, usize),
@@ -63,17 +118,14 @@ pub struct Frame {
     pub times: usize,
     /// The largest value that its file can hold.
     pub most: u16,
+    /// Row by row.
     pub pels: Vec<u16>,
 }
 
 impl Frame {
+    /// What the whole picture must have in common with another.
     pub fn looks(&self) -> Looks<'_> {
         Looks { name: &self.name, sides: self.whole, most: self.most }
-    }
-
-    /// The same for `track`.
-    pub fn lent(&self) -> track::Frame<'_> {
-        track::Frame { pels: &self.pels, width: self.width, height: self.height, most: self.most }
     }
 }
 
@@ -206,13 +258,14 @@ impl<S: Read> Rows for Plain<S> {
 
 /// A picture whose head is read and whose pels come next, or a clip.
 pub struct Opened {
+    /// As a person reads it.
     pub name: String,
     file: Kind,
 }
 
 enum Kind {
     Picture(Head),
-    Clip(y4m::Clip),
+    Clip(Clip),
 }
 
 /// The file and the frame in it that a place names: `clip.y4m#3` is frame 3, counted from 0, unless a file has that
@@ -228,11 +281,12 @@ pub fn named(place: &Path) -> (&Path, u64) {
 }
 
 /// The pictures that a place names: a folder's by their names, else the place itself.
-pub fn places(place: &Path) -> Result<Vec<PathBuf>, Failure> {
+/// [`Unread`] where a folder can't be read or has no picture.
+pub fn places(place: &Path) -> Result<Vec<PathBuf>, Unread> {
     if !place.is_dir() {
         return Ok(vec![place.to_path_buf()]);
     }
-    let unreadable = |error: io::Error| Failure::bad(shown(place), error);
+    let unreadable = |error: io::Error| Unread::of(shown(place), error);
     let mut files = Vec::new();
     for entry in fs::read_dir(place).map_err(unreadable)? {
         let path = entry.map_err(unreadable)?.path();
@@ -244,21 +298,22 @@ pub fn places(place: &Path) -> Result<Vec<PathBuf>, Failure> {
     }
     files.sort_by(|a, b| order::by_numbers(a.as_os_str().as_bytes(), b.as_os_str().as_bytes()));
     if files.is_empty() {
-        return Err(Failure::bad(shown(place), "a folder without a picture (.png, .pgm, .ppm)"));
+        return Err(Unread::of(shown(place), "a folder without a picture (.png, .pgm, .ppm)"));
     }
     Ok(files)
 }
 
-/// Opens a picture; `-` is standard input.
-pub fn open(place: &Path) -> Result<Opened, Failure> {
+/// Opens a picture or a clip; `-` is standard input.
+/// [`Unread`] where it can't be read or its head says nothing that can.
+pub fn open(place: &Path) -> Result<Opened, Unread> {
     let name = shown(place);
     let (file, number) = named(place);
     let source: Source = if place == Path::new("-") {
         Box::new(BufReader::new(io::stdin()))
     } else {
-        Box::new(BufReader::new(File::open(file).map_err(|error| Failure::bad(&name, error))?))
+        Box::new(BufReader::new(File::open(file).map_err(|error| Unread::of(&name, error))?))
     };
-    let file = kind(source, number, place).map_err(|what| Failure::bad(&name, what))?;
+    let file = kind(source, number, place).map_err(|what| Unread::of(&name, what))?;
     Ok(Opened { name, file })
 }
 
@@ -272,7 +327,7 @@ fn kind(mut source: Source, number: u64, place: &Path) -> Result<Kind, String> {
     source.by_ref().take(MAGIC).read_to_end(&mut begins).map_err(|error| error.to_string())?;
     let source: Source = Box::new(Cursor::new(begins.clone()).chain(source));
     if begins.starts_with(y4m::MAGIC) {
-        let mut clip = y4m::Clip::open(source)?;
+        let mut clip = Clip::open(source)?;
         for before in 0..number {
             let passed = clip.next(None).ok_or_else(|| no_frame(before, number))?;
             passed.map_err(|what| format!("frame {before}: {what}"))?;
@@ -316,8 +371,7 @@ fn other(begins: &[u8], place: &Path) -> String {
         }
     };
     let text = place.to_string_lossy();
-    let plain = |c: char| c.is_ascii_alphanumeric() || "-_./".contains(c);
-    let quoted = if text.chars().all(plain) { text.into_owned() } else { format!("'{}'", text.replace('\'', "'\\''")) };
+    let quoted = shell_words::quote(&text);
     let command = match is_clip {
         true => format!("ffmpeg -i {quoted} -pix_fmt gray -f yuv4mpegpipe - | belt track -"),
         false => format!("ffmpeg -i {quoted} -pix_fmt gray picture.png"),
@@ -350,7 +404,8 @@ pub struct Looks<'a> {
 }
 
 /// Two pictures must have the same sides and the same scale of brightness.
-pub fn alike(first: Looks<'_>, second: Looks<'_>) -> Result<(), Failure> {
+/// [`Unread`] of the second where they don't.
+pub fn alike(first: Looks<'_>, second: Looks<'_>) -> Result<(), Unread> {
     let ((width, height), (own_width, own_height)) = (first.sides, second.sides);
     let (name, most) = (first.name, first.most);
     let what = if first.sides != second.sides {
@@ -360,10 +415,11 @@ pub fn alike(first: Looks<'_>, second: Looks<'_>) -> Result<(), Failure> {
     } else {
         return Ok(());
     };
-    Err(Failure::bad(second.name, what))
+    Err(Unread::of(second.name, what))
 }
 
 impl Opened {
+    /// What it must have in common with another.
     pub fn looks(&self) -> Looks<'_> {
         let most = match &self.file {
             Kind::Picture(head) => head.most,
@@ -372,6 +428,7 @@ impl Opened {
         Looks { name: &self.name, sides: self.sides(), most }
     }
 
+    /// The sides of the whole picture.
     pub fn sides(&self) -> (usize, usize) {
         match &self.file {
             Kind::Picture(head) => (head.width, head.height),
@@ -380,17 +437,31 @@ impl Opened {
     }
 
     /// The frames a second, where it says them.
-    fn rate(&self) -> Option<f64> {
+    pub fn rate(&self) -> Option<f64> {
         match &self.file {
             Kind::Picture(_) => None,
             Kind::Clip(clip) => clip.rate,
         }
     }
 
+    /// Whether it is a clip.
+    pub fn is_clip(&self) -> bool {
+        matches!(self.file, Kind::Clip(_))
+    }
+
+    /// The clip that it is, from the frame on that its name has.
+    pub fn into_clip(self) -> Option<Clip> {
+        match self.file {
+            Kind::Clip(clip) => Some(clip),
+            Kind::Picture(_) => None,
+        }
+    }
+
     /// Reads the pels of a part, which must lie inside.
-    pub fn read(self, part: Part) -> Result<Frame, Failure> {
+    /// [`Unread`] where they are cut short or damaged.
+    pub fn read(self, part: Part) -> Result<Frame, Unread> {
         let name = self.name.clone();
-        pels(self.file, part).map(|frame| Frame { name: self.name, ..frame }).map_err(|what| Failure::bad(name, what))
+        pels(self.file, part).map(|frame| Frame { name: self.name, ..frame }).map_err(|what| Unread::of(name, what))
     }
 }
 
@@ -408,8 +479,8 @@ fn read(rows: &mut dyn Rows, (width, height): (usize, usize), most: u16, part: P
     let [x, y, w, _] = part.inside((width, height))?;
     let (wide, high) = part.sides((width, height));
     let times = 1 << part.halvings;
-    let (mut pels, mut row) = (Vec::new(), Vec::new());
-    let mut sums = vec![0u32; wide];
+    let mut pels = Vec::with_capacity((wide * high).min(MOST_AHEAD));
+    let (mut row, mut sums) = (Vec::new(), vec![0u32; wide]);
     for number in 0..height {
         rows.row(&mut row)?;
         let Some(own) = number.checked_sub(y).filter(|own| *own < high * times) else { continue };

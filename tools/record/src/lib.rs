@@ -26,9 +26,14 @@
 //! A key frame stands ahead of a pair and has no bits. A pair that is bad has neither bits nor samples, and moves nothing.
 //! The last record is the end's, so a file that was cut is told from a whole one.
 
-use crate::failure::Failure;
-use crate::tracked::Pair;
-use belt::{Form, HEADER_BYTES, IDENTITIES, Kind, Models, Refusal, Report, Run, RunReader};
+#![forbid(unsafe_code)]
+#![deny(missing_docs)]
+
+use belt::{Form, HEADER_BYTES, IDENTITIES, Kind, Models, Refusal, Run, RunReader, StoredModel};
+use bincode::Options;
+use serde::{Deserialize, Serialize};
+use std::error::Error;
+use std::fmt;
 use std::io::{BufReader, Read};
 use track::Status;
 
@@ -43,31 +48,36 @@ const HIGH_PRECISION: u8 = 1;
 const FORM: u32 = 2;
 /// The numbers that blocks can carry; 0 is the shutter closed.
 const NUMBERS: u64 = 65_535;
+/// Frames are halved at most so often.
+const MOST_HALVINGS: u8 = 6;
 
 /// The number that the blocks of a pair carry: 1 to 65,535, and from 1 on again.
-pub fn number(pair: u64) -> u16 {
+fn number(pair: u64) -> u16 {
     (pair % NUMBERS + 1) as u16
-}
-
-/// CRC-32, as PNG and Ethernet have it.
-fn check(bytes: &[u8]) -> u32 {
-    let shifted = |crc: u32| crc >> 1 ^ if crc & 1 == 1 { 0xEDB8_8320 } else { 0 };
-    let step = |crc: u32, byte: &u8| (0..8).fold(crc ^ u32::from(*byte), |crc, _| shifted(crc));
-    !bytes.iter().fold(u32::MAX, step)
 }
 
 /// Bytes with their check behind them.
 fn checked(mut bytes: Vec<u8>) -> Vec<u8> {
-    bytes.extend(check(&bytes).to_be_bytes());
+    bytes.extend(crc32fast::hash(&bytes).to_be_bytes());
     bytes
 }
 
+/// How numbers stand in a record: as many bytes as they have, the highest first.
+fn shape() -> impl Options {
+    bincode::options().with_fixint_encoding().with_big_endian()
+}
+
 /// What a record is of; its code is its place in the list.
-#[derive(Clone, Copy, Debug, PartialEq, Eq)]
+#[derive(Clone, Copy, Debug, PartialEq, Eq, Serialize, Deserialize)]
+#[serde(into = "u8", try_from = "u8")]
 pub enum Of {
+    /// A key frame, ahead of a pair.
     Key,
+    /// A pair that was measured with this status.
     Pair(Status),
+    /// A pair that is bad.
     Bad,
+    /// The end.
     End,
 }
 
@@ -82,23 +92,43 @@ impl Of {
         Of::Bad,
         Of::End,
     ];
+}
 
-    fn code(self) -> u8 {
-        Of::ALL.iter().position(|of| *of == self).expect("all are in the list") as u8
+impl From<Of> for u8 {
+    fn from(of: Of) -> u8 {
+        Of::ALL.iter().position(|own| *own == of).expect("all are in the list") as u8
     }
 }
 
-/// A record of a file of headers.
-#[derive(Clone, Debug, PartialEq, Eq)]
+impl TryFrom<u8> for Of {
+    type Error = String;
+
+    fn try_from(code: u8) -> Result<Of, String> {
+        Of::ALL.get(usize::from(code)).copied().ok_or(format!("a record of kind {code}, which isn't known"))
+    }
+}
+
+/// A record of a file of headers, in the order of its bytes.
+#[derive(Clone, Debug, PartialEq, Eq, Serialize, Deserialize)]
 pub struct Record {
+    /// What it is of.
     pub of: Of,
+    /// How often the frames were halved.
     pub halvings: u8,
+    /// The number that the pair's blocks carry.
     pub number: u16,
+    /// The pair's frames in the clip.
     pub frames: (u64, u64),
+    /// The sides of what was measured.
     pub sides: (u16, u16),
+    /// How many samples its blocks hold.
     pub samples: u16,
+    /// The bits of its header.
     pub bits: u16,
-    pub blocks: u32,
+    /// The check of its blocks.
+    blocks: u32,
+    /// The header, from the first bit on.
+    #[serde(skip)]
     pub header: Vec<u8>,
 }
 
@@ -109,37 +139,21 @@ impl Record {
     }
 
     fn bytes(&self) -> Vec<u8> {
-        let mut bytes = vec![self.of.code(), self.halvings];
-        bytes.extend(self.number.to_be_bytes());
-        [self.frames.0, self.frames.1].iter().for_each(|frame| bytes.extend(frame.to_be_bytes()));
-        let short = [self.sides.0, self.sides.1, self.samples, self.bits];
-        short.iter().for_each(|number| bytes.extend(number.to_be_bytes()));
-        bytes.extend(self.blocks.to_be_bytes());
+        let mut bytes = shape().serialize(self).expect("numbers are bytes");
         bytes.extend(&self.header);
         checked(bytes)
     }
 
     /// What stands in a record whose check is right.
     fn of_bytes(bytes: &[u8]) -> Result<Record, String> {
-        let of =
-            Of::ALL.get(usize::from(bytes[0])).ok_or(format!("a record of kind {}, which isn't known", bytes[0]))?;
-        let long = |at: usize| u64::from_be_bytes(std::array::from_fn(|i| bytes[at + i]));
-        let short = |at: usize| u16::from_be_bytes([bytes[at], bytes[at + 1]]);
-        let record = Record {
-            of: *of,
-            halvings: bytes[1],
-            number: short(2),
-            frames: (long(4), long(12)),
-            sides: (short(20), short(22)),
-            samples: short(24),
-            bits: short(26),
-            blocks: u32::from_be_bytes(std::array::from_fn(|i| bytes[28 + i])),
-            header: bytes[FIXED..].to_vec(),
-        };
-        let Record { halvings, number, frames, ref sides, samples, .. } = record;
-        let right = match of {
-            Of::Pair(_) => halvings <= 6 && usize::from(samples) == belt::sample_count(sides.0.into(), sides.1.into()),
-            of => record == Record::plain(*of, number, frames),
+        let fixed: Record = shape().deserialize(&bytes[..FIXED]).map_err(|error| error.to_string())?;
+        let record = Record { header: bytes[FIXED..].to_vec(), ..fixed };
+        let (sides, samples) = (record.sides, usize::from(record.samples));
+        let right = match record.of {
+            Of::Pair(_) => {
+                record.halvings <= MOST_HALVINGS && samples == belt::sample_count(sides.0.into(), sides.1.into())
+            }
+            of => record == Record::plain(of, record.number, record.frames),
         };
         if right { Ok(record) } else { Err("a record that contradicts itself".into()) }
     }
@@ -153,13 +167,33 @@ pub struct Recorder {
     pairs: u64,
 }
 
+/// What was found in a pair, to be stored.
+#[derive(Clone, Copy, Debug)]
+pub struct Found<'a> {
+    /// Whether a motion was measured.
+    pub status: Status,
+    /// How often the frames were halved.
+    pub halvings: u8,
+    /// The sides of what was measured.
+    pub sides: (u16, u16),
+    /// The types that were elected.
+    pub types: &'a [u8; 7],
+    /// Their models.
+    pub models: &'a [StoredModel; 7],
+    /// The samples.
+    pub words: &'a [u32],
+}
+
 /// What is stored of a pair.
 pub struct Stored {
+    /// Its bytes of the file of blocks.
     pub blocks: Vec<u8>,
+    /// Its bytes of the file of headers.
     pub headers: Vec<u8>,
 }
 
 impl Recorder {
+    /// Begins a recording with a key frame ahead of so many pairs; of 0, ahead of the first alone.
     pub fn begin(every: u64) -> Result<Recorder, Refusal> {
         Ok(Recorder { run: Run::start(HIGH_PRECISION, FORM)?, every, pairs: 0 })
     }
@@ -169,33 +203,30 @@ impl Recorder {
         checked([&MAGIC[..], &[self.run.flag(), self.run.form() as u8, 0, 0]].concat())
     }
 
-    /// The next pair. What was elected is stored, whatever was measured; of a bad pair nothing is.
-    pub fn pair(&mut self, pair: &Pair) -> Result<Stored, Refusal> {
+    /// The next pair, of these frames. What was elected is stored, whatever was measured; of a bad pair nothing is.
+    pub fn pair(&mut self, frames: (u64, u64), found: Option<&Found<'_>>) -> Result<Stored, Refusal> {
         let number = number(self.pairs);
         let mut headers = Vec::new();
         if self.pairs.checked_rem(self.every).unwrap_or(self.pairs) == 0 {
             self.run.frame(Kind::Key, &[0; 7], &IDENTITIES, 0, &mut [])?;
-            headers = Record::plain(Of::Key, number, pair.frames).bytes();
+            headers = Record::plain(Of::Key, number, frames).bytes();
         }
         self.pairs += 1;
-        let Ok(found) = &pair.found else {
-            headers.extend(Record::plain(Of::Bad, number, pair.frames).bytes());
+        let Some(&Found { status, halvings, sides, types, models, words }) = found else {
+            headers.extend(Record::plain(Of::Bad, number, frames).bytes());
             return Ok(Stored { blocks: Vec::new(), headers });
         };
-        let Report { types, models, .. } = &found.report;
-        let mut header = vec![0; HEADER_BYTES];
-        let bits = self.run.frame(Kind::Inter, types, models, 0, &mut header)?;
-        header.truncate(bits.div_ceil(8));
-        let blocks = blocks(&self.run, number, &found.samples, &vec![belt::UNSORTED; found.samples.len()])?;
+        let (header, bits) = header(&mut self.run, Kind::Inter, types, models)?;
+        let blocks = blocks(&self.run, number, words, &vec![belt::UNSORTED; words.len()])?;
         let record = Record {
-            of: Of::Pair(found.answer.status),
-            halvings: found.times.trailing_zeros() as u8,
+            of: Of::Pair(status),
+            halvings,
             number,
-            frames: pair.frames,
-            sides: (found.width as u16, found.height as u16),
-            samples: found.samples.len() as u16,
+            frames,
+            sides,
+            samples: words.len() as u16,
             bits: bits as u16,
-            blocks: check(&blocks),
+            blocks: crc32fast::hash(&blocks),
             header,
         };
         headers.extend(record.bytes());
@@ -208,18 +239,62 @@ impl Recorder {
     }
 }
 
+/// The header that a run writes of a frame, and its bits.
+fn header(run: &mut Run, kind: Kind, types: &[u8; 7], models: &[StoredModel; 7]) -> Result<(Vec<u8>, usize), Refusal> {
+    let mut header = vec![0; HEADER_BYTES];
+    let bits = run.frame(kind, types, models, 0, &mut header)?;
+    header.truncate(bits.div_ceil(8));
+    Ok((header, bits))
+}
+
 /// The blocks of some samples, in the form that the run holds.
 fn blocks(run: &Run, number: u16, words: &[u32], classes: &[u8]) -> Result<Vec<u8>, Refusal> {
-    let form = if run.form() == 1 { Form::One } else { Form::Two };
-    let mut blocks = vec![0; belt::block_bytes(words.len(), form)];
+    let mut blocks = vec![0; block_bytes(run, words.len())];
     run.store(number, words, classes, &mut blocks)?;
     Ok(blocks)
 }
 
+/// The bytes of so many samples' blocks.
+fn block_bytes(run: &Run, samples: usize) -> usize {
+    belt::block_bytes(samples, if run.form() == 1 { Form::One } else { Form::Two })
+}
+
+/// Why a recording can't be read back.
+#[derive(Clone, Debug, PartialEq, Eq)]
+pub struct Damaged {
+    /// The file and the byte.
+    pub place: String,
+    /// What is wrong there.
+    pub why: Why,
+}
+
+/// What is wrong with a recording.
+#[derive(Clone, Debug, PartialEq, Eq)]
+pub enum Why {
+    /// It is cut, damaged, of another kind, or doesn't belong to the other file.
+    Bad(String),
+    /// The library refuses it.
+    Refused(Refusal),
+}
+
+impl fmt::Display for Damaged {
+    fn fmt(&self, f: &mut fmt::Formatter<'_>) -> fmt::Result {
+        match &self.why {
+            Why::Bad(what) => write!(f, "{}: {what}", self.place),
+            Why::Refused(refusal) => write!(f, "{}: refused, {refusal}", self.place),
+        }
+    }
+}
+
+impl Error for Damaged {}
+
 /// A record as it was read, with its pair's place among the pairs and its models.
 pub struct Replayed {
+    /// The record.
     pub record: Record,
+    /// Its pair, counted from 0; of a key frame, the pair behind it.
     pub pair: u64,
+    /// The models that it stores.
     pub models: Models,
 }
 
@@ -235,16 +310,16 @@ impl<R: Read> Source<R> {
         Source { name, from: BufReader::new(from), at: 0 }
     }
 
-    fn bad(&self, at: u64, what: impl ToString) -> Failure {
-        Failure::bad(format!("{}, byte {at}", self.name), what)
+    fn bad(&self, at: u64, what: impl ToString) -> Damaged {
+        Damaged { place: format!("{}, byte {at}", self.name), why: Why::Bad(what.to_string()) }
     }
 
-    fn refused(&self, at: u64, refusal: Refusal) -> Failure {
-        Failure::refused(format!("{}, byte {at}", self.name), refusal)
+    fn refused(&self, at: u64, refusal: Refusal) -> Damaged {
+        Damaged { place: format!("{}, byte {at}", self.name), why: Why::Refused(refusal) }
     }
 
     /// The next bytes, all of them.
-    fn take(&mut self, count: usize) -> Result<Vec<u8>, Failure> {
+    fn take(&mut self, count: usize) -> Result<Vec<u8>, Damaged> {
         let mut bytes = Vec::with_capacity(count);
         let read = self.from.by_ref().take(count as u64).read_to_end(&mut bytes);
         read.map_err(|error| self.bad(self.at, error))?;
@@ -256,7 +331,7 @@ impl<R: Read> Source<R> {
     }
 
     /// Nothing follows.
-    fn ends(&mut self) -> Result<(), Failure> {
+    fn ends(&mut self) -> Result<(), Damaged> {
         match self.from.read(&mut [0]) {
             Ok(0) => Ok(()),
             Ok(_) => Err(self.bad(self.at, "it goes on behind its end")),
@@ -276,8 +351,9 @@ pub struct Player<R> {
 }
 
 impl<R: Read> Player<R> {
-    /// Begins alike, by the head.
-    pub fn begin(headers: (String, R), blocks: Option<(String, R)>) -> Result<Self, Failure> {
+    /// Begins alike, by the head. The files have their names with them.
+    /// [`Damaged`] where it is no such head.
+    pub fn begin(headers: (String, R), blocks: Option<(String, R)>) -> Result<Self, Damaged> {
         let mut headers = Source::new(headers.0, headers.1);
         let head = headers.take(HEAD)?;
         if head[..7] != MAGIC[..7] {
@@ -297,7 +373,8 @@ impl<R: Read> Player<R> {
     }
 
     /// The next record with what was stored, which was read back; none at the end.
-    pub fn record(&mut self) -> Result<Option<Replayed>, Failure> {
+    /// [`Damaged`] at the first byte of the record, or of its blocks, that isn't as it was written.
+    pub fn record(&mut self) -> Result<Option<Replayed>, Damaged> {
         let (at, pair) = (self.headers.at, self.pairs);
         let record = self.next_record()?;
         if record.of == Of::End {
@@ -327,7 +404,7 @@ impl<R: Read> Player<R> {
         Ok(Some(Replayed { record, pair, models }))
     }
 
-    fn next_record(&mut self) -> Result<Record, Failure> {
+    fn next_record(&mut self) -> Result<Record, Damaged> {
         let at = self.headers.at;
         let mut bytes = self.headers.take(FIXED)?;
         let header = usize::from(u16::from_be_bytes([bytes[26], bytes[27]])).div_ceil(8);
@@ -336,7 +413,7 @@ impl<R: Read> Player<R> {
             return Err(self.headers.bad(at, damaged));
         }
         bytes.extend(self.headers.take(header)?);
-        if self.headers.take(CHECK)? != check(&bytes).to_be_bytes() {
+        if self.headers.take(CHECK)? != crc32fast::hash(&bytes).to_be_bytes() {
             return Err(self.headers.bad(at, damaged));
         }
         Record::of_bytes(&bytes).map_err(|what| self.headers.bad(at, what))
@@ -344,20 +421,18 @@ impl<R: Read> Player<R> {
 
     /// The models written again are the header that was read.
     fn again(&mut self, kind: Kind, record: &Record, models: &Models) -> Result<(), String> {
-        let mut header = vec![0; HEADER_BYTES];
-        let bits = self.writer.frame(kind, &models.types, &models.models, 0, &mut header).map_err(|r| r.to_string())?;
-        header.truncate(bits.div_ceil(8));
+        let written = header(&mut self.writer, kind, &models.types, &models.models);
+        let (header, bits) = written.map_err(|refusal| refusal.to_string())?;
         let same = header == record.header && bits == usize::from(record.bits) && bits == models.bits;
         let what = || format!("a header of {} bits that its models, written again, don't have", record.bits);
         if same && self.writer.prior() == self.reader.prior() { Ok(()) } else { Err(what()) }
     }
 
     /// The samples of a record are in the blocks, and stored again they are the same blocks.
-    fn samples(&mut self, record: &Record) -> Result<(), Failure> {
+    fn samples(&mut self, record: &Record) -> Result<(), Damaged> {
         let Some(source) = &mut self.blocks else { return Ok(()) };
         let (at, count) = (source.at, usize::from(record.samples));
-        let form = if self.writer.form() == 1 { Form::One } else { Form::Two };
-        let bytes = source.take(belt::block_bytes(count, form))?;
+        let bytes = source.take(block_bytes(&self.writer, count))?;
         if count == 0 {
             return Ok(());
         }
@@ -366,7 +441,7 @@ impl<R: Read> Player<R> {
         let again = blocks(&self.writer, record.number, &words[..read.samples], &classes[..read.samples]);
         let same = read.number == record.number
             && read.samples == count
-            && check(&bytes) == record.blocks
+            && crc32fast::hash(&bytes) == record.blocks
             && again.is_ok_and(|again| again == bytes);
         if same {
             return Ok(());
@@ -380,26 +455,42 @@ impl<R: Read> Player<R> {
 #[cfg(test)]
 mod tests {
     use super::*;
-    use crate::measure::tests::{frame, job};
-    use crate::measure::{Job, measure};
-    use crate::tracked::Scale;
 
-    /// A pair that went so far, or one that is bad.
-    fn pair(right: Option<i64>) -> Pair {
-        let found = right.map(|right| {
-            let (a, b) = (frame("a", 48, 48, 0, right), frame("b", 48, 48, 0, 0));
-            measure(&Job { fast: true, ..job(0) }, &a, &b).unwrap()
-        });
-        let found = found.ok_or("cut short".to_string());
-        Pair { number: 0, first: "a".into(), second: "b".into(), frames: (3, 5), scale: Scale::default(), found }
+    /// A pair of 48×48 pels that went so far, or one that is bad.
+    struct Pair {
+        status: Status,
+        types: [u8; 7],
+        models: [StoredModel; 7],
+        words: Vec<u32>,
+    }
+
+    fn pair(right: Option<i32>) -> Option<Pair> {
+        let right = right?;
+        let status = if right == 0 { Status::Still } else { Status::Measured };
+        let (mut types, mut models) = ([0; 7], IDENTITIES);
+        if right != 0 {
+            types[0] = 1;
+            models[0].0[1] = right << 16;
+        }
+        let eighths = (223 + 8 * right) as u32;
+        let words = (0..9).map(|i: u32| (i / 3) << 26 | (i % 3) << 20 | 223 << 11 | eighths << 2).collect();
+        Some(Pair { status, types, models, words })
     }
 
     /// A recording of these pairs: blocks and headers.
-    fn recorded<'a>(every: u64, pairs: impl IntoIterator<Item = &'a Pair>) -> (Vec<u8>, Vec<u8>) {
+    fn recorded<'a>(every: u64, pairs: impl IntoIterator<Item = &'a Option<Pair>>) -> (Vec<u8>, Vec<u8>) {
         let mut recorder = Recorder::begin(every).unwrap();
         let (mut blocks, mut headers) = (Vec::new(), recorder.head());
         for pair in pairs {
-            let stored = recorder.pair(pair).unwrap();
+            let found = pair.as_ref().map(|Pair { status, types, models, words }| Found {
+                status: *status,
+                halvings: 0,
+                sides: (48, 48),
+                types,
+                models,
+                words,
+            });
+            let stored = recorder.pair((3, 5), found.as_ref()).unwrap();
             blocks.extend(stored.blocks);
             headers.extend(stored.headers);
         }
@@ -417,8 +508,16 @@ mod tests {
     }
 
     #[test]
-    fn the_check_is_the_known_one() {
-        assert_eq!([check(b"123456789"), check(b"")], [0xCBF4_3926, 0]);
+    fn the_bytes_are_those_of_the_table() {
+        let moved = pair(Some(4));
+        let (blocks, headers) = recorded(0, [&moved]);
+        assert_eq!(headers[..HEAD - CHECK], *b"BELTRUN\x01\x01\x02\0\0");
+        let record = &headers[HEAD + FIXED + CHECK..];
+        assert_eq!(record[..4], [1, 0, 0, 1]);
+        assert_eq!(record[4..20], [0, 0, 0, 0, 0, 0, 0, 3, 0, 0, 0, 0, 0, 0, 0, 5]);
+        assert_eq!(record[20..26], [0, 48, 0, 48, 0, 9]);
+        assert_eq!(record[28..32], crc32fast::hash(&blocks).to_be_bytes());
+        assert_eq!(checked(b"123456789".to_vec())[9..], [0xCB, 0xF4, 0x39, 0x26]);
     }
 
     #[test]
@@ -430,7 +529,7 @@ mod tests {
         let records = replayed(&blocks, &headers).unwrap();
         assert_eq!(records.len(), 65_538);
         let numbers = |i: usize| (records[i].record.of, records[i].pair, records[i].record.number);
-        assert_eq!(numbers(65_535), (Of::Pair(moved.found.as_ref().unwrap().answer.status), 65_534, 65_535));
+        assert_eq!(numbers(65_535), (Of::Pair(moved.as_ref().unwrap().status), 65_534, 65_535));
         assert_eq!(numbers(65_536).2, 1);
         assert_eq!(numbers(65_537), (Of::Bad, 65_536, 2));
         let frames = blocks.chunks(512).map(|block| belt::judge_block(block).unwrap().frame);
@@ -443,7 +542,7 @@ mod tests {
         let bytes = |every| -> Vec<Vec<u8>> {
             let (blocks, headers) = recorded(every, [&moved; 7]);
             let records = replayed(&blocks, &headers).unwrap();
-            let models = &moved.found.as_ref().unwrap().report.models;
+            let models = &moved.as_ref().unwrap().models;
             assert!(records.iter().all(|read| read.record.of == Of::Key || read.models.models == *models));
             records.into_iter().map(|read| read.record.header).collect()
         };
@@ -506,7 +605,7 @@ mod tests {
         let again = |at: usize, byte: u8, end: usize, begin: usize| {
             let mut changed = headers.clone();
             changed[at] = byte;
-            let check = check(&changed[begin..end]).to_be_bytes();
+            let check = crc32fast::hash(&changed[begin..end]).to_be_bytes();
             changed[end..end + CHECK].copy_from_slice(&check);
             said(&blocks, &changed)
         };

@@ -41,9 +41,11 @@ fn colours(space: &str, width: u64, height: u64) -> Option<(u32, u64)> {
 /// A clip whose head is read: its frames come next, each once.
 pub struct Clip {
     source: Source,
-    pub width: usize,
-    pub height: usize,
-    pub most: u16,
+    /// The sides of a frame.
+    pub(crate) width: usize,
+    pub(crate) height: usize,
+    /// The largest value that a pel can have.
+    pub(crate) most: u16,
     /// The frames a second, where the head says them.
     pub rate: Option<f64>,
     /// The bytes of the head.
