@@ -1,6 +1,6 @@
 // The class of a sample (docs/RULES.md, 'Sample word'): which classes there are, and words that hold
-// no class because it stands beside them. A list is judged to its end, whatever was found before, so
-// that the processor has no branch to guess.
+// no class because it stands beside them. A list is judged to its end, with no early return, whatever
+// was found before.
 ghost use mathlib.Core.Path.{_≡_};
 ghost use Rattle.laws.specs.Refusal.{either, both};
 ghost use Rattle.sample.specs.Storable.{storable};
