@@ -296,7 +296,13 @@ pub fn coded_of(gm_type: u8, flag: u8, slot: u8, value: i32, prior: i32) -> Code
         let bits = global_param_bits(gm_type, flag, slot);
         return coded_among(bits.abs_bits, bits.prec_bits, 0, value, prior);
     }
-    coded_among(LINEAR_ABS_BITS, LINEAR_PREC_BITS, centre_of(slot), value, prior)
+    coded_among(
+        LINEAR_ABS_BITS,
+        LINEAR_PREC_BITS,
+        centre_of(slot),
+        value,
+        prior,
+    )
 }
 
 // The number that a symbol of a slot stands for.

@@ -16,11 +16,13 @@ write-global-param-requires c κs =
     rw (
       result-reads w32 (slotOf (a .params .now) (a .first) (a .slot)) (c .before .before .value .given),
       result-reads w32 (slotOf (a .prior .now) (a .first) (a .slot)) (c .before .from .given),
+    ) (
+      record {
+        prior = record { known = e .pre .1 .known; within = e .pre .0 .ready .priors .within (a .slot) (e .pre .1 .known) };
+        own = carried-codable (a .gm-type) (a .flag) (a .params .now) (a .first) (e .pre .0 .right) (a .slot) (e .pre .1 .known) (e .pre .1 .is);
+      },
+      e .pre .2,
     )
-    (record {
-      prior = record { known = e .pre .1 .known; within = e .pre .0 .ready .priors .within (a .slot) (e .pre .1 .known) };
-      own = carried-codable (a .gm-type) (a .flag) (a .params .now) (a .first) (e .pre .0 .right) (a .slot) (e .pre .1 .known) (e .pre .1 .is);
-    }, e .pre .2)
 
 returns : tie.Need-returns
 returns c =
