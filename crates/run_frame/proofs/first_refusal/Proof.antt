@@ -2,8 +2,8 @@
 -- Assumes nothing.
 use mathlib.Core.Path.{sym, _∙_}
 use borrow.Author.Needs.{needs}
-use Rattle.run.proofs.first_refusal.Statement.{statement}
-use Rattle.run.proofs.first_refusal.Tie as tie
+use Rattle.run_frame.proofs.first_refusal.Statement.{statement}
+use Rattle.run_frame.proofs.first_refusal.Tie as tie
 
 returns : tie.Need-returns
 returns c = rw (sym (c .before .key-lengths-wrong .ensures) ∙ c .if1 .taken)

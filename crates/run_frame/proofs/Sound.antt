@@ -20,14 +20,14 @@ use Rattle.header.proofs.Priors.{models-prior}
 use Rattle.forms.specs.Forms.{noForm}
 use Rattle.frame_motion.specs.Frame.{identities, frameRefusal}
 use Rattle.frame_motion.proofs.Accepted.{key-plain}
 use Rattle.run.specs.declared.Run.{Run}
-use Rattle.run.specs.declared.Framed.{Framed}
+use Rattle.run_frame.specs.declared.Framed.{Framed}
 use Rattle.run.specs.declared.Moved.{Moved}
 use Rattle.run.specs.Run.{codesWrong, runRefusal, started, switchRefusal, switchedTo, switched}
-use Rattle.run.specs.Frame.{framedRefusal, priorAfter, framed}
-use Rattle.run.specs.Recovery.{Event, switch, frame, Turn, turn, turns}
-use Rattle.run.proofs.Accepted.{accepted, prior-after, answer-accepted, answer-refused}
-use Rattle.run.proofs.Answers.{start-accepted}
+use Rattle.run_frame.specs.Frame.{framedRefusal, priorAfter, framed}
+use Rattle.run_frame.specs.Recovery.{Event, switch, frame, Turn, turn, turns}
+use Rattle.run_frame.proofs.Accepted.{accepted, prior-after, answer-accepted, answer-refused}
+use Rattle.run.proofs.Moves.{start-accepted}
 
 -- what a run that isn't refused holds
 module _ (run : Run) (right : runRefusal run ≡ 0) where

@@ -3,9 +3,9 @@
 use mathlib.Core.Path.{sym, ap, _∙_}
 use borrow.Author.Needs.{needs}
 use Rattle.header_read.specs.declared.Models.{Models}
-use Rattle.run.proofs.Answers.{read-refused, plain-refused, plain-read}
-use Rattle.run.proofs.read.Statement.{statement}
-use Rattle.run.proofs.read.Tie as tie
+use Rattle.run_frame.proofs.Answers.{read-refused, plain-refused, plain-read}
+use Rattle.run_frame.proofs.read.Statement.{statement}
+use Rattle.run_frame.proofs.read.Tie as tie
 
 returns : tie.Need-returns
 returns c =

@@ -3,7 +3,7 @@
 use Rattle.grid.proofs.Reach.{codable-prior-for}
 use Rattle.header.proofs.Priors.{model-place, models-prior}
 use Rattle.header.proofs.RoundTrip.{right-model}
-use Rattle.run.specs.Priors.{Priors}
+use Rattle.run_frame.specs.Priors.{Priors}
 
 pub priors : Priors
 priors =

@@ -6,12 +6,12 @@ use borrow.Author.Needs.{needs}
 use lib.IntN.{ℤ}
 use lib.ListN.{length}
 use Rattle.laws.specs.Refusal.{judge}
-use Rattle.run.specs.Frame.{firstRows}
+use Rattle.run_frame.specs.Frame.{firstRows}
 use Rattle.run.specs.Run.{runOf}
-use Rattle.run.proofs.Accepted.{numbers-there}
-use Rattle.run.proofs.Answers.{first-refused, plain-refuses, prior-refuses, frame-accepted}
-use Rattle.run.proofs.frame.Statement.{statement}
-use Rattle.run.proofs.frame.Tie as tie
+use Rattle.run_frame.proofs.Accepted.{numbers-there}
+use Rattle.run_frame.proofs.Answers.{first-refused, plain-refuses, prior-refuses, frame-accepted}
+use Rattle.run_frame.proofs.frame.Statement.{statement}
+use Rattle.run_frame.proofs.frame.Tie as tie
 
 -- the first rows let the frame pass
 passed : (c : tie.Else1) → let a = c .before .before .before .before .args in judge (firstRows (a .run) (length (a .types .now)) (length (a .params .now))) ≡ 0

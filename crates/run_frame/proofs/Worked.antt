@@ -17,10 +17,10 @@ use Rattle.header.specs.Coefficient.{coefficientBits}
 use Rattle.header.specs.Writing.{headerBits, referenceBits, modelBits, writeRefusal}
 use Rattle.header_read.specs.declared.Models.{Models}
 use Rattle.frame_motion.specs.Frame.{identities, frameBits, someType, keyRefusal}
 use Rattle.run.specs.declared.Run.{Run}
 use Rattle.run.specs.Run.{runOf, fresh, started, switchRefusal, switched}
-use Rattle.run.specs.Frame.{framedRefusal, framed, framedLeft, readIn}
-use Rattle.run.specs.Recovery.{Event, switch, frame, Handed, code, bytes, turn, turns}
+use Rattle.run_frame.specs.Frame.{framedRefusal, framed, framedLeft, readIn}
+use Rattle.run_frame.specs.Recovery.{Event, switch, frame, Handed, code, bytes, turn, turns}
 
 -- reference 1 TRANSLATION by these two numbers, the rest identity
 abbrev moved : ℤ → ℤ → List ℤ

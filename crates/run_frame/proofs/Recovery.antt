@@ -16,15 +16,15 @@ use Rattle.laws.proofs.Cases.{eq-or-ne}
 use Rattle.header_read.specs.declared.Models.{Models}
 use Rattle.frame_motion.specs.Frame.{frameBits, frameModels}
 use Rattle.frame_motion.proofs.RoundTrip.{accepted-read}
 use Rattle.run.specs.declared.Run.{Run}
-use Rattle.run.specs.declared.Framed.{Framed}
-use Rattle.run.specs.declared.FrameModels.{FrameModels}
+use Rattle.run_frame.specs.declared.Framed.{Framed}
+use Rattle.run_frame.specs.declared.FrameModels.{FrameModels}
 use Rattle.run.specs.Run.{runOf, runRefusal, started, switchRefusal, switchedTo, switched}
-use Rattle.run.specs.Frame.{framedRefusal, framed, framedLeft, readOn, readIn}
-use Rattle.run.specs.Recovery.{Event, switch, frame, Handed, code, bytes, Turn, turn, turns, Reading, readOne, behind, readAll, Recovered, Recovery}
-use Rattle.run.proofs.Accepted.{accepted, run-right, prior-after, answer-accepted, answer-refused}
-use Rattle.run.proofs.Answers.{read-plain}
-use Rattle.run.proofs.Plain.{left-plain}
+use Rattle.run_frame.specs.Frame.{framedRefusal, framed, framedLeft, readOn, readIn}
+use Rattle.run_frame.specs.Recovery.{Event, switch, frame, Handed, code, bytes, Turn, turn, turns, Reading, readOne, behind, readAll, Recovered, Recovery}
+use Rattle.run_frame.proofs.Accepted.{accepted, run-right, prior-after, answer-accepted, answer-refused}
+use Rattle.run_frame.proofs.Answers.{read-plain}
+use Rattle.run_frame.proofs.Plain.{left-plain}
 
 -- ---- what is read of two lists, one behind the other
 

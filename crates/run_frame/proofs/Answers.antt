@@ -9,7 +9,7 @@ use native.Mathlib.Omega.{arith}
 use lib.Dec.{ltb}
 use lib.IntN.{ℤ}
 use lib.ListN.{length}
-use Rattle.laws.specs.Call.{answered, left}
+use Rattle.laws.specs.Call.{answered}
 use Rattle.laws.specs.Refusal.{row, choose, judge, orElse}
 use Rattle.laws.proofs.Call.{answered-accepted, answered-refused, left-accepted, left-refused}
 use Rattle.laws.proofs.Cases.{eq-or-ne, outcome}
@@ -23,33 +23,12 @@ use Rattle.header_read.specs.Called.{readRefusal}
 use Rattle.forms.specs.Forms.{noForm}
 use Rattle.frame_motion.specs.Frame.{frameBits, frameRefusal, framePlaced, frameWritten, frameAfter, frameModels}
 use Rattle.frame_motion.proofs.Intra.{key-after}
 use Rattle.run.specs.declared.Run.{Run}
-use Rattle.run.specs.declared.Framed.{Framed}
-use Rattle.run.specs.Run.{runOf, codesWrong, runRefusal, moved, fresh, noRun, started, switchRefusal, switchedTo, switched}
-use Rattle.run.specs.Inner.{readerRows}
-use Rattle.run.specs.Frame.{firstRows, framedRefusal, runAfter, notFramed, framed, framedLeft, readOn, notRead, readIn}
-use Rattle.run.proofs.Accepted.{prior-after, answer-accepted, answer-refused}
-
--- ---- the start
-
-module _ (flag form : ℕ) where
-  pub start-refused : codesWrong flag form ≡ true → moved 4 noRun ≡ started flag form
-  unfolding started
-  start-refused e = ap (λ (b : Bool). answered (λ (n : ℕ). moved n noRun) (choose b 4 0) (moved 0 (fresh flag form))) (sym e)
-
-  pub start-accepted : codesWrong flag form ≡ false → moved 0 (fresh flag form) ≡ started flag form
-  unfolding started
-  start-accepted e = ap (λ (b : Bool). answered (λ (n : ℕ). moved n noRun) (choose b 4 0) (moved 0 (fresh flag form))) (sym e)
-
--- ---- a switch
-
-module _ (run : Run) (code r : ℕ) (e : r ≡ switchRefusal run code) where
-  pub switch-refused : (r ≡ 0 → ⊥) → moved r run ≡ switched run code
-  switch-refused h =
-      ap (λ (n : ℕ). moved n run) e ∙ ap (moved (switchRefusal run code)) (sym (left-refused (switchRefusal run code) (switchedTo run code) run (λ z. h (e ∙ z))))
-
-  pub switch-accepted : r ≡ 0 → moved 0 (switchedTo run code) ≡ switched run code
-  switch-accepted z = ap (λ (n : ℕ). moved n (left n (switchedTo run code) run)) (sym z ∙ e)
+use Rattle.run_frame.specs.declared.Framed.{Framed}
+use Rattle.run.specs.Run.{runOf, codesWrong, runRefusal}
+use Rattle.run_frame.specs.Inner.{readerRows}
+use Rattle.run_frame.specs.Frame.{firstRows, framedRefusal, runAfter, notFramed, framed, framedLeft, readOn, notRead, readIn}
+use Rattle.run_frame.proofs.Accepted.{prior-after, answer-accepted, answer-refused}
 
 -- ---- a frame read
 

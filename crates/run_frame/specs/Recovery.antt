@@ -11,11 +11,11 @@ use lib.ListN.{length}
 use Rattle.laws.specs.Call.{left}
 use Rattle.laws.specs.Refusal.{both}
 use Rattle.header_read.specs.declared.Models.{Models}
 use Rattle.run.specs.declared.Run.{Run}
-use Rattle.run.specs.declared.Framed.{Framed}
-use Rattle.run.specs.declared.FrameModels.{FrameModels}
+use Rattle.run_frame.specs.declared.Framed.{Framed}
+use Rattle.run_frame.specs.declared.FrameModels.{FrameModels}
 use Rattle.run.specs.Run.{started, switchRefusal, switched}
-use Rattle.run.specs.Frame.{framedRefusal, framed, framedLeft, readIn}
+use Rattle.run_frame.specs.Frame.{framedRefusal, framed, framedLeft, readIn}
 
 -- what is asked of a run: a switch by its code; a frame by its kind, types, models, start and the bytes lent
 pub data Event : Type 0 where

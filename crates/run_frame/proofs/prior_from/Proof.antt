@@ -9,8 +9,8 @@ use lib.ListN.{length}
 use mir.Syntax.{w32}
 use Rattle.laws.proofs.Filled.{Filled, filled-none, filled-more, filled-all}
 use Rattle.laws.proofs.Signed.{result-reads}
-use Rattle.run.proofs.prior_from.Statement.{statement}
-use Rattle.run.proofs.prior_from.Tie as tie
+use Rattle.run_frame.proofs.prior_from.Statement.{statement}
+use Rattle.run_frame.proofs.prior_from.Tie as tie
 
 abbrev Inv-loop : tie.InvT-loop
 Inv-loop params out₀ i₀ out i = Filled params out i × (i ≤ 42)

@@ -13,9 +13,9 @@ use Rattle.laws.proofs.Refusal.{neither, length-is, quiet, or-else-quiet}
 use Rattle.models.specs.Models.{priorsOut}
 use Rattle.frame_motion.specs.Frame.{frameRefusal, frameBits}
 use Rattle.frame_motion.proofs.Accepted.{carried}
 use Rattle.run.specs.declared.Run.{Run}
 use Rattle.run.specs.Run.{codesWrong, runRefusal}
-use Rattle.run.specs.Frame.{firstRows, framedRefusal, priorAfter, runAfter, notFramed, framed}
+use Rattle.run_frame.specs.Frame.{firstRows, framedRefusal, priorAfter, runAfter, notFramed, framed}
 
 -- the numbers of an accepted key frame are identities
 pub prior-after : (intra : Bool) (start : ℕ) (types : List ℕ) (ps : List ℤ) (flag : ℕ) (qs : List ℤ) (room : ℕ)

@@ -12,10 +12,10 @@ use Rattle.header.specs.Writing.{notWritten}
 use Rattle.header_read.specs.Called.{noModels}
 use Rattle.header_read.specs.declared.Models.{Models}
 use Rattle.frame_motion.specs.Frame.{identities, keyLengthsWrong, frameRefusal, frameBits, framePlaced, frameModels}
 use Rattle.run.specs.declared.Run.{Run}
-use Rattle.run.specs.declared.Framed.{Framed}
-use Rattle.run.specs.declared.FrameModels.{FrameModels}
+use Rattle.run_frame.specs.declared.Framed.{Framed}
+use Rattle.run_frame.specs.declared.FrameModels.{FrameModels}
 use Rattle.run.specs.Run.{runOf, codesWrong, runRefusal}
 
 -- ---- written
 
