@@ -2,7 +2,7 @@
 // neighbours of the best held when a step begins, by steps 4, 2, 1. The code holds a motion as the signed
 // one plus 223.
 ghost use Prim.Native.Nat.{_+_, _*_, _-_, _≤_, _<_};
-ghost use Rattle.eighths.specs.Inner.{windowFrom};
+ghost use Rattle.blend.specs.Inner.{windowFrom};
 ghost use Rattle.stage.specs.Inner as inner;
 ghost use Rattle.stage.specs.Inner.{stepTurn, stepIn};
 ghost use Rattle.stage.specs.Inner.{Next, Lies, Fine, Roomy, Steady};
@@ -80,9 +80,9 @@ pub fn steps(first: Best, corner: Offset, block: &[u16], window: &[u16]) -> Best
     ensures { λ s. ⌜ Lies 7 (first .y) (first .x) (s .y) (s .x) ⌝ }
 {
     let mut highs = [0u16; 576];
-    eighths::highs_of(window, &mut highs);
+    eighths_row::highs_of(window, &mut highs);
     let mut lows = [0u16; 576];
-    eighths::lows_of(window, &mut lows);
+    eighths_row::lows_of(window, &mut lows);
     let by_4 = eighths_step(first, 4, corner, block, &highs, &lows);
     let by_2 = eighths_step(by_4, 2, corner, block, &highs, &lows);
     eighths_step(by_2, 1, corner, block, &highs, &lows)

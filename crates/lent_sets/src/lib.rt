@@ -153,7 +153,7 @@ pub extern "C" fn belt_fit_trimmed_samples_by_class(
             used: 0,
         });
     }
-    trim_numbers::answer_of(trim::trimmed_fit(kind, &numbers, judged.count))
+    trim_numbers::answer_of(held_trim::trimmed_fit(kind, &numbers, judged.count))
 }
 
 #[no_mangle]
@@ -171,7 +171,7 @@ pub extern "C" fn belt_quantize_trimmed_samples_by_class(
     if judged.refusal != 0 {
         return by_class::refused_trimmed_model(judged.refusal);
     }
-    trim::trimmed_model(codes.kind, codes.flag, &numbers, judged.count)
+    held_trim::trimmed_model(codes.kind, codes.flag, &numbers, judged.count)
 }
 
 #[no_mangle]
@@ -188,5 +188,5 @@ pub extern "C" fn belt_elect_samples_by_class(
     if judged.refusal != 0 {
         return elect::stopped(judged.refusal);
     }
-    elect::elected_in(flag, &numbers, judged.count)
+    held_elect::elected_in(flag, &numbers, judged.count)
 }

@@ -1,7 +1,7 @@
 -- `eighths_candidate`: the k-th of 3 × 3 around the centre, a step apart; two steps at most are added before one is taken back.
 -- Assumes nothing.
 use Prim.Native.Nat.{_/_, _%_}
-use Rattle.eighths.specs.Inner.{windowFrom}
+use Rattle.blend.specs.Inner.{windowFrom}
 use Rattle.stage.proofs.Turns.{step-stays, step-next}
 use Rattle.stage.proofs.Reach.{stepped}
 use native.Mathlib.Omega.{arith}

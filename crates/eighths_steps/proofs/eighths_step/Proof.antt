@@ -2,7 +2,7 @@
 -- Assumes nothing.
 use Prim.Native.Nat.{_+_, _*_, _-_, _≤_}
 use mathlib.Core.Path.{_≡_, sym, ap, subst, _∙_}
-use Rattle.eighths.specs.Inner.{windowFrom}
+use Rattle.blend.specs.Inner.{windowFrom}
 use Rattle.stage.specs.declared.Best.{Best}
 use Rattle.stage.specs.Inner.{stepTurn, stepIn, Lies}
 use Rattle.stage.proofs.Turns.{Turns, begins, goes-on, ends}

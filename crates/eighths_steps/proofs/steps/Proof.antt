@@ -3,7 +3,7 @@
 use Rattle.stage.specs.Inner.{at, Steady}
 use Rattle.stage.proofs.Reach.{steady-less, steady-after, lies-after, steps-are}
 use Rattle.stage.proofs.Whole.{fine-bytes}
-use Rattle.eighths.proofs.Blended.{window-back}
+use Rattle.blend.proofs.Blended.{window-back}
 use native.Mathlib.Omega.{arith}
 use borrow.Author.Needs.{needs}
 use Rattle.eighths_steps.proofs.steps.Statement.{statement}

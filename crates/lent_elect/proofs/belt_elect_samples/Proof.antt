@@ -21,10 +21,10 @@ use Rattle.elect.proofs.Elected as R
 use Rattle.elect.proofs.Elected.Laws as R′
 use Rattle.fit.proofs.list_taken.Symbol as taken-def
 use Rattle.fit.proofs.list_taken.Met as taken-thm
-use Rattle.trim.proofs.store.Symbol as store-def
-use Rattle.trim.proofs.store.Met as store-thm
-use Rattle.elect.proofs.elected_in.Symbol as ends-def
-use Rattle.elect.proofs.elected_in.Met as ends-thm
+use Rattle.held_trim.proofs.store.Symbol as store-def
+use Rattle.held_trim.proofs.store.Met as store-thm
+use Rattle.held_elect.proofs.elected_in.Symbol as ends-def
+use Rattle.held_elect.proofs.elected_in.Met as ends-thm
 use Rattle.lent_elect.proofs.belt_elect_samples as walk
 use Rattle.lent_elect.proofs.belt_elect_samples.Key.{name as #walk}
 use Rattle.lent_elect.proofs.belt_elect_samples.Statement as stated

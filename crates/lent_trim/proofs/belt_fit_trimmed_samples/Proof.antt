@@ -22,8 +22,8 @@ use Rattle.trim_numbers.proofs.TrimmedAnswer as R
 use Rattle.trim_numbers.proofs.TrimmedAnswer.Laws as R′
 use Rattle.fit.proofs.list_taken.Symbol as taken-def
 use Rattle.fit.proofs.list_taken.Met as taken-thm
-use Rattle.trim.proofs.store.Symbol as store-def
-use Rattle.trim.proofs.store.Met as store-thm
+use Rattle.held_trim.proofs.store.Symbol as store-def
+use Rattle.held_trim.proofs.store.Met as store-thm
 use Rattle.lent_trim.proofs.fit_answer.Symbol as ends-def
 use Rattle.lent_trim.proofs.fit_answer.Met as ends-thm
 use Rattle.lent_trim.proofs.belt_fit_trimmed_samples as walk

@@ -23,8 +23,8 @@ use Rattle.trim.proofs.TrimmedModel as R
 use Rattle.trim.proofs.TrimmedModel.Laws as R′
 use Rattle.fit.proofs.list_taken.Symbol as taken-def
 use Rattle.fit.proofs.list_taken.Met as taken-thm
-use Rattle.trim.proofs.store.Symbol as store-def
-use Rattle.trim.proofs.store.Met as store-thm
+use Rattle.held_trim.proofs.store.Symbol as store-def
+use Rattle.held_trim.proofs.store.Met as store-thm
 use Rattle.lent_trim.proofs.model_answer.Symbol as ends-def
 use Rattle.lent_trim.proofs.model_answer.Met as ends-thm
 use Rattle.lent_trim.proofs.belt_quantize_trimmed_samples as walk
