@@ -1,7 +1,7 @@
--- `bits::with_front`: what goes in front and what is kept behind it make a byte. Assumes nothing.
+-- `byte_field::with_front`: what goes in front and what is kept behind it make a byte. Assumes nothing.
 use borrow.Author.Needs.{needs}
-use Rattle.bits.proofs.with_front.Statement.{statement}
-use Rattle.bits.proofs.with_front.Tie as tie
+use Rattle.byte_field.proofs.with_front.Statement.{statement}
+use Rattle.byte_field.proofs.with_front.Tie as tie
 use Prim.Native.Nat.{ℕ, _+_, _-_, _*_, _%_, _^_, _≤_, _<_}
 use mathlib.Core.Path.{_≡_, refl, ap, sym, _∙_, subst}
 use native.Mathlib.Nat.{mod-lt}

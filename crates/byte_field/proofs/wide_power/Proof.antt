@@ -1,7 +1,7 @@
--- `bits::wide_power`: a one shifted by less than the width loses nothing. Assumes nothing.
+-- `byte_field::wide_power`: a one shifted by less than the width loses nothing. Assumes nothing.
 use borrow.Author.Needs.{needs}
-use Rattle.bits.proofs.wide_power.Statement.{statement}
-use Rattle.bits.proofs.wide_power.Tie as tie
+use Rattle.byte_field.proofs.wide_power.Statement.{statement}
+use Rattle.byte_field.proofs.wide_power.Tie as tie
 use native.Mathlib.Nat.{one-mul}
 use native.Mathlib.Omega.{arith}
 use mathlib.Core.Path.{_∙_}

@@ -1,7 +1,7 @@
--- `bits::bits_inside`: the bits behind are shifted out, those before taken away. Assumes nothing.
+-- `five_bytes::bits_inside`: the bits behind are shifted out, those before taken away. Assumes nothing.
 use borrow.Author.Needs.{needs}
-use Rattle.bits.proofs.bits_inside.Statement.{statement}
-use Rattle.bits.proofs.bits_inside.Tie as tie
+use Rattle.five_bytes.proofs.bits_inside.Statement.{statement}
+use Rattle.five_bytes.proofs.bits_inside.Tie as tie
 use Prim.Native.Nat.{_-_, _/_, _^_}
 use native.Mathlib.Nat.{mod-lt}
 use native.Mathlib.Omega.{arith}

@@ -1,7 +1,7 @@
--- `bits::with_inside`: what stood there is taken out by a mask, and what comes fits in its place. Assumes nothing.
+-- `byte_field::with_inside`: what stood there is taken out by a mask, and what comes fits in its place. Assumes nothing.
 use borrow.Author.Needs.{needs}
-use Rattle.bits.proofs.with_inside.Statement.{statement}
-use Rattle.bits.proofs.with_inside.Tie as tie
+use Rattle.byte_field.proofs.with_inside.Statement.{statement}
+use Rattle.byte_field.proofs.with_inside.Tie as tie
 use Prim.Native.Nat.{ℕ, _+_, _-_, _*_, _/_, _%_, _^_, _≤_, _<_}
 use mathlib.Core.Path.{_≡_, ap, sym, _∙_, subst}
 use native.Mathlib.Nat.{mod-lt}
@@ -9,7 +9,7 @@ use native.Mathlib.Omega.{arith}
 use lib.Arith.{digits-lt}
 use lib.Bits.{bitAnd, and-le-l}
 use lib.Pow.{pow-pos, pow-add, pow-mono, shr-lt, high-ones}
-use Rattle.bits.proofs.Words.{kept-outside}
+use Rattle.byte_field.proofs.Masked.{kept-outside}
 
 record Steps (y n s v below size : ℕ) : Type 0 where
   some : 1 ≤ size

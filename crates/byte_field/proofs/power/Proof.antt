@@ -1,7 +1,7 @@
--- `bits::power`: a one shifted by less than the width loses nothing. Assumes nothing.
+-- `byte_field::power`: a one shifted by less than the width loses nothing. Assumes nothing.
 use borrow.Author.Needs.{needs}
-use Rattle.bits.proofs.power.Statement.{statement}
-use Rattle.bits.proofs.power.Tie as tie
+use Rattle.byte_field.proofs.power.Statement.{statement}
+use Rattle.byte_field.proofs.power.Tie as tie
 use native.Mathlib.Nat.{one-mul}
 use native.Mathlib.Omega.{arith}
 use mathlib.Core.Path.{_∙_}

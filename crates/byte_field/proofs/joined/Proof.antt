@@ -1,7 +1,7 @@
--- `bits::joined`: eight bits in front of thirty-two at most fit in a word. Assumes nothing.
+-- `byte_field::joined`: eight bits in front of thirty-two at most fit in a word. Assumes nothing.
 use borrow.Author.Needs.{needs}
-use Rattle.bits.proofs.joined.Statement.{statement}
-use Rattle.bits.proofs.joined.Tie as tie
+use Rattle.byte_field.proofs.joined.Statement.{statement}
+use Rattle.byte_field.proofs.joined.Tie as tie
 use Prim.Native.Nat.{ℕ, _+_, _-_, _*_, _/_, _%_, _^_, _≤_, _<_}
 use mathlib.Core.Path.{_≡_, refl}
 use native.Mathlib.Nat.{mod-lt, mul-le-mul}
