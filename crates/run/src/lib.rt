@@ -75,7 +75,7 @@ pub fn start(flag: u8, form: u32) -> Moved
             run,
         };
     }
-    let prior = frame_motion::seven_identities();
+    let prior = key_frame::seven_identities();
     let run = Run { prior, flag, form };
     Moved { refusal: 0, run }
 }

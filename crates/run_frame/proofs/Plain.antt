@@ -14,7 +14,8 @@ use Rattle.laws.proofs.Cases.{outcome}
 use Rattle.laws.proofs.Refusal.{quiet}
 use Rattle.models.specs.Models.{priorsOut}
 use Rattle.header.specs.Writing.{lengthsWrong, writeRefusal}
-use Rattle.frame_motion.specs.Frame.{keyLengthsWrong, keyRefusal, frameRefusal, frameBits, framePlaced, frameWritten, frameAfter}
+use Rattle.frame_motion.specs.Frame.{frameRefusal, frameBits, framePlaced, frameWritten, frameAfter}
+use Rattle.key_frame.specs.Key.{keyLengthsWrong, keyRefusal}
 use Rattle.run.specs.declared.Run.{Run}
 use Rattle.run_frame.specs.declared.Framed.{Framed}
 use Rattle.run.specs.Run.{codesWrong, runRefusal}

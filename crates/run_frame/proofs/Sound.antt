@@ -18,7 +18,8 @@ use Rattle.models.specs.Models.{priorsOut}
 use Rattle.header.proofs.Accepted as writing
 use Rattle.header.proofs.Priors.{models-prior}
 use Rattle.forms.specs.Forms.{noForm}
-use Rattle.frame_motion.specs.Frame.{identities, frameRefusal}
+use Rattle.frame_motion.specs.Frame.{frameRefusal}
+use Rattle.key_frame.specs.Key.{identities}
 use Rattle.frame_motion.proofs.Accepted.{key-plain}
 use Rattle.run.specs.declared.Run.{Run}
 use Rattle.run_frame.specs.declared.Framed.{Framed}

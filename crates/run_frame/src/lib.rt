@@ -34,7 +34,7 @@ pub struct FrameModels {
 fn first_refusal(run: Run, types: usize, params: usize) -> u32
     ensures { λ r. ⌜ r ≡ judge (firstRows run types params) ⌝ }
 {
-    if frame_motion::key_lengths_wrong(types, params) {
+    if key_frame::key_lengths_wrong(types, params) {
         return WRONG_LENGTH;
     }
     if run::codes_wrong(run.flag, run.form) {

@@ -1,4 +1,4 @@
--- `elect::elected_in`: rows 1 and 4 answer by the count and the flag; otherwise the winner, as it is stored.
+-- `held_elect::elected_in`: rows 1 and 4 answer by the count and the flag; otherwise the winner, as it is stored.
 -- Assumes nothing.
 use borrow.Author.Needs.{needs}
 use Prim.Native.Nat.{ℕ}

@@ -1,4 +1,4 @@
--- `elect::error_of`: what is left to add, from here as from the first sample; the sum's score is the list's.
+-- `held_elect::error_of`: what is left to add, from here as from the first sample; the sum's score is the list's.
 -- Assumes nothing.
 use borrow.Author.Needs.{needs}
 use Prim.Native.Nat.{ℕ, _-_}

@@ -1,4 +1,4 @@
--- `elect::turn`: each return is a case of the definition, in its order.
+-- `held_elect::turn`: each return is a case of the definition, in its order.
 -- Assumes nothing.
 use borrow.Author.Needs.{needs}
 use mathlib.Core.Path.{sym, _∙_}

@@ -1,4 +1,4 @@
--- `elect::winner`: below the floor nobody is asked; otherwise the three types take their turns.
+-- `held_elect::winner`: below the floor nobody is asked; otherwise the three types take their turns.
 -- Assumes nothing.
 use borrow.Author.Needs.{needs}
 use mathlib.Core.List.{List}

@@ -1,4 +1,4 @@
--- `trim::count_under`: what is left to count, from here as from the first square.
+-- `held_trim::count_under`: what is left to count, from here as from the first square.
 -- Assumes nothing.
 use borrow.Author.Needs.{needs}
 use Prim.Native.Nat.{_-_, _≤_}

@@ -1,4 +1,4 @@
--- `trim::cut_of`: a refused fit answers its number, and any other the samples that it used.
+-- `held_trim::cut_of`: a refused fit answers its number, and any other the samples that it used.
 -- Assumes nothing.
 use borrow.Author.Needs.{needs}
 use borrow.Author.Tests.{ne-eqb}

@@ -1,4 +1,4 @@
--- `trim::fit_under`: the tests of the type code are the definition's; each fit is that of the sums over the samples under the limit, which are few enough.
+-- `held_trim::fit_under`: the tests of the type code are the definition's; each fit is that of the sums over the samples under the limit, which are few enough.
 -- Assumes nothing.
 use borrow.Author.Needs.{needs}
 use borrow.Author.Tests.{eq-eqb, ne-eqb}

@@ -1,4 +1,4 @@
--- `trim::left_under`: as the sums of a fit, with the step of the refit.
+-- `held_trim::left_under`: as the sums of a fit, with the step of the refit.
 -- Assumes nothing.
 use native.Mathlib.Omega.{arith}
 use borrow.Author.Needs.{needs}

@@ -1,4 +1,4 @@
--- `trim::on_grid`: the numbers are those of the refit.
+-- `held_trim::on_grid`: the numbers are those of the refit.
 -- Assumes nothing.
 use mathlib.Core.Path.{ap}
 use Rattle.quantize.specs.declared.Quantized.{Quantized}

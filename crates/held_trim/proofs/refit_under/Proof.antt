@@ -1,4 +1,4 @@
--- `trim::refit_under`: model, flag and linear part stay as they begin, so the sums alone are walked; the walk ends with the quantized model of the samples under the limit.
+-- `held_trim::refit_under`: model, flag and linear part stay as they begin, so the sums alone are walked; the walk ends with the quantized model of the samples under the limit.
 -- Assumes nothing.
 use native.Mathlib.Omega.{arith}
 use borrow.Author.Needs.{needs}

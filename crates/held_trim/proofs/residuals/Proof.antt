@@ -1,4 +1,4 @@
--- `trim::residuals`: each turn writes the next sample's square.
+-- `held_trim::residuals`: each turn writes the next sample's square.
 -- Assumes nothing.
 use borrow.Author.Needs.{needs}
 use Prim.Native.Nat.{ℕ, _-_, _≤_}

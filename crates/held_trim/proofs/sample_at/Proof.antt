@@ -1,4 +1,4 @@
--- `trim::sample_at`: the four numbers from 4 i on.
+-- `held_trim::sample_at`: the four numbers from 4 i on.
 -- Assumes nothing.
 use native.Mathlib.Omega.{arith}
 use borrow.Author.Needs.{needs}

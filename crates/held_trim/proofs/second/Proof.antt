@@ -1,4 +1,4 @@
--- `trim::second`: a residual that isn't finite is row 16; where too few are kept the first fit stands, with all samples under infinity; otherwise the fit of those under the limit is the last.
+-- `held_trim::second`: a residual that isn't finite is row 16; where too few are kept the first fit stands, with all samples under infinity; otherwise the fit of those under the limit is the last.
 -- Assumes nothing.
 use borrow.Author.Needs.{needs}
 use borrow.Author.Tests.{not-true, not-false}

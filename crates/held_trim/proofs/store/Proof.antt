@@ -1,4 +1,4 @@
--- `trim::store`: the four numbers from 4 i on, where there is room.
+-- `held_trim::store`: the four numbers from 4 i on, where there is room.
 -- Assumes nothing.
 use native.Mathlib.Omega.{arith}
 use borrow.Author.Needs.{needs}

@@ -1,4 +1,4 @@
--- `trim::trim`: the first fit takes every sample, and where it isn't refused each sample's square is known to the second.
+-- `held_trim::trim`: the first fit takes every sample, and where it isn't refused each sample's square is known to the second.
 -- Assumes nothing.
 use borrow.Author.Needs.{needs}
 use mathlib.Core.Path.{sym, _∙_}

@@ -1,4 +1,4 @@
--- `trim::trimmed_fit`: rows 1, 4 and 15 answer by the count; otherwise the trim's answer is the call's.
+-- `held_trim::trimmed_fit`: rows 1, 4 and 15 answer by the count; otherwise the trim's answer is the call's.
 -- Assumes nothing.
 use borrow.Author.Needs.{needs}
 use Prim.Native.Nat.{ℕ}

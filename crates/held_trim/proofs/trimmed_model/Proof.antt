@@ -1,4 +1,4 @@
--- `trim::trimmed_model`: rows 1, 4 and 15 answer by the count and the flag, then the trim's own number; otherwise the last fit is on the grid.
+-- `held_trim::trimmed_model`: rows 1, 4 and 15 answer by the count and the flag, then the trim's own number; otherwise the last fit is on the grid.
 -- Assumes nothing.
 use borrow.Author.Needs.{needs}
 use Prim.Native.Nat.{ℕ}

@@ -1,4 +1,4 @@
--- `run::first_refusal`: the first of the two rows that holds.
+-- `run_frame::first_refusal`: the first of the two rows that holds.
 -- Assumes nothing.
 use mathlib.Core.Path.{sym, _∙_}
 use borrow.Author.Needs.{needs}

@@ -1,4 +1,4 @@
--- `run::frame`: the first rows, then the plain call, then the prior's row; the run moves where none refuses.
+-- `run_frame::frame`: the first rows, then the plain call, then the prior's row; the run moves where none refuses.
 -- Assumes nothing.
 use mathlib.Core.List.{List}
 use mathlib.Core.Path.{_≡_, refl, sym, ap, _∙_}

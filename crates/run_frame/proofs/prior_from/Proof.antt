@@ -1,4 +1,4 @@
--- `run::prior_from`: each turn copies the next of the 42 numbers.
+-- `run_frame::prior_from`: each turn copies the next of the 42 numbers.
 -- Assumes nothing.
 use Prim.Native.Nat.{_-_, _≤_, _<_}
 use mathlib.Core.Path.{sym}

@@ -1,4 +1,4 @@
--- `run::read`: the run's rows, then the plain call; the run moves where neither refuses.
+-- `run_frame::read`: the run's rows, then the plain call; the run moves where neither refuses.
 -- Assumes nothing.
 use mathlib.Core.Path.{sym, ap, _∙_}
 use borrow.Author.Needs.{needs}

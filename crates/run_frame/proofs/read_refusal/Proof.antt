@@ -1,4 +1,4 @@
--- `run::read_refusal`: the codes' test, then a key frame's prior.
+-- `run_frame::read_refusal`: the codes' test, then a key frame's prior.
 -- Assumes nothing.
 use mathlib.Core.Path.{sym, _∙_}
 use borrow.Author.Needs.{needs}
