@@ -21,7 +21,8 @@ use Rattle.score.specs.Score.{continuousModel, scored}
 use Rattle.quantize.specs.Quantize.{refusedModel, quantizedFrom}
 use Rattle.trim.specs.Trim.{trimmedFrom, trimmedModelFrom}
 use Rattle.elect.specs.Elect.{stopped, electedFrom}
-use Rattle.by_class.specs.ByClass.{letsPass, byClass, noTypeOrFlag, noModelOrFlag, refusedScore, refusedTrim, refusedTrimmedModel}
+use Rattle.class_rows.specs.Rows.{letsPass, noTypeOrFlag, noModelOrFlag, refusedTrimmedModel}
+use Rattle.by_class.specs.ByClass.{byClass, refusedScore, refusedTrim}
 use Rattle.by_class.specs.ByClass.{fittedFrom, fittedBy, quantizedBy, scoredBy, trimmedBy, trimmedModelBy, electedBy}
 use Rattle.by_class.specs.Agree.{Pass, Agree}
 use Rattle.by_class.proofs.Named.{all-five, same-call}

@@ -1,6 +1,6 @@
 -- In a run that isn't refused, a frame's answer and its bytes are those of the plain call with the run's flag and prior.
 -- Assumes nothing.
-use Prim.Native.Nat.{ℕ, zero, suc}
+use Prim.Native.Nat.{ℕ}
 use mathlib.Core.Bool.{Bool, true, false, not}
 use mathlib.Core.List.{List, [], _∷_}
 use mathlib.Core.Logic.{⊎-elim}
@@ -11,7 +11,7 @@ use lib.ListN.{length}
 use Rattle.laws.specs.Call.{answered, left}
 use Rattle.laws.specs.Refusal.{row, choose, either, orElse}
 use Rattle.laws.proofs.Cases.{outcome}
-use Rattle.laws.proofs.Refusal.{quiet}
+use Rattle.laws.proofs.Refusal.{quiet, or-else-nothing}
 use Rattle.models.specs.Models.{priorsOut}
 use Rattle.header.specs.Writing.{lengthsWrong, writeRefusal}
 use Rattle.frame_motion.specs.Frame.{frameRefusal, frameBits, framePlaced, frameWritten, frameAfter}
@@ -24,10 +24,6 @@ use Rattle.run_frame.specs.Frame.{framedRefusal, runAfter, notFramed, fr
 either-assoc : (a b c : Bool) → either (either a b) c ≡ either a (either b c)
 either-assoc true b c = refl
 either-assoc false b c = refl
-
-or-else-nothing : (a : ℕ) → orElse a 0 ≡ a
-or-else-nothing zero = refl
-or-else-nothing (suc a) = refl
 
 -- the plain call's row 2 is the run's
 wrong-lengths : (intra : Bool) (start : ℕ) (types : List ℕ) (ps : List ℤ) (flag : ℕ) (qs : List ℤ) (room : ℕ)
