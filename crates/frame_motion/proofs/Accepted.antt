@@ -17,7 +17,9 @@ use Rattle.models.specs.Models.{filler, typesOver, modelsWrong}
 use Rattle.header.proofs.Accepted as writing
 use Rattle.header.proofs.RoundTrip.{Coded, coded-seven, valid-model, one-more, six-more}
 use Rattle.header.proofs.Valid.{ValidModel, sixOf}
-use Rattle.frame_motion.specs.Frame.{coded, identities, typeAt, someType, keyCodeRows, keyModelRows, keyRefusal, frameRefusal}
+use Rattle.frame_motion.specs.Frame.{coded, frameRefusal}
+use Rattle.key_frame.specs.Key.{identities, typeAt, someType, keyCodeRows, keyModelRows, keyRefusal}
+use Rattle.key_frame.proofs.Enough.{lengths}
 
 -- ---- seven models of which none is coded
 
@@ -30,22 +32,13 @@ module _ (types : List ℕ) (ps : List ℤ) (flag : ℕ) where
     pub plain : someType types ≡ false
     pub right : modelsWrong types flag ps ≡ false
 
-  lengths : judge (keyCodeRows types ps flag) ≡ 0 → (length types ≡ 7) × (length ps ≡ 42)
-  lengths e =
-      let l = neither (not (eqb (length types) 7)) (not (eqb (length ps) 42)) (quiet (keyCodeRows types ps flag) tt e .0) in
-      (length-is (length types) 7 (l .0), length-is (length ps) 42 (l .1))
-
-  -- room for six numbers of each type, as the test of the models asks
-  pub numbers-enough : judge (keyCodeRows types ps flag) ≡ 0 → 6 * length types ≤ length ps
-  numbers-enough e = omega (arith, lengths e .0, lengths e .1)
-
   pub key-plain : (start : ℕ) → keyRefusal start types ps flag ≡ 0 → Plain
   unfolding keyRefusal
   key-plain start e =
       let both = or-else-quiet (judge (keyCodeRows types ps flag)) (judge (keyModelRows start types ps flag)) e in
       let codes = quiet (keyCodeRows types ps flag) tt (both .0) in
       let wrong = neither (someType types) (modelsWrong types flag ps) (quiet (keyModelRows start types ps flag) tt (both .1) .1 .0) in
-      let l = lengths (both .0) in
+      let l = lengths types ps flag (both .0) in
       record { seven = l .0; numbers = l .1; known = codes .1 .0; flagged = ltb-false 1 flag (codes .1 .1 .0); plain = wrong .0; right = wrong .1 }
 
   module _ (p : Plain) where

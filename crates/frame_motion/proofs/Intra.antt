@@ -14,7 +14,8 @@ use Rattle.laws.specs.Refusal.{choose}
 use Rattle.laws.proofs.Call.{answered-refused}
 use Rattle.laws.proofs.Cases.{eq-or-ne}
 use Rattle.header.specs.Writing.{notWritten}
-use Rattle.frame_motion.specs.Frame.{frameBits, identities, frameRead, keyRefusal, frameWritten, frameAfter, frameModels}
+use Rattle.frame_motion.specs.Frame.{frameBits, frameRead, frameWritten, frameAfter, frameModels}
+use Rattle.key_frame.specs.Key.{identities, keyRefusal}
 use Rattle.frame_motion.specs.Inner.{keyModels}
 
 either-alike : (b : Bool) (old : List ℕ) → choose b old old ≡ old

@@ -1,5 +1,4 @@
 pub mod Inter
-pub mod Identities
 pub mod Accepted
 pub mod RoundTrip
 pub mod Intra

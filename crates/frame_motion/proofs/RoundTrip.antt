@@ -18,7 +18,8 @@ use Rattle.header.proofs.Count.{first-count}
 use Rattle.header.proofs.RoundTrip.{references-back}
 use Rattle.header_read.specs.Called.{theModels, models}
 use Rattle.header_read.proofs.RoundTrip as inter
-use Rattle.frame_motion.specs.Frame.{coded, frameBits, frameCount, identities, frameRead, frameRefusal, frameWritten, frameAfter, frameModels}
+use Rattle.frame_motion.specs.Frame.{coded, frameBits, frameCount, frameRead, frameRefusal, frameWritten, frameAfter, frameModels}
+use Rattle.key_frame.specs.Key.{identities}
 use Rattle.frame_motion.proofs.Accepted.{Carried, carried, flag-low}
 use Rattle.frame_motion.proofs.Inter.{inter-bits, inter-after, inter-models}
 

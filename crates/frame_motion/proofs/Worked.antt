@@ -11,7 +11,8 @@ use Rattle.models.specs.Models.{typesOver, modelsWrong, modelWrong, slotWrong, 
 use Rattle.header.specs.Writing.{headerBits, referenceBits, modelBits, writeRefusal}
 use Rattle.header.specs.declared.Written.{Written}
 use Rattle.header_read.specs.Called.{noModels}
-use Rattle.frame_motion.specs.Frame.{frameBits, identities, frameRead, someType, keyRefusal, frameWritten, frameAfter, frameModels}
+use Rattle.frame_motion.specs.Frame.{frameBits, frameRead, frameWritten, frameAfter, frameModels}
+use Rattle.key_frame.specs.Key.{identities, someType, keyRefusal}
 
 abbrev none : List ℕ
 none = replicate 7 0

@@ -1,24 +1,23 @@
 -- The global motion parameters of a frame of either kind: its bits are those of its coded references, one behind the other, and a key frame has none.
 -- docs/RULES.md, 'Key frames'; clause 5.9.24, where FrameIsIntra holds.
 -- Assumes nothing.
-use Prim.Native.Nat.{ℕ, zero, suc, _-_, _*_}
-use mathlib.Core.Bool.{Bool, true, false, not}
+use Prim.Native.Nat.{ℕ, _-_, _*_}
+use mathlib.Core.Bool.{Bool, true, false}
 use mathlib.Core.List.{List, [], _∷_, _++_}
-use lib.Dec.{ltb, eqb}
-use lib.IntN.{ℤ, pos}
+use lib.Dec.{ltb}
+use lib.IntN.{ℤ}
 use lib.ListN.{length, getD, replicate}
-use Rattle.laws.specs.Below.{anyBelow}
 use Rattle.laws.specs.Call.{answered, left}
 use Rattle.laws.specs.Loops.{sum}
-use Rattle.laws.specs.Refusal.{Row, row, either, judge, orElse}
+use Rattle.laws.specs.Refusal.{row, judge}
 use Rattle.bits.specs.Bits.{bitAt}
-use Rattle.models.specs.Models.{typesOver, modelsWrong, startOver}
 use Rattle.header.specs.Count.{modelCount}
 use Rattle.header.specs.Reading.{ReadModels, referencesRead}
 use Rattle.header.specs.Writing.{referencesBits, bitsPlaced, writeRefusal, notWritten}
 use Rattle.header.specs.declared.Written.{Written}
 use Rattle.header_read.specs.Called.{readRefusal, noModels, theModels}
 use Rattle.header_read.specs.declared.Models.{Models}
+use Rattle.key_frame.specs.Key.{identities, keyRefusal}
 
 -- how many of the seven references are coded, from the first on
 abbrev pub coded : Bool → ℕ
@@ -36,11 +35,6 @@ frameCount intra types ps flag qs = sum (λ r. modelCount flag ps qs (getD types
 
 -- ---- what the standard reads
 
--- n models that aren't coded
-abbrev pub identities : ℕ → List ℤ
-identities zero = []
-identities (suc n) = pos 0 ∷ pos 0 ∷ pos 65536 ∷ pos 0 ∷ pos 0 ∷ pos 65536 ∷ identities n
-
 -- the coded references from position `at` on, then the others
 unfoldable pub frameRead : Bool → List ℕ → ℕ → ℕ → List ℤ → ReadModels
 frameRead intra header at flag qs =
@@ -48,29 +42,6 @@ frameRead intra header at flag qs =
     record { types = t .types ++ replicate (7 - coded intra) 0; params = t .params ++ identities (7 - coded intra); bits = t .bits }
 
 -- ---- the call that writes
-
--- of types and of their numbers: a key frame's prior isn't looked at
-abbrev pub keyLengthsWrong : ℕ → ℕ → Bool
-keyLengthsWrong types ps = either (not (eqb types 7)) (not (eqb ps 42))
-
-abbrev pub typeAt : List ℕ → ℕ → Bool
-typeAt types k = not (eqb (getD types k 0) 0)
-
--- a type that isn't IDENTITY
-unfoldable pub someType : List ℕ → Bool
-someType types = anyBelow (typeAt types) (length types)
-
-abbrev pub notIdentity : List ℕ → ℕ → List ℤ → Bool
-notIdentity types flag ps = either (someType types) (modelsWrong types flag ps)
-
-abbrev pub keyCodeRows : List ℕ → List ℤ → ℕ → List Row
-keyCodeRows types ps flag = row 2 (keyLengthsWrong (length types) (length ps)) ∷ row 4 (typesOver types) ∷ row 4 (ltb 1 flag) ∷ []
-
-abbrev pub keyModelRows : ℕ → List ℕ → List ℤ → ℕ → List Row
-keyModelRows start types ps flag = row 14 (startOver start) ∷ row 7 (notIdentity types flag ps) ∷ []
-
-unfoldable pub keyRefusal : ℕ → List ℕ → List ℤ → ℕ → ℕ
-keyRefusal start types ps flag = orElse (judge (keyCodeRows types ps flag)) (judge (keyModelRows start types ps flag))
 
 abbrev pub frameRefusal : Bool → ℕ → List ℕ → List ℤ → ℕ → List ℤ → ℕ → ℕ
 frameRefusal true start types ps flag qs room = keyRefusal start types ps flag

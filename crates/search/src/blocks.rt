@@ -38,7 +38,7 @@ fn word_at(
         r: block.r * HALF_BLOCK,
         c: block.c * HALF_BLOCK,
     };
-    let coarse = stage::coarse(input_half, ref_half, half);
+    let coarse = coarse::coarse(input_half, ref_half, half);
     let place = Place {
         r: block.r * BLOCK,
         c: block.c * BLOCK,
@@ -48,7 +48,7 @@ fn word_at(
         y: 2 * coarse.y + FULL_REACH,
         x: 2 * coarse.x + FULL_REACH,
     };
-    let best = stage::fine(twice, input, reference, place);
+    let best = fine::fine(twice, input, reference, place);
     Sampled {
         word: sample::word_of(
             block.r as u32,

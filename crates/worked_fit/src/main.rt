@@ -125,8 +125,8 @@ fn fill(words: &mut [u32], seed: u32, mask: u32, fixed: u32) {
     let mut state = seed;
     let mut i = 0usize;
     while i < words.len() {
-        let high = practice::next_state(state);
-        state = practice::next_state(high);
+        let high = generator::next_state(state);
+        state = generator::next_state(high);
         words[i] = (((high & 0xffff_0000) | (state >> 16)) & mask) | fixed;
         i += 1;
     }
