@@ -133,7 +133,7 @@ counting j n =
 
 module _ (j : Task) (l : Lent) where
   -- an accepted job is the job from its search's words on
-  as-words : late (sheetOf j) ≡ 0 → finishedIn (ended (job.accepted j) (leftByJob j l)) ≡ finish (accepted (sheetOf j)) (blocksBy (sheetOf j) (l .blocks)) (headerBy (sheetOf j) (l .header))
+  pub as-words : late (sheetOf j) ≡ 0 → finishedIn (ended (job.accepted j) (leftByJob j l)) ≡ finish (accepted (sheetOf j)) (blocksBy (sheetOf j) (l .blocks)) (headerBy (sheetOf j) (l .header))
   as-words z = ap (λ (n : ℕ). finish (counting j n) (blocksBy (sheetOf j) (l .blocks)) (headerBy (sheetOf j) (l .header))) (sym (words-length j))
 
   demand-3 : Ready j l → late (sheetOf j) ≡ 0 → Demand3 j (ended (job.accepted j) (leftByJob j l))
