@@ -14,15 +14,9 @@ use Rattle.models.specs.Models.{priorsOut}
 use Rattle.header.proofs.Priors.{models-prior}
 use Rattle.run.specs.declared.Run.{Run}
 use Rattle.run.specs.Run.{codesWrong, runOf, runRefusal, started}
-<<<<<<< HEAD
 use Rattle.run_frame.specs.Recovery.{turns}
 use Rattle.run_frame.proofs.Sound as frames
-use Rattle.job_task.specs.Task.{Task, Lent}
-=======
-use Rattle.run.specs.Recovery.{turns}
-use Rattle.run.proofs.Sound as frames
 use Rattle.job_task.specs.Task.{Task, Lent, sheetOf}
->>>>>>> bands
 use Rattle.job_task.proofs.Accepted.{ready}
 use Rattle.job_outcome.specs.Outcome.{Ended, outcome, types, models}
 use Rattle.job_outcome.proofs.Stages.{accepted-stages, ends-accepted}
