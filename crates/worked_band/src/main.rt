@@ -130,7 +130,7 @@ struct Part {
     to: usize,
 }
 
-fn part(
+fn part_of(
     s: Shape,
     input: &[u16],
     reference: &[u16],
@@ -174,8 +174,8 @@ fn parts_hold(
     rows: u32,
     words: &[u32],
 ) -> bool {
-    let one = part(s, input, reference, input_half, ref_half, 0, low, words, 0);
-    let two = part(
+    let one = part_of(s, input, reference, input_half, ref_half, 0, low, words, 0);
+    let two = part_of(
         s,
         input,
         reference,
@@ -186,7 +186,7 @@ fn parts_hold(
         words,
         one.to,
     );
-    let three = part(
+    let three = part_of(
         s,
         input,
         reference,
