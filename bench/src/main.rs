@@ -191,7 +191,7 @@ fn head() -> String {
          'Search / by hand' has no Rust: it is our time divided by that of the same search written by hand in C with SSE2 \
          (`bench/hand/search.c`), which gives the same words, half planes and rows; nothing proves that one.\n\n\
          'Word / one by one' has no Rust: a field put into its bytes at once is divided by the same field put there bit by bit, \
-         both proved to the same promise (`crates/placing`); 24 fields of a width from bit 3 on, or the fields of a header.\n\n\
+         both proved to the same promise (`crates/bench_placing`); 24 fields of a width from bit 3 on, or the fields of a header.\n\n\
          A job is measured against the composition of the Rust's parts: search, words, fit, quantization, score, \
          blocks by `bench/src/frames.rs`, and header. Its fit takes the samples of its search as they are; a job that elects has \
          `estimate_global_motion` there, and a score of the elected model. \

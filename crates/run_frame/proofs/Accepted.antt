@@ -11,8 +11,8 @@ use Rattle.laws.specs.Refusal.{row, judge}
 use Rattle.laws.proofs.Call.{answered-accepted, answered-refused}
 use Rattle.laws.proofs.Refusal.{neither, length-is, quiet, or-else-quiet}
 use Rattle.models.specs.Models.{priorsOut}
-use Rattle.frame_motion.specs.Frame.{frameRefusal, frameBits}
-use Rattle.frame_motion.proofs.Accepted.{carried}
+use Rattle.frame_header.specs.Frame.{frameRefusal, frameBits}
+use Rattle.frame_header.proofs.Accepted.{carried}
 use Rattle.run.specs.declared.Run.{Run}
 use Rattle.run.specs.Run.{codesWrong, runRefusal}
 use Rattle.run_frame.specs.Frame.{firstRows, framedRefusal, priorAfter, runAfter, notFramed, framed}

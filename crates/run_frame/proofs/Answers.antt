@@ -21,8 +21,8 @@ use Rattle.header.proofs.Accepted as writing
 use Rattle.header_read.specs.declared.Models.{Models}
 use Rattle.header_read.specs.Called.{readRefusal}
 use Rattle.forms.specs.Forms.{noForm}
-use Rattle.frame_motion.specs.Frame.{frameBits, frameRefusal, framePlaced, frameWritten, frameAfter, frameModels}
-use Rattle.frame_motion.proofs.Intra.{key-after}
+use Rattle.frame_header.specs.Frame.{frameBits, frameRefusal, framePlaced, frameWritten, frameAfter, frameModels}
+use Rattle.frame_header.proofs.Intra.{key-after}
 use Rattle.run.specs.declared.Run.{Run}
 use Rattle.run_frame.specs.declared.Framed.{Framed}
 use Rattle.run.specs.Run.{runOf, codesWrong, runRefusal}

@@ -14,7 +14,7 @@ use Rattle.laws.proofs.Cases.{outcome}
 use Rattle.laws.proofs.Refusal.{quiet, or-else-nothing}
 use Rattle.models.specs.Models.{priorsOut}
 use Rattle.header.specs.Writing.{lengthsWrong, writeRefusal}
-use Rattle.frame_motion.specs.Frame.{frameRefusal, frameBits, framePlaced, frameWritten, frameAfter}
+use Rattle.frame_header.specs.Frame.{frameRefusal, frameBits, framePlaced, frameWritten, frameAfter}
 use Rattle.key_frame.specs.Key.{keyLengthsWrong, keyRefusal}
 use Rattle.run.specs.declared.Run.{Run}
 use Rattle.run_frame.specs.declared.Framed.{Framed}

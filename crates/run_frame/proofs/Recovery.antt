@@ -14,8 +14,8 @@ use Rattle.laws.specs.Refusal.{both}
 use Rattle.laws.proofs.Call.{left-accepted, left-refused}
 use Rattle.laws.proofs.Cases.{eq-or-ne}
 use Rattle.header_read.specs.declared.Models.{Models}
-use Rattle.frame_motion.specs.Frame.{frameBits, frameModels}
-use Rattle.frame_motion.proofs.RoundTrip.{accepted-read}
+use Rattle.frame_header.specs.Frame.{frameBits, frameModels}
+use Rattle.frame_header.proofs.RoundTrip.{accepted-read}
 use Rattle.run.specs.declared.Run.{Run}
 use Rattle.run_frame.specs.declared.Framed.{Framed}
 use Rattle.run_frame.specs.declared.FrameModels.{FrameModels}

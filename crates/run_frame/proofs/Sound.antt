@@ -18,9 +18,9 @@ use Rattle.models.specs.Models.{priorsOut}
 use Rattle.header.proofs.Accepted as writing
 use Rattle.header.proofs.Priors.{models-prior}
 use Rattle.forms.specs.Forms.{noForm}
-use Rattle.frame_motion.specs.Frame.{frameRefusal}
+use Rattle.frame_header.specs.Frame.{frameRefusal}
 use Rattle.key_frame.specs.Key.{identities}
-use Rattle.frame_motion.proofs.Accepted.{key-plain}
+use Rattle.frame_header.proofs.Accepted.{key-plain}
 use Rattle.run.specs.declared.Run.{Run}
 use Rattle.run_frame.specs.declared.Framed.{Framed}
 use Rattle.run.specs.declared.Moved.{Moved}

@@ -16,7 +16,7 @@ use Rattle.models.specs.Models.{typesOver, modelsWrong, modelWrong, slotWrong, 
 use Rattle.header.specs.Coefficient.{coefficientBits}
 use Rattle.header.specs.Writing.{headerBits, referenceBits, modelBits, writeRefusal}
 use Rattle.header_read.specs.declared.Models.{Models}
-use Rattle.frame_motion.specs.Frame.{frameBits}
+use Rattle.frame_header.specs.Frame.{frameBits}
 use Rattle.key_frame.specs.Key.{identities, someType, keyRefusal}
 use Rattle.run.specs.declared.Run.{Run}
 use Rattle.run.specs.Run.{runOf, fresh, started, switchRefusal, switched}

@@ -11,7 +11,7 @@ use Rattle.models.specs.Models.{priorsOut}
 use Rattle.header.specs.Writing.{notWritten}
 use Rattle.header_read.specs.Called.{noModels}
 use Rattle.header_read.specs.declared.Models.{Models}
-use Rattle.frame_motion.specs.Frame.{frameRefusal, frameBits, framePlaced, frameModels}
+use Rattle.frame_header.specs.Frame.{frameRefusal, frameBits, framePlaced, frameModels}
 use Rattle.key_frame.specs.Key.{identities, keyLengthsWrong}
 use Rattle.run.specs.declared.Run.{Run}
 use Rattle.run_frame.specs.declared.Framed.{Framed}

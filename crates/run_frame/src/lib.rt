@@ -64,7 +64,7 @@ fn prior_from(params: &[i32]) -> [i32; 42]
     out
 }
 
-// A frame of either kind with the run's flag and prior, as `frame_motion::encode_global_motion` writes
+// A frame of either kind with the run's flag and prior, as `frame_header::encode_global_motion` writes
 // it. Its models are the next prior: an accepted key frame's are identities.
 pub fn frame(
     run: Run,
@@ -82,7 +82,7 @@ pub fn frame(
         return not_framed(run, refusal);
     }
     let prior = run.prior;
-    let written = frame_motion::encode_global_motion(
+    let written = frame_header::encode_global_motion(
         intra,
         types,
         params,
@@ -125,7 +125,7 @@ pub fn read(run: Run, intra: bool, header: &[u8], at: usize) -> FrameModels
         return FrameModels { models, run };
     }
     let prior = run.prior;
-    let models = frame_motion::read_global_motion(intra, header, at, run.flag, &prior);
+    let models = frame_header::read_global_motion(intra, header, at, run.flag, &prior);
     if models.refusal != 0 {
         return FrameModels { models, run };
     }

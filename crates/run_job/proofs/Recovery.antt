@@ -12,8 +12,8 @@ use Rattle.laws.specs.Refusal.{both}
 use Rattle.laws.proofs.Call.{left-accepted, left-refused}
 use Rattle.laws.proofs.Cases.{eq-or-ne}
 use Rattle.header_read.specs.declared.Models.{Models}
-use Rattle.frame_motion.specs.Frame.{frameModels}
-use Rattle.frame_motion.proofs.Inter.{inter-models}
+use Rattle.frame_header.specs.Frame.{frameModels}
+use Rattle.frame_header.proofs.Inter.{inter-models}
 use Rattle.run.specs.declared.Run.{Run}
 use Rattle.run_frame.specs.declared.FrameModels.{FrameModels}
 use Rattle.run.specs.Run.{runOf, started}
