@@ -1,4 +1,5 @@
 -- Bits of a buffer, counted from the high bit of its first byte: the bit at a position, and bits put there that leave all others.
+-- docs/RULES.md, 'Header'.
 -- Assumes nothing.
 use Prim.Native.Nat.{ℕ, _+_, _-_, _*_, _/_, _%_, _^_}
 use mathlib.Core.List.{List, [], _∷_}

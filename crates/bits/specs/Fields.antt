@@ -1,4 +1,5 @@
 -- A field: a number as n bits, high bit first (clause 4.10.2), written as a list of bits and read from a stream of bits.
+-- docs/RULES.md, 'Header' and 'Reading by the standard'.
 -- Assumes nothing.
 use Prim.Native.Nat.{ℕ, zero, suc, _+_, _-_, _*_, _%_, _^_}
 use mathlib.Core.List.{List, [], _∷_}

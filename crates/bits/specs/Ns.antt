@@ -1,4 +1,5 @@
 -- The ns(n) code of clause 4.10.7 for n symbols: its bits, and what is read from a stream of bits.
+-- docs/RULES.md, 'Header' and 'Reading by the standard'.
 -- Assumes nothing.
 use Prim.Native.Nat.{ℕ, zero, suc, _+_, _-_, _*_, _/_, _^_}
 use mathlib.Core.List.{List}

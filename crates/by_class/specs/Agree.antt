@@ -1,4 +1,5 @@
 -- What it is for two lists to agree on the samples of the named classes, and to hold the same words of them in any order.
+-- docs/RULES.md, 'Sets of classes'.
 -- Assumes nothing.
 use Prim.Native.Nat.{ℕ}
 use mathlib.Core.Bool.{Bool}

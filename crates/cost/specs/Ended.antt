@@ -1,4 +1,5 @@
 -- Sums that end early (docs/RULES.md, 'Rows added'): after the first row that brings the sum, with any offset cost, to the best so far or above.
+-- docs/RULES.md, 'Search'.
 -- Assumes nothing.
 use Prim.Native.Nat.{ℕ, _+_}
 use mathlib.Core.List.{List, [], _∷_}

@@ -1,4 +1,5 @@
 -- What it is for an answer to be a candidate inside the gate.
+-- docs/RULES.md, 'Election'.
 -- Assumes nothing.
 use Prim.Native.Nat.{ℕ, _≤_}
 use mathlib.Core.Bool.{false}

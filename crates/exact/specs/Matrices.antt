@@ -1,4 +1,5 @@
 -- Every sum of the three fits' matrices and right sides, as the fits have it, stands for its whole-number sum over its power of two.
+-- docs/RULES.md, 'Fits and score'.
 -- Assumes nothing.
 use Prim.Native.Nat.{ℕ}
 use mathlib.Core.List.{List}

@@ -1,4 +1,5 @@
 -- The two sums of the translation refit against a linear part on the grid, in whole numbers as the table has them.
+-- docs/RULES.md, 'Fits and score'.
 -- Assumes nothing.
 use Prim.Native.Nat.{ℕ, _+_, _*_, _^_}
 use lib.IntN.{ℤ, pos, _+ℤ_, _-ℤ_, _*ℤ_}

@@ -1,5 +1,6 @@
 -- A word's sample in whole numbers, and for each sum of the three fits the whole number that its term stands for, over
 -- which power of two, and how large that number is at most.
+-- docs/RULES.md, 'Fits and score'.
 -- Assumes nothing.
 use Prim.Native.Nat.{ℕ, _+_, _*_}
 use mathlib.Core.List.{List, [], _∷_}

@@ -1,4 +1,5 @@
 -- Lists of sample words: what a word is, how often one stands in a list, and two orders of the same words, none lost or added.
+-- docs/RULES.md, 'Fits and score'.
 -- Assumes nothing.
 use Prim.Native.Nat.{ℕ, _+_, _^_, _<_}
 use mathlib.Core.List.{List, [], _∷_}

@@ -1,5 +1,6 @@
 -- The three fits of a list whose elements are read as samples, their refusals, and the number and values of each case
 -- of the answer.
+-- docs/RULES.md, 'Model' and 'Fits and score'.
 -- Assumes nothing.
 use Prim.Native.Nat.{ℕ}
 use mathlib.Core.Bool.{Bool}

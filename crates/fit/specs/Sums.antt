@@ -1,4 +1,5 @@
 -- The sums of the three fits: each one a fold of one term per sample, first to last, one rounding for each addition.
+-- docs/RULES.md, 'Fits and score'.
 -- Assumes nothing.
 use Prim.Native.Nat.{ℕ}
 use mathlib.Core.List.{List}

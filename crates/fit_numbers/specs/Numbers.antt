@@ -1,4 +1,5 @@
 -- A fitted model as the numbers that pass to and from C: its refusal and six numbers, zeros where its type has none, and the model of a type code and six numbers.
+-- docs/RULES.md, 'Model'.
 -- Assumes nothing.
 use Prim.Native.Nat.{ℕ}
 use mathlib.Core.List.{List}

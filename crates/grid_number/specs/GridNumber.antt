@@ -1,4 +1,5 @@
 -- The grid number of a binary64: its product with 65536, rounded half away from zero, held to the i32 range, 0 for not-a-number.
+-- docs/RULES.md, 'Fits and score'.
 -- Assumes nothing.
 use Prim.Native.Nat.{ℕ, _+_, _-_, _*_, _/_, min}
 use mathlib.Core.Bool.{Bool, true, false}

@@ -1,4 +1,5 @@
 -- The whole contract of a job: how it ends, and demand 3 where it is accepted.
+-- docs/RULES.md, 'Job'.
 -- Assumes nothing.
 use mathlib.Core.Path.{_≡_}
 use Rattle.job_task.specs.Task.{Task, Lent}

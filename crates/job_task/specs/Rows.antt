@@ -1,5 +1,6 @@
 -- The rows of the table of refusals that a job meets before its search, in the table's order: 1, 2, 4, 19, 5, 14, 7, 8,
 -- 13, 3, 15, 17. A job that elects has no 15; one of form 2 has no 13, since a class over 4 is met in row 4. docs/RULES.md, 'When a call says no'.
+-- docs/RULES.md, 'Job'.
 -- Assumes nothing.
 use Prim.Native.Nat.{ℕ, _*_}
 use mathlib.Core.Bool.{Bool, false, not}

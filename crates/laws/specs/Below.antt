@@ -1,4 +1,5 @@
 -- A test that holds at some number below a limit: what a loop looks for.
+-- docs/RULES.md, 'When a call says no'.
 -- Assumes nothing.
 use Prim.Native.Nat.{ℕ, zero, suc}
 use mathlib.Core.Bool.{Bool, false}

@@ -1,4 +1,5 @@
 -- The four operations on binary64, each with one rounding, and the numbers that more than one crate writes.
+-- docs/RULES.md, 'Fits and score'.
 -- Assumes nothing.
 use lib.Ieee.{Float, binary64, add, sub, mul, div, ofBits}
 

@@ -1,4 +1,5 @@
 -- A lent buffer that was written from its front: the new part, and after it what was there.
+-- docs/RULES.md, 'When a call says no'.
 -- Assumes nothing.
 use mathlib.Core.List.{List, _++_}
 use lib.ListN.{length, drop}

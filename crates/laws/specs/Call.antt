@@ -1,4 +1,5 @@
 -- What a public call gives and leaves, by the number that its table answers: 0 accepts.
+-- docs/RULES.md, 'When a call says no'.
 -- Assumes nothing.
 use Prim.Native.Nat.{ℕ}
 use lib.Dec.{eqb}

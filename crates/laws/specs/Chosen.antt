@@ -1,4 +1,5 @@
 -- Elements chosen by a label each: a class, a distance. And what a loop leaves that moves them to the front of a buffer.
+-- docs/RULES.md, 'Sets of classes'.
 -- Assumes nothing.
 use Prim.Native.Nat.{ℕ}
 use mathlib.Core.Bool.{Bool}

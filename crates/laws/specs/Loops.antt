@@ -1,4 +1,5 @@
 -- What a loop computes, over any state: by index, by list, and as a sum.
+-- docs/RULES.md, 'Search'.
 -- Assumes nothing.
 use Prim.Native.Nat.{ℕ, zero, suc, _+_, _-_}
 use mathlib.Core.List.{List, [], _∷_}

@@ -1,4 +1,5 @@
 -- A list that is made of parts, counted from 0, one after the other.
+-- docs/RULES.md, 'Search'.
 -- Assumes nothing.
 use Prim.Native.Nat.{ℕ, zero, suc}
 use mathlib.Core.List.{List, [], _∷_, _++_}

@@ -1,4 +1,5 @@
 -- A lent buffer that was written from a position on: what stands before it, the new part, and after that what was there.
+-- docs/RULES.md, 'When a call says no'.
 -- Assumes nothing.
 use Prim.Native.Nat.{ℕ}
 use mathlib.Core.List.{List, _++_}

@@ -1,4 +1,5 @@
 -- The table of refusals: rows of a number and a condition, of which the first that holds is the answer, 0 for none.
+-- docs/RULES.md, 'When a call says no'.
 -- Assumes nothing.
 use Prim.Native.Nat.{ℕ, zero, suc}
 use mathlib.Core.Bool.{Bool, true, false}

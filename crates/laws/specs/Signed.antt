@@ -1,4 +1,5 @@
 -- The sign of a whole number.
+-- docs/RULES.md, 'Grid'.
 -- Assumes nothing.
 use mathlib.Core.Bool.{Bool, true, false}
 use lib.IntN.{ℤ, pos, negsuc}

@@ -1,4 +1,5 @@
 -- What it is for a binary64 to stand for a whole number over a power of two, and a whole-number sum over a list.
+-- docs/RULES.md, 'Fits and score'.
 -- Assumes nothing.
 use Prim.Native.Nat.{ℕ, _^_, _≤_}
 use mathlib.Core.List.{List, [], _∷_}

@@ -1,4 +1,5 @@
 -- The median of a list of binary64 numbers: the list ordered rising, and in it the number at half its length. Of an even length that is the upper of the two in the middle.
+-- docs/RULES.md, 'Trimming'.
 -- Assumes nothing.
 use Prim.Native.Nat.{_/_}
 use mathlib.Core.Bool.{Bool, true}

@@ -1,4 +1,5 @@
 -- Two lists of the same numbers, in whatever order: each stands in both equally often. Numbers are told apart by their bit patterns, so +0 from −0 too.
+-- docs/RULES.md, 'Trimming'.
 -- Assumes nothing.
 use Prim.Native.Nat.{ℕ, _+_}
 use mathlib.Core.List.{List, [], _∷_}

@@ -1,4 +1,5 @@
 -- A test of two signed numbers for equality.
+-- docs/RULES.md, 'Model'.
 -- Assumes nothing.
 use mathlib.Core.Bool.{Bool, false}
 use lib.Dec.{eqb}

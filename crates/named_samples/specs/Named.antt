@@ -1,4 +1,5 @@
 -- Samples that are lent as four numbers each, x, y, u, v, and those of the named classes, in their order, by a class for each.
+-- docs/RULES.md, 'Sets of classes'.
 -- Assumes nothing.
 use Prim.Native.Nat.{ℕ}
 use mathlib.Core.List.{List, map}

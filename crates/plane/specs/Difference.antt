@@ -1,4 +1,5 @@
 -- By how much two pels, or two numbers, differ.
+-- docs/RULES.md, 'Search'.
 -- Assumes nothing.
 use Prim.Native.Nat.{ℕ, _+_, _-_}
 

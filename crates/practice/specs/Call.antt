@@ -1,4 +1,5 @@
 -- When no practice belt is made (docs/RULES.md, rows 1, 18 and 3), what the call answers, and what it leaves in the lent buffers.
+-- docs/RULES.md, 'Practice belt'.
 -- Assumes nothing.
 use Prim.Native.Nat.{ℕ, _*_}
 use mathlib.Core.Bool.{Bool}

@@ -1,4 +1,5 @@
 -- The price list of a coefficient: when it says no (docs/RULES.md, rows 4, 5 and 8), and what it answers.
+-- docs/RULES.md, 'Prices'.
 -- Assumes nothing.
 use Prim.Native.Nat.{ℕ, _+_}
 use mathlib.Core.Bool.{Bool, not}

@@ -1,4 +1,5 @@
 -- Which grid numbers a fitted model has in which slots, and what it is for a slot's number to be the nearest codable one.
+-- docs/RULES.md, 'Fits and score'.
 -- Assumes nothing.
 use Prim.Native.Nat.{ℕ}
 use mathlib.Core.List.{List}

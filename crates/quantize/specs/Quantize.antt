@@ -1,4 +1,5 @@
 -- A fitted model on the grid: its linear part quantized, the translation fitted again against that part, and quantized too; x first, and row first as stored.
+-- docs/RULES.md, 'Model' and 'Fits and score'.
 -- Assumes nothing.
 use Prim.Native.Nat.{ℕ}
 use mathlib.Core.Bool.{Bool}

@@ -1,4 +1,5 @@
 -- The root of a binary64, correctly rounded: the nearest whole root of a scaled whole number, found by comparing squares, and scaled back.
+-- docs/RULES.md, 'Fits and score'.
 -- Assumes nothing.
 use Prim.Native.Nat.{ℕ, zero, suc, _+_, _*_, _/_, _^_}
 use mathlib.Core.Bool.{true, false, cond}

@@ -1,4 +1,5 @@
 -- The sample of a word as four binary64 numbers in pels: x = 16 C + 7.5, y = 16 R + 7.5, u and v the eighths divided by 8, each step rounded once.
+-- docs/RULES.md, 'Sample'.
 -- Assumes nothing.
 use Prim.Native.Nat.{ℕ, _*_}
 use lib.IntN.{ℤ, pos, _-ℤ_}

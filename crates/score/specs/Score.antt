@@ -1,4 +1,5 @@
 -- A model of whole numbers as binary64 numbers, its residual at a sample, and the score of a list: the mean squared residual, 0.0 for none.
+-- docs/RULES.md, 'Fits and score'.
 -- Assumes nothing.
 use Prim.Native.Nat.{ℕ}
 use mathlib.Core.List.{List}

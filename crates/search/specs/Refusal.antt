@@ -1,4 +1,5 @@
 -- When the search says no (docs/RULES.md, rows 1, 2, 4, 3), what it answers, and what it leaves in the lent buffers.
+-- docs/RULES.md, 'Search'.
 -- Assumes nothing.
 use Prim.Native.Nat.{ℕ, _*_, _/_}
 use mathlib.Core.Bool.{Bool, not}

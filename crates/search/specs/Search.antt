@@ -1,4 +1,5 @@
 -- The search of docs/RULES.md: the motion of a block, the sample words of a frame pair, and how many there are.
+-- docs/RULES.md, 'Search'.
 -- Assumes nothing.
 use Prim.Native.Nat.{ℕ, _+_, _*_, _/_, _%_}
 use mathlib.Core.List.{List}

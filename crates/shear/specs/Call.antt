@@ -1,5 +1,6 @@
 -- The shear check of a model: when it says no (docs/RULES.md, rows 2, 4 and 7), and what it answers.
 -- The precision flag plays no part: no slot of ROTZOOM and AFFINE has a grid that depends on it.
+-- docs/RULES.md, 'Shear'.
 -- Assumes nothing.
 use Prim.Native.Nat.{ℕ}
 use mathlib.Core.Bool.{Bool, not}

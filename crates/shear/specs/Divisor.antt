@@ -1,4 +1,5 @@
 -- The division by a table of reciprocals: clause 7.11.3.7, resolve divisor.
+-- docs/RULES.md, 'Shear'.
 -- Assumes nothing.
 use Prim.Native.Nat.{ℕ, _+_, _*_, _-_, _/_, _^_}
 use lib.Dec.{ltb}

@@ -1,4 +1,5 @@
 -- The standard's functions on numbers that the shear needs: section 4.7, Round2, Round2Signed, FloorLog2 and Clip3.
+-- docs/RULES.md, 'Shear'.
 -- Assumes nothing.
 use Prim.Native.Nat.{ℕ, zero, suc, _+_, _/_, _^_}
 use lib.Dec.{ltb}

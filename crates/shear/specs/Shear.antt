@@ -1,4 +1,5 @@
 -- The shear numbers of a warp's linear part, and whether a decoder keeps the warp: clause 7.11.3.6, setup shear, with its names.
+-- docs/RULES.md, 'Shear'.
 -- Assumes nothing.
 use Prim.Native.Nat.{ℕ, _+_, _*_}
 use lib.Dec.{ltb}

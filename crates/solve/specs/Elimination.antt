@@ -1,4 +1,5 @@
 -- Forward elimination, operation by operation: the pivot of a column, its row exchanged, the rows below reduced.
+-- docs/RULES.md, 'Fits and score'.
 -- Assumes nothing.
 use Prim.Native.Nat.{ℕ, _+_, _*_}
 use mathlib.Core.Bool.{Bool}

@@ -1,4 +1,5 @@
 -- Back-substitution from the last row, and the answer of a system: its unknowns, or that a pivot was refused.
+-- docs/RULES.md, 'Fits and score'.
 -- Assumes nothing.
 use Prim.Native.Nat.{ℕ, _+_, _-_}
 use mathlib.Core.List.{List}

@@ -1,4 +1,5 @@
 -- The three stages with sums that end early (docs/RULES.md, 'Rows added'): the same motions, and how many rows are added to find them.
+-- docs/RULES.md, 'Search'.
 -- Assumes nothing.
 use Prim.Native.Nat.{ℕ, _+_, _/_}
 use mathlib.Core.List.{List}

@@ -1,4 +1,5 @@
 -- One coefficient, a symbol of S counted from 0, about its prior's place: clauses 5.9.26 to 5.9.28.
+-- docs/RULES.md, 'Header' and 'Reading by the standard'.
 -- Assumes nothing.
 use Prim.Native.Nat.{ℕ}
 use mathlib.Core.List.{List}

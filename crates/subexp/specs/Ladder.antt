@@ -1,4 +1,5 @@
 -- The sub-exponential ladder over S symbols, written as a list of bits and read as docs/RULES.md writes it out: clause 5.9.28.
+-- docs/RULES.md, 'Header' and 'Reading by the standard'.
 -- Assumes nothing.
 use Prim.Native.Nat.{ℕ, zero, suc, _+_, _-_, _*_}
 use mathlib.Core.List.{List, [], _∷_}

@@ -1,4 +1,5 @@
 -- Recentring about a prior's place: clause 5.9.29's inverse_recenter, its inverse, and clause 5.9.27 with both sides of the range.
+-- docs/RULES.md, 'Header' and 'Reading by the standard'.
 -- Assumes nothing.
 use Prim.Native.Nat.{ℕ, _+_, _-_, _*_, _/_, _%_}
 use lib.Dec.{ltb, leb, eqb}

@@ -1,4 +1,5 @@
 -- A fit after trimming as the numbers that pass to C: its refusal, the samples that it used, and six numbers.
+-- docs/RULES.md, 'Trimming'.
 -- Assumes nothing.
 use Rattle.fit_numbers.specs.Numbers.{numbersOf}
 use Rattle.trim.specs.declared.Trimmed.{Trimmed}

@@ -34,6 +34,6 @@ between-spec =
     add-result
     returns
     returns-2
-    (search needs)
-    (search needs)
-    (search needs))
+    (λ c. omega arith)
+    (λ c. omega arith)
+    (λ c. omega arith))

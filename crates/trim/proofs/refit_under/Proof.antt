@@ -1,5 +1,6 @@
 -- `trim::refit_under`: model, flag and linear part stay as they begin, so the sums alone are walked; the walk ends with the quantized model of the samples under the limit.
 -- Assumes nothing.
+use native.Mathlib.Omega.{arith}
 use borrow.Author.Needs.{needs}
 use Prim.Native.Nat.{ℕ}
 use mathlib.Core.List.{List}
@@ -39,4 +40,4 @@ returns c =
     ∙ walk-ends read (a .fitted) (a .flag) kept
 
 pub refit-under-spec : {M : Type 1} → statement M
-refit-under-spec = tie.close (tie.spec (search needs) (search needs) (search needs) returns)
+refit-under-spec = tie.close (tie.spec (λ c. omega arith) (λ c. omega arith) (λ c. omega arith) returns)

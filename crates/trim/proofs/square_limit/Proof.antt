@@ -84,11 +84,11 @@ square-limit-spec =
     (tie.spec
     Inv-loop
     μ-loop
-    (search needs)
+    (λ c. omega arith)
     loop-holds
-    (search needs)
+    (λ c. omega arith)
     float-from-bits-root
-    (search needs)
+    (λ c. omega arith)
     add-lo
     loop-less
     loop-again
