@@ -35,9 +35,9 @@
 #include <stdint.h>
 
 #define BELT_VERSION_MAJOR 0
-#define BELT_VERSION_MINOR 14
+#define BELT_VERSION_MINOR 15
 #define BELT_VERSION_PATCH 0
-#define BELT_VERSION "0.14.0"
+#define BELT_VERSION "0.15.0"
 /* The three in one number, as belt_version answers them. */
 #define BELT_VERSION_NUMBER (BELT_VERSION_MAJOR * 1000000u + BELT_VERSION_MINOR * 1000u + BELT_VERSION_PATCH)
 
