@@ -312,10 +312,7 @@ impl<'a> WordTask<'a> {
 
     /// The buffers of such a job, whose blocks are of a form.
     pub(crate) fn rooms(&self, blocks: &[u8], header: &[u8], form: Form) -> [Length; 2] {
-        [
-            Length::of("blocks", blocks, block_bytes(self.words.len(), form)),
-            Length::of("header", header, HEADER_BYTES),
-        ]
+        [Length::of("blocks", blocks, block_bytes(self.words.len(), form)), Length::of("header", header, HEADER_BYTES)]
     }
 }
 

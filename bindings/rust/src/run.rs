@@ -337,16 +337,8 @@ impl Run {
     ) -> Result<Report, Refusal> {
         let form = self.form_held();
         let WordTask { words, settings, classes, types, models, .. } = *task;
-        let raw::JobDone { report, run } = raw::run_job_of_words(
-            self.0,
-            words,
-            settings.raw(),
-            classes,
-            types,
-            raw::numbers(models),
-            blocks,
-            header,
-        );
+        let raw::JobDone { report, run } =
+            raw::run_job_of_words(self.0, words, settings.raw(), classes, types, raw::numbers(models), blocks, header);
         self.0 = run;
         let (refusal, report) = Report::of_raw(report, settings);
         judged_lists(refusal, report, || task.lists(), || task.rooms(blocks, header, form))
@@ -373,12 +365,7 @@ impl Run {
     /// # Ok::<(), belt::Refusal>(())
     /// ```
     #[cfg(feature = "std")]
-    pub fn job_parallel(
-        &mut self,
-        task: &Task<'_>,
-        lent: &mut Lent<'_>,
-        threads: usize,
-    ) -> Result<Report, Refusal> {
+    pub fn job_parallel(&mut self, task: &Task<'_>, lent: &mut Lent<'_>, threads: usize) -> Result<Report, Refusal> {
         // a copy of the run is judged: what is refused moves nothing
         let mut judged = *self;
         if !searched_first(task, lent, self.form_held(), threads, |none| judged.job(task, none)) {
