@@ -176,29 +176,28 @@ class AtOnce(unittest.TestCase):
 
     def test_python_goes_on_while_a_band_is_searched(self):
         made, words = halves(self.planes, 1024, 1024), array("I", bytes(4 * 4096))
-        begun, ended = threading.Event(), threading.Event()
+        span = []
 
         def search():
-            begun.set()
+            start = time.monotonic()
             belt.search_band(*self.planes, 1024, 1024, *made, 0, 64, words)
-            ended.set()
+            span.append((start, time.monotonic()))
 
-        steps, most = 0, 0
-        # a thread that holds the lock lets no step be made; now and then this one isn't given a processor
+        # a call that held the lock would let no step be made in its middle; now and then this thread has no processor
+        most = 0
         for _ in range(20):
-            begun.clear()
-            ended.clear()
+            steps = []
             other = threading.Thread(target=search)
             other.start()
-            begun.wait()
-            steps = 0
-            while not ended.is_set():
-                steps += 1
+            while other.is_alive():
+                steps.append(time.monotonic())
             other.join()
-            most = max(most, steps)
-            if most > 1000:
+            start, end = span.pop()
+            third = (end - start) / 3
+            most = max(most, sum(start + third < step < end - third for step in steps))
+            if most > 100:
                 break
-        self.assertGreater(most, 1000)
+        self.assertGreater(most, 100)
 
     @unittest.skipIf(PROCESSORS < 2, "one processor alone")
     def test_two_threads_are_faster(self):
