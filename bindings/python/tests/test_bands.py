@@ -176,37 +176,34 @@ class AtOnce(unittest.TestCase):
 
     def test_python_goes_on_while_a_band_is_searched(self):
         made, words = halves(self.planes, 1024, 1024), array("I", bytes(4 * 4096))
-        span = []
 
         def search():
-            start = time.monotonic()
+            start = time.thread_time()
             belt.search_band(*self.planes, 1024, 1024, *made, 0, 64, words)
-            span.append((start, time.monotonic()))
+            return time.thread_time() - start
 
-        # a call that held the lock would let no step be made in its middle; now and then this thread has no processor
-        most = 0
-        for _ in range(20):
-            steps = []
-            other = threading.Thread(target=search)
+        # a call that holds the lock lets nobody make a step for as long as it takes, at least its processor time
+        taken, longest = min(search() for _ in range(4)), 1e9
+        for _ in range(50):
+            other, steps = threading.Thread(target=search), [time.monotonic()]
             other.start()
             while other.is_alive():
                 steps.append(time.monotonic())
             other.join()
-            start, end = span.pop()
-            third = (end - start) / 3
-            most = max(most, sum(start + third < step < end - third for step in steps))
-            if most > 100:
+            longest = min(longest, max(after - before for before, after in zip(steps, steps[1:])))
+            if longest < taken / 2:
                 break
-        self.assertGreater(most, 100)
+        self.assertLess(longest, taken / 2)
 
     @unittest.skipIf(PROCESSORS < 2, "one processor alone")
     def test_two_threads_are_faster(self):
         cuts = list(range(65))
-        best, until = {1: 1e9, 2: 1e9}, time.monotonic() + 60
+        best, until = {1: 1e9, 2: 1e9}, time.monotonic() + 20
         pools = {count: ThreadPoolExecutor(count) for count in best}
-        wanted = None
-        # in turns, until the one is clearly faster; a busy machine is given a minute
-        while best[2] > 0.8 * best[1] and time.monotonic() < until:
+        wanted, turns = None, 0
+        # in turns, until the one is clearly faster
+        while turns < 8 or best[2] > 0.8 * best[1] and time.monotonic() < until:
+            turns += 1
             for count, pool in pools.items():
                 start = time.monotonic()
                 _, words, added, _ = in_bands(pool, self.planes, 1024, 1024, cuts)
@@ -215,6 +212,8 @@ class AtOnce(unittest.TestCase):
                 self.assertEqual((words, added), wanted)
         for pool in pools.values():
             pool.shutdown()
+        if best[2] > 0.8 * best[1] and os.getloadavg()[0] > PROCESSORS + 0.5:
+            self.skipTest("others have the processors")
         self.assertLess(best[2], 0.8 * best[1])
 
 
