@@ -190,6 +190,7 @@ class AtOnce(unittest.TestCase):
             while other.is_alive():
                 steps.append(time.monotonic())
             other.join()
+            steps.append(time.monotonic())
             longest = min(longest, max(after - before for before, after in zip(steps, steps[1:])))
             if longest < taken / 2:
                 break
