@@ -52,7 +52,8 @@ pub fn told() -> String {
 fn jobs() -> [f64; 2] {
     let job = Job::new(ROTZOOM, SIDE, SIDE);
     let mut lent = [Buffers::new(SIDE, SIDE), Buffers::new(SIDE, SIDE)];
-    let reports: [Report; 2] = [1, THREADS].map(|threads| job.run_on(threads, &mut lent[threads - 1]).expect("it is accepted"));
+    let reports: [Report; 2] =
+        [1, THREADS].map(|threads| job.run_on(threads, &mut lent[threads - 1]).expect("it is accepted"));
     assert_eq!(job.run(&mut Buffers::new(SIDE, SIDE)), Ok(reports[0]));
     assert_eq!(reports[0], reports[1]);
     assert!(lent[0] == lent[1], "the buffers differ");
@@ -80,7 +81,8 @@ fn in_bands(scene: Scene) -> [Work; 2] {
     let mut lent = Buffers::new(SIDE, SIDE);
     let mut bands = move |lent: &mut Buffers| {
         let Buffers { input_half, ref_half, words, .. } = lent;
-        let halved = |plane: &[u16], half: &mut [u16]| belt::half_plane(plane, SIDE, SIDE, half).expect("it is accepted");
+        let halved =
+            |plane: &[u16], half: &mut [u16]| belt::half_plane(plane, SIDE, SIDE, half).expect("it is accepted");
         halved(&input, input_half);
         halved(&reference, ref_half);
         let band = |(row, words): (usize, &mut [u32])| {

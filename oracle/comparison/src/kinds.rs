@@ -225,7 +225,8 @@ fn bands(case: &mut Case) -> Result<(), String> {
         let room = if random.one_in(2) { all } else { (end - first) * columns };
         let own = &mut words[first * columns..][..room];
         let [input_half, ref_half] = [&halves[0].1, &halves[1].1];
-        let found = belt::search_band(&pair.input, &pair.reference, width, height, input_half, ref_half, first..end, own);
+        let found =
+            belt::search_band(&pair.input, &pair.reference, width, height, input_half, ref_half, first..end, own);
         let found = row(found.map(|found| (found.samples, found.rows)));
         same("samples of a band", found.map(|found| found.0), Ok((end - first) * columns))?;
         rows += found.map_or(0, |found| found.1);
@@ -279,9 +280,7 @@ fn band(case: &mut Case) -> Result<(), String> {
     let (width, height) = (*width, *height);
     let mut words = vec![0xA5A5_5A5A; room];
     let mut theirs = words.clone();
-    let found = row(belt::search_band(
-        input, reference, width, height, &halves[0], &halves[1], first..end, &mut words,
-    ));
+    let found = row(belt::search_band(input, reference, width, height, &halves[0], &halves[1], first..end, &mut words));
     case.accepted = found.is_ok();
     let lengths = |pels: usize, half: usize| {
         input.len() != pels || reference.len() != pels || halves.iter().any(|values| values.len() != half)
@@ -1016,7 +1015,8 @@ impl OfWords {
     /// The row of the rules before the fit's; in a run that has the prior's models and a flag, and holds a form.
     fn row(&self, held: Option<&run::Run>, blocks: usize, header: usize) -> Result<(), u32> {
         let Settings { frame, gm_type, reference, flag, trim, elect, set, start, .. } = self.settings;
-        let own = run::Run { prior: std::array::from_fn(|i| self.prior.get(i).copied().unwrap_or_default()), flag, form: 2 };
+        let own =
+            run::Run { prior: std::array::from_fn(|i| self.prior.get(i).copied().unwrap_or_default()), flag, form: 2 };
         let run = held.unwrap_or(&own);
         let asked = elect == 1 || (1..=3).contains(&gm_type) && trim < 2;
         let codes = elect < 2 && asked && set.bits() <= inputs::ALL_CLASSES && self.types.iter().all(|&kind| kind < 4);

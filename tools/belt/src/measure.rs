@@ -414,7 +414,9 @@ pub mod tests {
                 assert!((2..5).all(|threads| told(threads) == alone), "type {kind}, {dy} and {dx}");
             }
         }
-        let refused = |threads| measure(&Job { frame: 0, threads, ..job(1) }, &frame("a", 32, 32, 0, 0), &frame("b", 32, 32, 0, 0));
+        let refused = |threads| {
+            measure(&Job { frame: 0, threads, ..job(1) }, &frame("a", 32, 32, 0, 0), &frame("b", 32, 32, 0, 0))
+        };
         assert_eq!(refused(2).unwrap_err().to_string(), refused(1).unwrap_err().to_string());
     }
 

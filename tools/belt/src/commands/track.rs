@@ -26,7 +26,8 @@ pub fn run(words: &Track) -> Result<(), Failure> {
     let job = Job::electing(super::mask(&words.seen)?, words.seen.fast);
     let (rate, millimetres) = (words.fps, words.mm_per_pel);
     let work = move |two: Result<Two, Failure>| two.and_then(|two| measured(two, &job, rate, millimetres));
-    let answers = ordered::begin(super::threads(words.threads), pairs, work).map_err(|error| Failure::bad("--threads", error))?;
+    let answers =
+        ordered::begin(super::threads(words.threads), pairs, work).map_err(|error| Failure::bad("--threads", error))?;
     for pair in answers {
         bar.inc(1);
         bar.suspend(|| told.pair(&pair?, words, &mut files))?;
