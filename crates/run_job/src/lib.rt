@@ -123,10 +123,11 @@ pub fn job_of_words_in_run(
         (r .run) ⌝ }
 {
     let prior = run.prior;
+    let form = run.form;
     let report = words_job::job_of_words_in(
         words,
         with_flag(settings, run.flag),
-        run.form,
+        form,
         classes,
         types,
         models,
@@ -138,6 +139,6 @@ pub fn job_of_words_in_run(
         return JobDone { report, run };
     }
     let moved = report.models;
-    let next = run::step_to(run, moved);
-    JobDone { report, run: next }
+    let after = run::step_to(run, moved);
+    JobDone { report, run: after }
 }
