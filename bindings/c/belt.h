@@ -129,11 +129,12 @@ static inline const char *belt_refusal_text(uint32_t refusal) {
     case BELT_ACCEPTED: return "accepted";
     case BELT_TOO_LARGE: return "side over 1,024, or over 4,096 samples";
     case BELT_TOO_FAR: return "motion of a practice belt beyond 24 pels";
-    case BELT_WRONG_LENGTH: return "plane, class, type, model or prior list of wrong length";
+    case BELT_WRONG_LENGTH: return "plane, half plane handed in, class, type, model or prior list of wrong length";
     case BELT_NO_SUCH_CODE:
         return "type, class, flag, form, trim, elect or switch code out of range; class over 4 in a set; type 0 to fit";
     case BELT_NO_CLASS: return "empty set of classes";
-    case BELT_NO_SUCH_SLOT: return "slot over 5, or to price one that the type doesn't carry; reference outside 1 to 7";
+    case BELT_NO_SUCH_SLOT:
+        return "slot over 5, or to price one that the type doesn't carry; reference outside 1 to 7; band that ends before it begins or behind the last block row";
     case BELT_START_OVER: return "start of a header to write over 7";
     case BELT_OFF_GRID: return "model off the grid, uncarried slot or pair wrong";
     case BELT_PRIOR_OUT: return "prior out of range";
