@@ -78,10 +78,7 @@ fn handed_refusal(flag: u8, types: &[u8], models: &[i32], prior: &[i32]) -> u32
 fn words_refusal(form: u32, words: &[u32], classes: &[u8]) -> u32
     ensures { λ r. ⌜ r ≡ judge (wordRows form (now (words .entry)) (now (classes .entry))) ⌝ }
 {
-    if !sample::storable_from(0, words) {
-        return NOT_STORABLE;
-    }
-    if !class::all_bare(words) {
+    if !class::all_right(words) {
         return NOT_STORABLE;
     }
     if class::some_over(forms::last_class(form), classes) {

@@ -360,7 +360,7 @@ fn pair_holds(s: Shape, state: u32, input: &[u16], reference: &[u16]) -> bool {
 }
 
 fn holds(seed: u32) -> bool {
-    let more = practice::next_state(seed);
+    let more = generator::next_state(seed);
     let s = shape_by(upper(seed) % 5);
     let mut input = [0u16; 6400];
     let mut reference = [0u16; 6400];
@@ -377,7 +377,7 @@ fn holds(seed: u32) -> bool {
     made.refusal == 0
         && pair_holds(
             s,
-            practice::next_state(more),
+            generator::next_state(more),
             &input[0..pels],
             &reference[0..pels],
         )
@@ -461,7 +461,7 @@ fn failures_at(case: u64) -> u64
     let right = if case == 0 {
         refusals_hold()
     } else {
-        holds(practice::next_state((case % 65536) as u32))
+        holds(generator::next_state((case % 65536) as u32))
     };
     if right {
         return 0;
