@@ -79,7 +79,7 @@ fn jobs() -> [f64; 2] {
 fn in_bands(scene: Scene) -> [Work; 2] {
     let (input, reference) = scene.pair(SIDE, SIDE, 0);
     let mut lent = Buffers::new(SIDE, SIDE);
-    let mut bands = move |lent: &mut Buffers| {
+    let bands = move |lent: &mut Buffers| {
         let Buffers { input_half, ref_half, words, .. } = lent;
         let halved =
             |plane: &[u16], half: &mut [u16]| belt::half_plane(plane, SIDE, SIDE, half).expect("it is accepted");

@@ -1109,7 +1109,7 @@ fn job_of_words(case: &mut Case) -> Result<(), String> {
     let types = (0..7).filter(others).map(|i| header.types[i]).collect();
     let models = (0..7).filter(others).map(|i| header.params[i]).collect();
     let mut of = OfWords { words, classes, settings, types, models, prior: header.prior.to_vec() };
-    for _ in 0..[0, 0, 1, 2][random.below(4)] {
+    for _ in 0..[0, 0, 0, 0, 1, 2][random.below(6)] {
         of.spoil(random);
     }
     let form = held.map_or(TWO, |run| run.form_held());
