@@ -312,6 +312,14 @@ impl Pictures {
     }
 }
 
+/// The rows that the search of a square picture adds, and what it leaves.
+pub fn searched_once(scene: Scene, side: usize) -> (u32, Buffers) {
+    let mut ours = Pictures::new(scene, side, side, 1);
+    let mut rows = 0;
+    ours.search(|_, answer, _| rows = answer.expect("it is accepted").rows);
+    (rows, ours.lent)
+}
+
 /// Our search of so many pictures, for the growth of its time.
 pub fn searches(scene: Scene, width: usize, height: usize, count: usize) -> Work {
     let mut ours = Pictures::new(scene, width, height, count);

@@ -78,6 +78,11 @@ impl Job {
         self.with_task(|task| belt::job(task, &mut lent.lend()))
     }
 
+    /// The same on so many threads.
+    pub fn run_on(&self, threads: usize, lent: &mut Buffers) -> Result<Report, Refusal> {
+        self.with_task(|task| belt::job_parallel(task, &mut lent.lend(), threads))
+    }
+
     /// The same in a run that holds the job's prior and flag, and a form.
     pub fn run_in(&self, form: u32, lent: &mut Buffers) -> Result<Report, Refusal> {
         let mut run = Run::of_parts(self.header.prior.map(StoredModel), self.settings.flag, form);

@@ -3,11 +3,13 @@
 //!     bench FILE PICTURE          every case: a table on standard output, a page in FILE, and the growth of the search in PICTURE
 //!     bench quick                 a few cases, a table on standard output
 //!     bench run                   the cases in a run alone: their lines on standard output
+//!     bench bands                 one frame on several threads alone: the lines on standard output
 //!     bench only TEXT             the cases that have TEXT in their line, a table on standard output
 //!     bench growth PICTURE        the growth of the search alone
 //!     bench list                  the cases and their numbers
 //!     bench repeat CASE SIDE N    one side ('ours', 'rust' or 'ready') of a case N times, for a profiler
 
+mod bands;
 mod cases;
 mod frames;
 mod growth;
@@ -32,13 +34,14 @@ fn main() {
     match words[..] {
         ["list"] => list(),
         ["run"] => print!("{}", in_a_run()),
+        ["bands"] => print!("{}", bands::told()),
         ["only", text] => drop(measure(only(text), timing::WHOLE)),
         ["growth", picture] => print!("{}", growth(picture)),
         ["repeat", case, side, times] => repeat(case, side, times),
         ["quick"] => drop(measure(cases::few(), timing::QUICK)),
         [file, picture] => page(file, picture),
         _ => panic!(
-            "usage: bench FILE PICTURE | bench quick | bench run | bench only TEXT | bench growth PICTURE | bench list | bench repeat CASE SIDE N"
+            "usage: bench FILE PICTURE | bench quick | bench run | bench bands | bench only TEXT | bench growth PICTURE | bench list | bench repeat CASE SIDE N"
         ),
     }
 }
@@ -69,10 +72,12 @@ fn page(file: &str, picture: &str) {
     let (table, absolute) = measure(cases::all(), timing::WHOLE);
     let in_a_run = in_a_run();
     print!("{in_a_run}");
+    let on_threads = bands::told();
+    print!("{on_threads}");
     let growth = growth(picture);
     let times = "## Times of a job\n\nIn milliseconds, on the machine above, one thread.\n\n\
                  | call | input | ours | Rust |\n|---|---|---|---|\n";
-    let page = format!("{}\n{table}\n{in_a_run}\n{times}{absolute}\n{growth}", head());
+    let page = format!("{}\n{table}\n{in_a_run}\n{on_threads}\n{times}{absolute}\n{growth}", head());
     fs::write(file, page).expect("the page's folder is there");
 }
 
@@ -191,7 +196,7 @@ fn head() -> String {
          'Search / by hand' has no Rust: it is our time divided by that of the same search written by hand in C with SSE2 \
          (`bench/hand/search.c`), which gives the same words, half planes and rows; nothing proves that one.\n\n\
          'Word / one by one' has no Rust: a field put into its bytes at once is divided by the same field put there bit by bit, \
-         both proved to the same promise (`crates/placing`); 24 fields of a width from bit 3 on, or the fields of a header.\n\n\
+         both proved to the same promise (`crates/bench_placing`); 24 fields of a width from bit 3 on, or the fields of a header.\n\n\
          A job is measured against the composition of the Rust's parts: search, words, fit, quantization, score, \
          blocks by `bench/src/frames.rs`, and header. Its fit takes the samples of its search as they are; a job that elects has \
          `estimate_global_motion` there, and a score of the elected model. \

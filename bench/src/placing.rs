@@ -1,4 +1,4 @@
-//! A field put into bytes in two ways, both proved (`crates/placing`): a word at a time, as the library's header
+//! A field put into bytes in two ways, both proved (`crates/bench_placing`): a word at a time, as the library's header
 //! writer does, and one bit after the other, as it did.
 
 unsafe extern "C" {

@@ -35,9 +35,9 @@
 #include <stdint.h>
 
 #define BELT_VERSION_MAJOR 0
-#define BELT_VERSION_MINOR 14
+#define BELT_VERSION_MINOR 15
 #define BELT_VERSION_PATCH 0
-#define BELT_VERSION "0.14.0"
+#define BELT_VERSION "0.15.0"
 /* The three in one number, as belt_version answers them. */
 #define BELT_VERSION_NUMBER (BELT_VERSION_MAJOR * 1000000u + BELT_VERSION_MINOR * 1000u + BELT_VERSION_PATCH)
 
@@ -129,11 +129,12 @@ static inline const char *belt_refusal_text(uint32_t refusal) {
     case BELT_ACCEPTED: return "accepted";
     case BELT_TOO_LARGE: return "side over 1,024, or over 4,096 samples";
     case BELT_TOO_FAR: return "motion of a practice belt beyond 24 pels";
-    case BELT_WRONG_LENGTH: return "plane, class, type, model or prior list of wrong length";
+    case BELT_WRONG_LENGTH: return "plane, half plane handed in, class, type, model or prior list of wrong length";
     case BELT_NO_SUCH_CODE:
         return "type, class, flag, form, trim, elect or switch code out of range; class over 4 in a set; type 0 to fit";
     case BELT_NO_CLASS: return "empty set of classes";
-    case BELT_NO_SUCH_SLOT: return "slot over 5, or to price one that the type doesn't carry; reference outside 1 to 7";
+    case BELT_NO_SUCH_SLOT:
+        return "slot over 5, or to price one that the type doesn't carry; reference outside 1 to 7; band that ends before it begins or behind the last block row";
     case BELT_START_OVER: return "start of a header to write over 7";
     case BELT_OFF_GRID: return "model off the grid, uncarried slot or pair wrong";
     case BELT_PRIOR_OUT: return "prior out of range";
@@ -297,6 +298,34 @@ struct belt_searched belt_collect_motion_samples(
     uint16_t *input_half, size_t input_half_pels,
     uint16_t *ref_half, size_t ref_half_pels,
     uint32_t *words, size_t word_count);
+
+/* The search in bands, so that the caller's own threads share a frame: first the two half planes, then each thread some
+   block rows. The library starts no thread. belt_half_planes_with and belt_search_band_with below take a task and a room,
+   and bindings/c/bands.c is a program.
+
+   A half plane.
+   In: a plane of width x height pels, row by row. Out: (width / 2) * (height / 2) values from the front of the buffer,
+   where a side is under 16 too. Answers BELT_ACCEPTED or the row that refuses.
+   Refuses: 1, 2, 3. */
+uint32_t belt_half_plane(
+    const uint16_t *plane, size_t plane_pels, size_t width, size_t height, uint16_t *out, size_t out_room);
+
+/* Block rows first to end - 1 of the height / 16.
+   In: two planes of width x height pels, what belt_half_plane left of each, (width / 2) * (height / 2) values exactly,
+   and the rows; planes and half planes are only read, so that any number of threads may share them.
+   Out: (end - first) * (width / 16) words from the front of the buffer, with class bits zero; how many they are, and the
+   rows added for them. Bands that follow on from 0 to height / 16 have together the words of
+   belt_collect_motion_samples, and their rows add up to its rows. No rows, first equal to end, are no fault.
+   Half planes that hold anything else are no fault either: the words are then those of such half planes.
+   Refuses: 1, 2 (half planes too), 5 (first over end, or end over height / 16), 3. */
+struct belt_searched belt_search_band(
+    const uint16_t *input, size_t input_pels,
+    const uint16_t *reference, size_t reference_pels,
+    size_t width, size_t height,
+    const uint16_t *input_half, size_t input_half_pels,
+    const uint16_t *ref_half, size_t ref_half_pels,
+    size_t first, size_t end,
+    uint32_t *words, size_t word_room);
 
 /* Least squares fits ('Fits and score').
    In: up to 4,096 sample words, in any order and of any field value.
@@ -538,6 +567,23 @@ struct belt_report belt_job(
     uint8_t *blocks, size_t blocks_room,
     uint8_t *header, size_t header_room);
 
+/* A job from its words on ('Job'): fit, grid, score, blocks and header of words that were searched already, in bands or
+   elsewhere.
+   In: up to 4,096 words, rising by row and column, with class bits zero, a class for each, and the lists of belt_job.
+   Out: what belt_job reports of the frame that has these words, and its blocks and header; the report's samples are the
+   words. The blocks' buffer needs belt_block_bytes of them in BELT_FORM_2.
+   Refuses: 1, 2, 4, 19, 5, 14, 7, 8, 12, 3, 15, 17, 6, 16, and 6 of a second fit. Blocks and header are then as they
+   were, whatever the row. */
+struct belt_report belt_job_of_words(
+    const uint32_t *words, size_t word_count,
+    struct belt_settings settings,
+    const uint8_t *classes, size_t class_count,
+    const uint8_t *types, size_t type_count,
+    const struct belt_stored_model *models, size_t number_count,
+    const struct belt_stored_model *prior, size_t prior_number_count,
+    uint8_t *blocks, size_t blocks_room,
+    uint8_t *header, size_t header_room);
+
 /* A run of frames ('A run of frames'): the prior of each inter frame is the models of the frame before it, identity at
    first and after a key frame. The run holds that prior, and the flag and the form given at its start. Each call takes
    the run by value and answers the run to go on with: keep that, whatever the refusal. A refused call answers the run
@@ -592,6 +638,19 @@ struct belt_job_done belt_run_job(
     uint16_t *input_half, size_t input_half_pels,
     uint16_t *ref_half, size_t ref_half_pels,
     uint32_t *words, size_t word_room,
+    uint8_t *blocks, size_t blocks_room,
+    uint8_t *header, size_t header_room);
+
+/* A job from its words on as an inter frame of the run: as belt_job_of_words, with the run's prior, flag and form, as
+   belt_run_job is belt_job with them.
+   Refuses: as belt_job_of_words, and 13 behind 12: a class that is BELT_FILM in form 1, whether it is named or not. */
+struct belt_job_done belt_run_job_of_words(
+    struct belt_run run,
+    const uint32_t *words, size_t word_count,
+    struct belt_settings settings,
+    const uint8_t *classes, size_t class_count,
+    const uint8_t *types, size_t type_count,
+    const struct belt_stored_model *models, size_t number_count,
     uint8_t *blocks, size_t blocks_room,
     uint8_t *header, size_t header_room);
 
@@ -700,6 +759,68 @@ static inline struct belt_job_done belt_run_job_with(
         room->input_half, room->input_half_pels,
         room->ref_half, room->ref_half_pels,
         room->words, room->word_room,
+        room->blocks, room->blocks_room,
+        room->header, room->header_room);
+}
+
+/* The search of a task in bands, into a room: first the half planes, by one thread, or each by belt_half_plane; then,
+   by any number of threads at once, block rows first to end - 1, each into its own place among the room's words; then, by
+   one again, the job of these words. Bands of different threads have no row in common. A task without samples has no half
+   planes and no rows. A refusal of the task that isn't its planes' or its room's is seen by the last step alone. */
+static inline size_t belt_block_rows(size_t height) {
+    return height / BELT_BLOCK_SIDE;
+}
+static inline uint32_t belt_half_planes_with(const struct belt_task *task, struct belt_room *room) {
+    size_t pels = task->width * task->height;
+    if (belt_sample_count(task->width, task->height) == 0)
+        return BELT_ACCEPTED;
+    uint32_t refusal = belt_half_plane(
+        task->input, task->input == NULL ? 0 : pels, task->width, task->height, room->input_half, room->input_half_pels);
+    return refusal != BELT_ACCEPTED
+               ? refusal
+               : belt_half_plane(
+                     task->reference, task->reference == NULL ? 0 : pels, task->width, task->height, room->ref_half,
+                     room->ref_half_pels);
+}
+static inline struct belt_searched belt_search_band_with(
+    const struct belt_task *task, const struct belt_room *room, size_t first, size_t end) {
+    struct belt_searched none = {BELT_ACCEPTED, 0, 0};
+    size_t pels = task->width * task->height, half = belt_half_plane_values(task->width, task->height);
+    size_t before = first * (task->width / BELT_BLOCK_SIDE);
+    if (half == 0)
+        return none;
+    bool there = first <= belt_block_rows(task->height) && before <= room->word_room;
+    return belt_search_band(
+        task->input, task->input == NULL ? 0 : pels,
+        task->reference, task->reference == NULL ? 0 : pels,
+        task->width, task->height,
+        room->input_half, room->input_half_pels < half ? room->input_half_pels : half,
+        room->ref_half, room->ref_half_pels < half ? room->ref_half_pels : half,
+        first, end,
+        there ? room->words + before : NULL, there ? room->word_room - before : 0);
+}
+static inline struct belt_report belt_job_of_words_with(const struct belt_task *task, struct belt_room *room) {
+    size_t samples = belt_sample_count(task->width, task->height);
+    return belt_job_of_words(
+        room->words, samples < room->word_room ? samples : room->word_room,
+        task->settings,
+        belt_or_zeros(task->classes), samples,
+        belt_or_zeros(task->types), BELT_OTHER_TYPES,
+        belt_or_identities(task->models), BELT_OTHER_NUMBERS,
+        belt_or_identities(task->prior), BELT_NUMBERS,
+        room->blocks, room->blocks_room,
+        room->header, room->header_room);
+}
+static inline struct belt_job_done belt_run_job_of_words_with(
+    struct belt_run run, const struct belt_task *task, struct belt_room *room) {
+    size_t samples = belt_sample_count(task->width, task->height);
+    return belt_run_job_of_words(
+        run,
+        room->words, samples < room->word_room ? samples : room->word_room,
+        task->settings,
+        belt_or_zeros(task->classes), samples,
+        belt_or_zeros(task->types), BELT_OTHER_TYPES,
+        belt_or_identities(task->models), BELT_OTHER_NUMBERS,
         room->blocks, room->blocks_room,
         room->header, room->header_room);
 }

@@ -52,12 +52,34 @@ static void job_in_run(uint8_t trim, uint8_t elect) {
                   .report.refusal;
 }
 
+static void job_of_words(uint8_t trim, uint8_t elect) {
+    struct belt_settings settings = {1, BELT_AFFINE, 1, BELT_HIGH_PRECISION, trim, elect, BELT_ALL_CLASSES, 0};
+    refusal = belt_job_of_words(words, SAMPLES, settings, classes, SAMPLES, other_types, BELT_OTHER_TYPES, prior,
+                                BELT_OTHER_NUMBERS, prior, BELT_NUMBERS, blocks, BLOCKS, header, BELT_HEADER_BYTES)
+                  .refusal;
+}
+
+static void job_of_words_in_run(uint8_t trim, uint8_t elect) {
+    struct belt_settings settings = {1, BELT_AFFINE, 1, BELT_HIGH_PRECISION, trim, elect, BELT_ALL_CLASSES, 0};
+    refusal = belt_run_job_of_words(run, words, SAMPLES, settings, classes, SAMPLES, other_types, BELT_OTHER_TYPES,
+                                    prior, BELT_OTHER_NUMBERS, blocks, BLOCKS, header, BELT_HEADER_BYTES)
+                  .report.refusal;
+}
+
 static void plain_job(void) { job(BELT_ALL_SAMPLES, BELT_ASKED_TYPE); }
 static void trimming_job(void) { job(BELT_TRIM, BELT_ASKED_TYPE); }
 static void electing_job(void) { job(BELT_ALL_SAMPLES, BELT_ELECT); }
 static void plain_job_in_run(void) { job_in_run(BELT_ALL_SAMPLES, BELT_ASKED_TYPE); }
 static void trimming_job_in_run(void) { job_in_run(BELT_TRIM, BELT_ASKED_TYPE); }
 static void electing_job_in_run(void) { job_in_run(BELT_ALL_SAMPLES, BELT_ELECT); }
+static void plain_job_of_words(void) { job_of_words(BELT_ALL_SAMPLES, BELT_ASKED_TYPE); }
+static void electing_job_of_words(void) { job_of_words(BELT_ALL_SAMPLES, BELT_ELECT); }
+static void electing_job_of_words_in_run(void) { job_of_words_in_run(BELT_ALL_SAMPLES, BELT_ELECT); }
+static void band(void) {
+    refusal = belt_search_band(input, PELS, reference, PELS, WIDTH, HEIGHT, input_half, HALF, ref_half, HALF, 0,
+                               HEIGHT / BELT_BLOCK_SIDE, words, SAMPLES)
+                  .refusal;
+}
 static void frame_in_run(void) {
     refusal = belt_run_frame(run, false, other_types, BELT_REFERENCES, prior, BELT_NUMBERS, 0, header,
                              BELT_HEADER_BYTES)
@@ -102,6 +124,10 @@ static const struct {
     {"a job in a run", plain_job_in_run, BELT_STACK_BYTES_PLAIN},
     {"a job in a run that trims", trimming_job_in_run, BELT_STACK_BYTES_TRIM},
     {"a job in a run that elects", electing_job_in_run, BELT_STACK_BYTES_ELECT},
+    {"a job of words", plain_job_of_words, BELT_STACK_BYTES_PLAIN},
+    {"a job of words that elects", electing_job_of_words, BELT_STACK_BYTES_ELECT},
+    {"a job of words in a run that elects", electing_job_of_words_in_run, BELT_STACK_BYTES_ELECT},
+    {"belt_search_band", band, 6500},
     {"belt_run_frame", frame_in_run, 1900},
     {"belt_fit_trimmed", fit_trimmed, 60000},
     {"belt_quantize_trimmed", quantize_trimmed, 60000},

@@ -3,6 +3,7 @@
 //! The Rust adds every row and counts none.
 
 use crate::{BLOCK, half_plane, practice};
+use std::ops::Range;
 
 /// A plane row by row, with its sides.
 struct Plane<'a> {
@@ -97,26 +98,43 @@ fn block(planes: [&Plane; 4], row: i64, column: i64) -> (u32, i64, i64) {
     (best.rows, best.y, best.x)
 }
 
-/// The rows that a search adds, and the motions v, u that it finds.
-pub fn search(input: &[u16], reference: &[u16], width: usize, height: usize) -> (u32, Vec<(i64, i64)>) {
-    let halves = [half_plane(input, width, height), half_plane(reference, width, height)];
+/// Planes of the same sides, and what stands for their half planes, of any values.
+#[derive(Clone, Copy)]
+pub struct Scene<'a> {
+    pub input: &'a [u16],
+    pub reference: &'a [u16],
+    pub width: usize,
+    pub height: usize,
+    pub halves: [&'a [u16]; 2],
+}
+
+/// The rows that a band of block rows adds, and the motions v, u that it finds.
+pub fn band(scene: Scene, rows: Range<usize>) -> (u32, Vec<(i64, i64)>) {
+    let Scene { input, reference, width, height, halves } = scene;
     let plane = |pels, width, height| Plane { pels, width, height };
     let planes = [
         &plane(input, width, height),
         &plane(reference, width, height),
-        &plane(&halves[0], width / 2, height / 2),
-        &plane(&halves[1], width / 2, height / 2),
+        &plane(halves[0], width / 2, height / 2),
+        &plane(halves[1], width / 2, height / 2),
     ];
-    let mut rows = 0;
+    let mut added = 0;
     let mut motions = Vec::new();
-    for row in 0..height / BLOCK {
+    for row in rows {
         for column in 0..width / BLOCK {
-            let (added, v, u) = block(planes, row as i64, column as i64);
-            rows += added;
+            let (rows, v, u) = block(planes, row as i64, column as i64);
+            added += rows;
             motions.push((v, u));
         }
     }
-    (rows, motions)
+    (added, motions)
+}
+
+/// The rows that a search adds, and the motions v, u that it finds.
+pub fn search(input: &[u16], reference: &[u16], width: usize, height: usize) -> (u32, Vec<(i64, i64)>) {
+    let halves = [half_plane(input, width, height), half_plane(reference, width, height)];
+    let halves = [&halves[0][..], &halves[1]];
+    band(Scene { input, reference, width, height, halves }, 0..height / BLOCK)
 }
 
 /// The worked counts of docs/RULES.md: sides, input, reference and the rows that the search adds.

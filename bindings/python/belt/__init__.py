@@ -23,7 +23,7 @@ between calls and may be called from many threads; ctypes lets go of Python's lo
 """
 
 # the version of the library that this package is for; it stands ahead of the imports, which compare
-__version__ = "0.14.0"
+__version__ = "0.15.0"
 
 from ._blocks import Block, Frame, judge_block, list_block, read_both, read_frame, to_form1, to_form2, write_frame
 from ._by_class import (
@@ -61,7 +61,7 @@ from ._headers import (
     read_global_motion,
     read_global_motion_params,
 )
-from ._job import Report, Settings, job
+from ._job import Report, Settings, job, job_of_words
 from ._lend import set_of
 from ._measure import measure, track
 from ._measurement import Measurement, Warned
@@ -84,7 +84,7 @@ from ._samples import (
     quantize_trimmed_samples_by_class,
     score_samples_by_class,
 )
-from ._search import Searched, collect_motion_samples, make_practice_planes
+from ._search import Searched, collect_motion_samples, half_plane, make_practice_planes, search_band
 from ._sizes import (
     AFFINE,
     ALL_CLASSES,
@@ -195,8 +195,10 @@ __all__ = [
     "fit_trimmed_samples",
     "fit_trimmed_samples_by_class",
     "frame_price",
+    "half_plane",
     "half_plane_values",
     "job",
+    "job_of_words",
     "judge_block",
     "list_block",
     "make_practice_planes",
@@ -221,6 +223,7 @@ __all__ = [
     "sample_of",
     "score_by_class",
     "score_samples_by_class",
+    "search_band",
     "set_of",
     "setup_shear",
     "to_form1",

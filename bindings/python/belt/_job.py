@@ -1,4 +1,4 @@
-"""A whole job: search, fit, grid, score, blocks and header."""
+"""A whole job: search, fit, grid, score, blocks and header; and one from its words on."""
 
 from __future__ import annotations
 
@@ -10,7 +10,7 @@ from . import _raw
 from ._by_class import Set
 from ._blocks import frame_number
 from ._headers import REFERENCES, stored_models
-from ._lend import Lent, call, code, models_of, octets, plane, room, set_of, size
+from ._lend import Lent, call, code, models_of, octets, plane, room, set_of, size, words as words_of
 from ._model import IDENTITIES, StoredModel
 from ._sizes import (
     ALL_CLASSES,
@@ -177,5 +177,58 @@ def job(
         *asked(input_y, reference, width, height, settings, classes, types, models),
         models_of(prior, "prior", REFERENCES),
         *lent_buffers(buffers, width, height, FORM_2),
+    )
+    return report_of(report)
+
+
+def asked_of_words(
+    words: Any, settings: Settings, classes: Any, types: Any, models: Any
+) -> Tuple[Lent, Any, Lent, Lent, Lent]:
+    """What a job of words is handed but for its prior."""
+    lent = words_of(words)
+    return (
+        lent,
+        raw_settings(settings),
+        octets(classes, "classes", lent.total),
+        octets(types, "types", _OTHERS),
+        models_of(IDENTITIES[:_OTHERS] if models is None else models, "models", _OTHERS),
+    )
+
+
+def lent_of_words(blocks: Any, header: Any, samples: int, form: int) -> Tuple[Lent, Lent]:
+    """What a job of words is lent."""
+    return (
+        room(blocks, c_uint8, "blocks", block_bytes(samples, form) if form in FORM_SAMPLES else None),
+        room(header, c_uint8, "header", HEADER_BYTES),
+    )
+
+
+def job_of_words(
+    words: Any,
+    settings: Settings,
+    classes: Any,
+    blocks: Any,
+    header: Any,
+    types: Any = (0,) * _OTHERS,
+    models: Any = None,
+    prior: Any = IDENTITIES,
+) -> Report:
+    """Runs a job from its words on ('Job'): fit, grid, score, blocks and header. With the words of a search, whole or in
+    bands (search_band), it reports what job does and leaves the same blocks and the same header.
+
+    Refuses 1, 2, 4, 19, 5, 14, 7, 8, 12, 3, 15, 17, 6, 16, and 6 of a second fit; blocks and header are then as they were.
+
+    >>> import belt
+    >>> still = 223 << 11 | 223 << 2
+    >>> report = belt.job_of_words([still, 1 << 20 | still], belt.Settings(5), bytes(2), bytearray(512), bytearray(125))
+    >>> report.types[0], report.bits, report.samples
+    (0, 7, 2)
+    """
+    arguments = asked_of_words(words, settings, classes, types, models)
+    report = call(
+        "belt_job_of_words",
+        *arguments,
+        models_of(prior, "prior", REFERENCES),
+        *lent_of_words(blocks, header, arguments[0].total, FORM_2),
     )
     return report_of(report)

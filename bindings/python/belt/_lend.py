@@ -234,13 +234,18 @@ def answer(name: str, *arguments: Any) -> Any:
     return getattr(library, name)(*flat)
 
 
-def accepted(judged: Any, *arguments: Any) -> Any:
-    """The answer, unless it refuses; a length that is wrong is named."""
-    if judged.refusal:
+def judge(number: int, *arguments: Any) -> None:
+    """Raises the refusal of a row; a length that is wrong is named."""
+    if number:
         lists = [argument for argument in arguments if isinstance(argument, Lent)]
-        refusal = refusal_of(judged.refusal, lists)
+        refusal = refusal_of(number, lists)
         _let_go(lists)
         raise refusal
+
+
+def accepted(judged: Any, *arguments: Any) -> Any:
+    """The answer, unless it refuses."""
+    judge(judged.refusal, *arguments)
     return judged
 
 

@@ -162,6 +162,11 @@ CALLS: Dict[str, Tuple[List[Any], Any]] = {
         _PELS + _PELS + [c_size_t, c_size_t] + _BYTES + _PELS + _PELS + _WORDS,
         Searched,
     ),
+    "belt_half_plane": (_PELS + [c_size_t, c_size_t] + _PELS, c_uint32),
+    "belt_search_band": (
+        _PELS + _PELS + [c_size_t, c_size_t] + _PELS + _PELS + [c_size_t, c_size_t] + _WORDS,
+        Searched,
+    ),
     "belt_fit_translation": (_WORDS, FitAnswer),
     "belt_fit_rotzoom": (_WORDS, FitAnswer),
     "belt_fit_affine": (_WORDS, FitAnswer),
@@ -225,6 +230,10 @@ CALLS: Dict[str, Tuple[List[Any], Any]] = {
         + _BYTES,
         Report,
     ),
+    "belt_job_of_words": (
+        _WORDS + [Settings] + _BYTES + _BYTES + _NUMBERS + _NUMBERS + _BYTES + _BYTES,
+        Report,
+    ),
     "belt_run_start": ([c_uint8, c_uint32], Moved),
     "belt_run_switch": ([Run, c_uint8], Moved),
     "belt_run_frame": ([Run, c_bool] + _BYTES + _NUMBERS + [c_size_t] + _BYTES, Framed),
@@ -243,6 +252,10 @@ CALLS: Dict[str, Tuple[List[Any], Any]] = {
         + _WORDS
         + _BYTES
         + _BYTES,
+        JobDone,
+    ),
+    "belt_run_job_of_words": (
+        [Run] + _WORDS + [Settings] + _BYTES + _BYTES + _NUMBERS + _BYTES + _BYTES,
         JobDone,
     ),
 }

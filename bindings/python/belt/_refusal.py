@@ -8,10 +8,10 @@ from typing import Any, Dict, Optional, Tuple
 REFUSALS: Dict[int, str] = {
     1: "side over 1,024, or over 4,096 samples",
     18: "motion of a practice belt beyond 24 pels",
-    2: "plane, class, type, model or prior list of wrong length",
+    2: "plane, half plane handed in, class, type, model or prior list of wrong length",
     4: "type, class, flag, form, trim, elect or switch code out of range; class over 4 in a set; type 0 to fit",
     19: "empty set of classes",
-    5: "slot over 5, or to price one that the type doesn't carry; reference outside 1 to 7",
+    5: "slot over 5, or to price one that the type doesn't carry; reference outside 1 to 7; band that ends before it begins or behind the last block row",
     14: "start of a header to write over 7",
     7: "model off the grid, uncarried slot or pair wrong",
     8: "prior out of range",

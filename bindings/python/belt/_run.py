@@ -8,7 +8,7 @@ from typing import Any, Tuple, Type, TypeVar
 from . import _raw
 from ._blocks import frame_number
 from ._headers import REFERENCES, Models, header_bytes, models_read, stored_models
-from ._job import Report, Settings, asked, lent_buffers, report_of
+from ._job import Report, Settings, asked, asked_of_words, lent_buffers, lent_of_words, report_of
 from ._lend import accepted, answer, call, code, models_of, octets, room, size, whole, words as words_of
 from ._model import StoredModel
 from ._sizes import FORM_SAMPLES, block_bytes
@@ -137,6 +137,23 @@ class Run(_Held):
         arguments = asked(input_y, reference, width, height, settings, classes, types, models)
         arguments += lent_buffers(buffers, width, height, self.form)
         done = answer("belt_run_job", self._run, *arguments)
+        return report_of(self._step(done, done.report, *arguments))
+
+    def job_of_words(
+        self,
+        words: Any,
+        settings: Settings,
+        classes: Any,
+        blocks: Any,
+        header: Any,
+        types: Any = (0,) * 6,
+        models: Any = None,
+    ) -> Report:
+        """Runs a job from its words on as an inter frame, with the run's prior, flag and form. Refuses as job_of_words
+        does, and 13 behind 12: a class 4 in form 1."""
+        handed = asked_of_words(words, settings, classes, types, models)
+        arguments = (*handed, *lent_of_words(blocks, header, handed[0].total, self.form))
+        done = answer("belt_run_job_of_words", self._run, *arguments)
         return report_of(self._step(done, done.report, *arguments))
 
 

@@ -1,5 +1,9 @@
 //! The whole job: what it is told, handed and lent, and what it reports (docs/RULES.md, 'Job').
 
+#[cfg(feature = "std")]
+use crate::Searched;
+#[cfg(feature = "std")]
+use crate::bands::searched;
 use crate::codes::{Form, GmType, Precision};
 use crate::refusal::judged_lists;
 use crate::{
@@ -231,6 +235,87 @@ impl<'a> Task<'a> {
     }
 }
 
+/// What a job is handed that begins with its words: those of a search, in bands or elsewhere, or others that rise by row
+/// and column and have class bits zero.
+///
+/// The fields stay these: what differs from [`WordTask::new`] can be named.
+///
+/// ```
+/// use belt::{METAL, Settings, WordTask};
+///
+/// let words = [223 << 11 | 223 << 2, 1 << 20 | 223 << 11 | 223 << 2];
+/// let task = WordTask { settings: Settings::elect(5), classes: &[METAL; 2], ..WordTask::new(&words) };
+/// assert_eq!((task.types, task.models.len(), task.prior.len()), (&[0; 6][..], 6, 7));
+/// ```
+#[derive(Clone, Copy, Debug, PartialEq, Eq)]
+pub struct WordTask<'a> {
+    /// A word for each sample, rising, with class bits zero.
+    pub words: &'a [u32],
+    /// As of a [`Task`].
+    pub settings: Settings,
+    /// A class for each word.
+    pub classes: &'a [u8],
+    /// The types of the six other references, rising.
+    pub types: &'a [u8],
+    /// Their six models.
+    pub models: &'a [StoredModel],
+    /// The seven models of the prior; in a run its own is taken, and this isn't looked at.
+    pub prior: &'a [StoredModel],
+}
+
+impl<'a> WordTask<'a> {
+    /// These words by [`Settings::default`], every sample unsorted, the six other references and the prior without
+    /// motion.
+    ///
+    /// ```
+    /// use belt::{Settings, WordTask};
+    ///
+    /// let task = WordTask::new(&[223 << 11 | 223 << 2]);
+    /// assert_eq!((task.settings, task.classes), (Settings::elect(1), &[belt::UNSORTED][..]));
+    /// ```
+    #[must_use]
+    pub fn new(words: &'a [u32]) -> Self {
+        Self {
+            words,
+            settings: Settings::default(),
+            // more words than the most are refused before the classes are judged
+            classes: &NONE_SORTED[..words.len().min(MOST_SAMPLES)],
+            types: &NO_TYPES,
+            models: &NO_MODELS[..6],
+            prior: &NO_MODELS,
+        }
+    }
+
+    /// The settings and lists of a task, with these words in the place of its planes.
+    ///
+    /// ```
+    /// use belt::{Settings, Task, WordTask};
+    ///
+    /// let plane = [7; 16 * 16];
+    /// let task = Task { settings: Settings::elect(5), ..Task::new(&plane, &plane, 16, 16) };
+    /// assert_eq!(WordTask::of(&task, &[223 << 11 | 223 << 2]).settings.frame, 5);
+    /// ```
+    #[must_use]
+    pub fn of(task: &Task<'a>, words: &'a [u32]) -> Self {
+        let Task { settings, classes, types, models, prior, .. } = *task;
+        Self { words, settings, classes, types, models, prior }
+    }
+
+    /// The lists that a job of words judges, but for the prior.
+    pub(crate) fn lists(&self) -> [Length; 3] {
+        [
+            Length::of("classes", self.classes, self.words.len()),
+            Length::of("types", self.types, 6),
+            Length::of("models", self.models, 6),
+        ]
+    }
+
+    /// The buffers of such a job, whose blocks are of a form.
+    pub(crate) fn rooms(&self, blocks: &[u8], header: &[u8], form: Form) -> [Length; 2] {
+        [Length::of("blocks", blocks, block_bytes(self.words.len(), form)), Length::of("header", header, HEADER_BYTES)]
+    }
+}
+
 /// What a job is lent.
 #[derive(Debug, PartialEq, Eq)]
 pub struct Lent<'a> {
@@ -310,6 +395,28 @@ impl Buffers {
             blocks: &mut self.blocks,
             header: &mut self.header,
         }
+    }
+
+    /// Searches the planes of a task on so many threads: half planes and words, as [`crate::search_parallel`] leaves them.
+    ///
+    /// ```
+    /// use belt::{Buffers, Task};
+    ///
+    /// let plane = [7; 64 * 48];
+    /// let mut buffers = Buffers::new(64, 48);
+    /// let found = buffers.search_parallel(&Task::new(&plane, &plane, 64, 48), 2)?;
+    /// assert_eq!((found.samples, found.rows), (12, 12 * 736));
+    /// # Ok::<(), belt::Refusal>(())
+    /// ```
+    ///
+    /// # Errors
+    ///
+    /// Those of [`crate::collect_motion_samples`].
+    #[cfg(feature = "std")]
+    pub fn search_parallel(&mut self, task: &Task<'_>, threads: usize) -> Result<Searched, Refusal> {
+        let Task { input, reference, width, height, classes, .. } = *task;
+        let Lent { input_half, ref_half, words, .. } = self.lend();
+        crate::search_parallel(input, reference, width, height, classes, input_half, ref_half, words, threads)
     }
 }
 
@@ -429,4 +536,103 @@ pub fn job(task: &Task<'_>, lent: &mut Lent<'_>) -> Result<Report, Refusal> {
         },
         || lent.rooms(task, Form::Two),
     )
+}
+
+/// Runs a job from its words on ('Job'): fit, grid, score, blocks and header. With the words of a search, in bands or not,
+/// it reports what [`job`] does, and leaves the same blocks and the same header.
+///
+/// # Errors
+///
+/// Those of [`job`], [`Refusal::TooLarge`] and [`Refusal::WrongLength`] by the words, and, behind [`Refusal::PriorOut`],
+/// [`Refusal::NotRising`]. Blocks and header are then as they were, whatever the row.
+///
+/// ```
+/// use belt::{Buffers, Task, WordTask};
+///
+/// let (mut earlier, mut later) = ([0; 64 * 48], [0; 64 * 48]);
+/// belt::make_practice_planes(1, 64, 48, -2, 4, &mut earlier, &mut later)?;
+/// let (task, mut buffers) = (Task::new(&earlier, &later, 64, 48), Buffers::new(64, 48));
+/// buffers.search_parallel(&task, 2)?;
+/// let Buffers { words, blocks, header, .. } = &mut buffers;
+/// let report = belt::job_of_words(&WordTask::of(&task, words), blocks, header)?;
+///
+/// let mut others = Buffers::new(64, 48);
+/// assert_eq!(belt::job(&task, &mut others.lend()), Ok(report));
+/// assert_eq!(buffers, others);
+/// # Ok::<(), belt::Refusal>(())
+/// ```
+pub fn job_of_words(task: &WordTask<'_>, blocks: &mut [u8], header: &mut [u8]) -> Result<Report, Refusal> {
+    let WordTask { words, settings, classes, types, models, prior } = *task;
+    let (models, numbers) = (raw::numbers(models), raw::numbers(prior));
+    let report = raw::job_of_words(words, settings.raw(), classes, types, models, numbers, blocks, header);
+    let (refusal, report) = Report::of_raw(report, settings);
+    judged_lists(
+        refusal,
+        report,
+        || {
+            let [classes, types, models] = task.lists();
+            [classes, types, models, Length::of("prior", prior, 7)]
+        },
+        || task.rooms(blocks, header, Form::Two),
+    )
+}
+
+/// [`job`] on so many threads, this one among them, which share its search ([`crate::search_parallel`]): the same report
+/// and the same buffers, bit for bit, refused and accepted alike.
+///
+/// # Errors
+///
+/// Those of [`job`].
+///
+/// ```
+/// use belt::{Buffers, Task};
+///
+/// let (mut earlier, mut later) = ([0; 96 * 80], [0; 96 * 80]);
+/// belt::make_practice_planes(1, 96, 80, -2, 4, &mut earlier, &mut later)?;
+/// let (task, mut buffers) = (Task::new(&earlier, &later, 96, 80), Buffers::new(96, 80));
+/// let threads = std::thread::available_parallelism().map_or(1, |count| count.get());
+/// let report = belt::job_parallel(&task, &mut buffers.lend(), threads)?;
+///
+/// let mut others = Buffers::new(96, 80);
+/// assert_eq!(belt::job(&task, &mut others.lend()), Ok(report));
+/// assert_eq!(buffers, others);
+/// # Ok::<(), belt::Refusal>(())
+/// ```
+#[cfg(feature = "std")]
+pub fn job_parallel(task: &Task<'_>, lent: &mut Lent<'_>, threads: usize) -> Result<Report, Refusal> {
+    if !searched_first(task, lent, Form::Two, threads, |none| job(task, none)) {
+        return job(task, lent);
+    }
+    let words = &lent.words[..sample_count(task.width, task.height)];
+    job_of_words(&WordTask::of(task, words), lent.blocks, lent.header)
+}
+
+/// The samples that every trimmed fit has enough of.
+#[cfg(feature = "std")]
+const ENOUGH_TO_TRIM: usize = 8;
+
+/// Searches the planes of a task on so many threads, unless its job may refuse it before its search; says whether it
+/// did. `judge` runs that job: on no room at all the answer is a row that stands before the room's, or that.
+#[cfg(feature = "std")]
+pub(crate) fn searched_first(
+    task: &Task<'_>,
+    lent: &mut Lent<'_>,
+    form: Form,
+    threads: usize,
+    judge: impl FnOnce(&mut Lent<'_>) -> Result<Report, Refusal>,
+) -> bool {
+    let Task { input, reference, width, height, settings, classes, .. } = *task;
+    let mut none = Lent { input_half: &mut [], ref_half: &mut [], words: &mut [], blocks: &mut [], header: &mut [] };
+    let early = !matches!(judge(&mut none), Err(Refusal::TooShort(_)));
+    let rooms = lent.rooms(task, form);
+    if early || sample_count(width, height) == 0 || rooms.iter().any(|room| room.given < room.wanted) {
+        return false;
+    }
+    // the two rows behind the room's
+    let named = || classes.iter().filter(|&&class| settings.set.names(class)).count();
+    if settings.frame == 0 || settings.trim == 1 && settings.elect == 0 && named() < ENOUGH_TO_TRIM {
+        return false;
+    }
+    searched([input, reference], width, height, [lent.input_half, lent.ref_half], lent.words, threads);
+    true
 }

@@ -44,12 +44,15 @@
 //! further isn't refused: [`Model::agreeing`] shows it.
 //!
 //! **Threads and memory.** The library keeps nothing between calls, so any number of threads may call it at once, and it
-//! allocates nothing; of this crate [`Buffers`] alone does. A call that trims or elects takes about 57 kB of the thread's
+//! allocates nothing; of this crate [`Buffers`] alone does, and what starts threads. One frame goes on several threads by
+//! [`job_parallel`], [`Run::job_parallel`] and [`search_parallel`], with the answers of [`job`], [`Run::job`] and
+//! [`collect_motion_samples`], bit for bit, or in bands by [`search_band`] and [`job_of_words`]. A call that trims or elects takes about 57 kB of the thread's
 //! stack over words, 74 kB by a set of classes and 168 kB over samples; a job about 24 kB, 75 kB if it trims or elects, in
 //! a run 25 and 77 kB. It expects the floating-point environment that a process begins with: rounding to nearest, traps
 //! off.
 //!
-//! **Without `std`.** `default-features = false` leaves `core` and `alloc`, and all but `Model::degrees`.
+//! **Without `std`.** `default-features = false` leaves `core` and `alloc`, and all but `Model::degrees` and the three
+//! that start threads.
 //!
 //! **What may come.** Within a major version nothing here is taken away or changes its meaning. What is marked
 //! `#[non_exhaustive]` may get fields or rows: [`Settings`], [`Report`], [`Searched`], [`Models`], [`Run`],
@@ -61,6 +64,7 @@
 
 extern crate alloc;
 
+mod bands;
 mod blocks;
 mod by_class;
 mod class_set;
@@ -76,6 +80,9 @@ mod run;
 mod samples;
 mod search;
 
+#[cfg(feature = "std")]
+pub use bands::search_parallel;
+pub use bands::{half_plane, search_band};
 pub use blocks::{
     Block, Frame, block_bytes, blocks_of, judge_block, list_block, read_both, read_frame, to_form1, to_form2,
     write_frame,
@@ -93,7 +100,9 @@ pub use header::{
     Kind, Models, PriceList, Shear, coefficient_prices, encode_global_motion, encode_inter_global_motion, frame_price,
     read_global_motion, read_global_motion_params, setup_shear,
 };
-pub use job::{Buffers, Lent, Report, Settings, Task, job};
+#[cfg(feature = "std")]
+pub use job::job_parallel;
+pub use job::{Buffers, Lent, Report, Settings, Task, WordTask, job, job_of_words};
 pub use model::{IDENTITIES, Model, Motion, MotionSample, Sample, StoredModel};
 pub use raw::TEXT_BYTES;
 pub use refusal::{Length, Refusal};

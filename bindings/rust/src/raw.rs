@@ -222,6 +222,30 @@ unsafe extern "C" {
         words: *mut u32,
         word_count: usize,
     ) -> Searched;
+    fn belt_half_plane(
+        plane: *const u16,
+        plane_pels: usize,
+        width: usize,
+        height: usize,
+        out: *mut u16,
+        out_room: usize,
+    ) -> u32;
+    fn belt_search_band(
+        input: *const u16,
+        input_pels: usize,
+        reference: *const u16,
+        reference_pels: usize,
+        width: usize,
+        height: usize,
+        input_half: *const u16,
+        input_half_pels: usize,
+        ref_half: *const u16,
+        ref_half_pels: usize,
+        first: usize,
+        end: usize,
+        words: *mut u32,
+        word_room: usize,
+    ) -> Searched;
     fn belt_fit_translation(words: *const u32, count: usize) -> FitAnswer;
     fn belt_fit_rotzoom(words: *const u32, count: usize) -> FitAnswer;
     fn belt_fit_affine(words: *const u32, count: usize) -> FitAnswer;
@@ -459,6 +483,23 @@ unsafe extern "C" {
         header: *mut u8,
         header_room: usize,
     ) -> Report;
+    fn belt_job_of_words(
+        words: *const u32,
+        word_count: usize,
+        settings: Settings,
+        classes: *const u8,
+        class_count: usize,
+        types: *const u8,
+        type_count: usize,
+        models: *const i32,
+        model_count: usize,
+        prior: *const i32,
+        prior_count: usize,
+        blocks: *mut u8,
+        blocks_room: usize,
+        header: *mut u8,
+        header_room: usize,
+    ) -> Report;
     fn belt_run_start(flag: u8, form: u32) -> Moved;
     fn belt_run_switch(run: Run, code: u8) -> Moved;
     fn belt_run_frame(
@@ -504,6 +545,22 @@ unsafe extern "C" {
         ref_half_pels: usize,
         words: *mut u32,
         word_count: usize,
+        blocks: *mut u8,
+        blocks_room: usize,
+        header: *mut u8,
+        header_room: usize,
+    ) -> JobDone;
+    fn belt_run_job_of_words(
+        run: Run,
+        words: *const u32,
+        word_count: usize,
+        settings: Settings,
+        classes: *const u8,
+        class_count: usize,
+        types: *const u8,
+        type_count: usize,
+        models: *const i32,
+        model_count: usize,
         blocks: *mut u8,
         blocks_room: usize,
         header: *mut u8,
@@ -557,6 +614,46 @@ pub fn collect_motion_samples(
             input_half.len(),
             ref_half.as_mut_ptr(),
             ref_half.len(),
+            words.as_mut_ptr(),
+            words.len(),
+        )
+    }
+}
+
+pub fn half_plane(plane: &[u16], width: usize, height: usize, out: &mut [u16]) -> u32 {
+    // SAFETY: one slice is read, one written; sides that don't match the plane's length, and a buffer that is too short,
+    // are refused before a value is written.
+    unsafe { belt_half_plane(plane.as_ptr(), plane.len(), width, height, out.as_mut_ptr(), out.len()) }
+}
+
+#[allow(clippy::too_many_arguments)]
+pub fn search_band(
+    input: &[u16],
+    reference: &[u16],
+    width: usize,
+    height: usize,
+    input_half: &[u16],
+    ref_half: &[u16],
+    first: usize,
+    end: usize,
+    words: &mut [u32],
+) -> Searched {
+    // SAFETY: four slices are read, one written. The lengths of all of them and the rows are judged before a word is
+    // written, and half planes of any values are covered. What is read may be shared by threads.
+    unsafe {
+        belt_search_band(
+            input.as_ptr(),
+            input.len(),
+            reference.as_ptr(),
+            reference.len(),
+            width,
+            height,
+            input_half.as_ptr(),
+            input_half.len(),
+            ref_half.as_ptr(),
+            ref_half.len(),
+            first,
+            end,
             words.as_mut_ptr(),
             words.len(),
         )
@@ -924,6 +1021,39 @@ pub fn job(
     }
 }
 
+#[allow(clippy::too_many_arguments)]
+pub fn job_of_words(
+    words: &[u32],
+    settings: Settings,
+    classes: &[u8],
+    types: &[u8],
+    models: &[i32],
+    prior: &[i32],
+    blocks: &mut [u8],
+    header: &mut [u8],
+) -> Report {
+    // SAFETY: five slices are read, two written. All counts are judged before the first write.
+    unsafe {
+        belt_job_of_words(
+            words.as_ptr(),
+            words.len(),
+            settings,
+            classes.as_ptr(),
+            classes.len(),
+            types.as_ptr(),
+            types.len(),
+            models.as_ptr(),
+            models.len(),
+            prior.as_ptr(),
+            prior.len(),
+            blocks.as_mut_ptr(),
+            blocks.len(),
+            header.as_mut_ptr(),
+            header.len(),
+        )
+    }
+}
+
 pub fn run_start(flag: u8, form: u32) -> Moved {
     // SAFETY: numbers alone.
     unsafe { belt_run_start(flag, form) }
@@ -1013,6 +1143,38 @@ pub fn run_job(
             ref_half.len(),
             words.as_mut_ptr(),
             words.len(),
+            blocks.as_mut_ptr(),
+            blocks.len(),
+            header.as_mut_ptr(),
+            header.len(),
+        )
+    }
+}
+
+#[allow(clippy::too_many_arguments)]
+pub fn run_job_of_words(
+    run: Run,
+    words: &[u32],
+    settings: Settings,
+    classes: &[u8],
+    types: &[u8],
+    models: &[i32],
+    blocks: &mut [u8],
+    header: &mut [u8],
+) -> JobDone {
+    // SAFETY: as for `job_of_words`; the prior is in the run, which is passed by value.
+    unsafe {
+        belt_run_job_of_words(
+            run,
+            words.as_ptr(),
+            words.len(),
+            settings,
+            classes.as_ptr(),
+            classes.len(),
+            types.as_ptr(),
+            types.len(),
+            models.as_ptr(),
+            models.len(),
             blocks.as_mut_ptr(),
             blocks.len(),
             header.as_mut_ptr(),

@@ -3,9 +3,11 @@
 use crate::codes::byte;
 use crate::refusal::{judged, judged_lists};
 use crate::{
-    Code, Form, HEADER_BYTES, Kind, Length, Lent, Models, Precision, Refusal, Report, StoredModel, Task, block_bytes,
-    raw,
+    Code, Form, HEADER_BYTES, Kind, Length, Lent, Models, Precision, Refusal, Report, StoredModel, Task, WordTask,
+    block_bytes, raw,
 };
+#[cfg(feature = "std")]
+use crate::{job::searched_first, sample_count};
 
 /// The switch code to low precision.
 pub const TO_LOW_PRECISION: u8 = 0;
@@ -302,6 +304,75 @@ impl Run {
         self.0 = run;
         let (refusal, report) = Report::of_raw(report, task.settings);
         judged_lists(refusal, report, || task.lists(), || lent.rooms(task, form))
+    }
+
+    /// Runs a job from its words on as an inter frame of the run, as [`crate::job_of_words`] does outside one, and as
+    /// [`Run::job`] with the run's prior, flag and form.
+    ///
+    /// # Errors
+    ///
+    /// Those of [`crate::job_of_words`], and, behind [`Refusal::NotRising`], [`Refusal::NotHeld`] where a class is
+    /// [`crate::FILM`] in form 1.
+    ///
+    /// ```
+    /// use belt::{Buffers, Form, Precision, Run, Task, WordTask};
+    ///
+    /// let (mut earlier, mut later) = ([0; 96 * 80], [0; 96 * 80]);
+    /// belt::make_practice_planes(1, 96, 80, -2, 4, &mut earlier, &mut later)?;
+    /// let (task, mut buffers) = (Task::new(&earlier, &later, 96, 80), Buffers::new(96, 80));
+    /// let mut run = Run::start(Precision::High, Form::One)?;
+    /// let mut other = run;
+    /// buffers.search_parallel(&task, 2)?;
+    /// let Buffers { words, blocks, header, .. } = &mut buffers;
+    /// let report = run.job_of_words(&WordTask::of(&task, words), blocks, header)?;
+    /// assert_eq!(other.job(&task, &mut Buffers::new(96, 80).lend()), Ok(report));
+    /// assert_eq!(run, other);
+    /// # Ok::<(), belt::Refusal>(())
+    /// ```
+    pub fn job_of_words(
+        &mut self,
+        task: &WordTask<'_>,
+        blocks: &mut [u8],
+        header: &mut [u8],
+    ) -> Result<Report, Refusal> {
+        let form = self.form_held();
+        let WordTask { words, settings, classes, types, models, .. } = *task;
+        let raw::JobDone { report, run } =
+            raw::run_job_of_words(self.0, words, settings.raw(), classes, types, raw::numbers(models), blocks, header);
+        self.0 = run;
+        let (refusal, report) = Report::of_raw(report, settings);
+        judged_lists(refusal, report, || task.lists(), || task.rooms(blocks, header, form))
+    }
+
+    /// [`Run::job`] on so many threads, as [`crate::job_parallel`] is [`crate::job`]: the same report, the same buffers
+    /// and the same run, bit for bit.
+    ///
+    /// # Errors
+    ///
+    /// Those of [`Run::job`].
+    ///
+    /// ```
+    /// use belt::{Buffers, Form, Precision, Run, Task};
+    ///
+    /// let (mut earlier, mut later) = ([0; 96 * 80], [0; 96 * 80]);
+    /// belt::make_practice_planes(1, 96, 80, -2, 4, &mut earlier, &mut later)?;
+    /// let (task, mut buffers) = (Task::new(&earlier, &later, 96, 80), Buffers::new(96, 80));
+    /// let mut run = Run::start(Precision::High, Form::Two)?;
+    /// let mut other = run;
+    /// let report = run.job_parallel(&task, &mut buffers.lend(), 2)?;
+    /// assert_eq!(other.job(&task, &mut Buffers::new(96, 80).lend()), Ok(report));
+    /// assert_eq!(run, other);
+    /// # Ok::<(), belt::Refusal>(())
+    /// ```
+    #[cfg(feature = "std")]
+    pub fn job_parallel(&mut self, task: &Task<'_>, lent: &mut Lent<'_>, threads: usize) -> Result<Report, Refusal> {
+        // a copy of the run is judged: what is refused moves nothing
+        let mut judged = *self;
+        if !searched_first(task, lent, self.form_held(), threads, |none| judged.job(task, none)) {
+            return self.job(task, lent);
+        }
+        let words = &lent.words[..sample_count(task.width, task.height)];
+        self.job_of_words(&WordTask::of(task, words), lent.blocks, lent.header)
     }
 }
 

@@ -7,9 +7,9 @@ use mathlib.Core.Path.{_≡_, refl, ap, sym, _∙_, subst}
 use native.Mathlib.Nat.{add-zero, mod-eq-of-lt, mod-lt, mod-one, zero-mul, zero-add}
 use native.Mathlib.Omega.{arith}
 use lib.ListN.{length, getD, set}
-use lib.Bits.{bitAnd, and-high}
-use lib.Pow.{pow-pos, pow-add, split, high, low, mod-mod-pow, mod-pow-add, high-ones}
+use lib.Pow.{pow-pos, pow-add, split, high, low, mod-mod-pow, mod-pow-add}
 use lib.Seq.{set-getD, set-set, getD-set-same, lt-length-set}
+use Rattle.five_bytes.specs.Inner.{fiveOf}
 use Rattle.bits.specs.Bits.{bitAt, bitOf, withBit, putBit, putBits}
 use Rattle.bits.specs.Fields.{field, fieldBits}
 use Rattle.bits.specs.Inner.{Room, FieldIs, Wrote}
@@ -28,14 +28,6 @@ put-split l j w₁ w₂ v =
 -- y with the low n bits of v above its low s bits
 abbrev withField : ℕ → ℕ → ℕ → ℕ → ℕ
 withField y s n v = y / 2 ^ (s + n) * 2 ^ (s + n) + (v % 2 ^ n * 2 ^ s + y % 2 ^ s)
-
--- y without the n bits above its low s bits
-pub kept-outside : (y s n : ℕ) → y - bitAnd y ((2 ^ n - 1) * 2 ^ s) ≡ y / 2 ^ (s + n) * 2 ^ (s + n) + y % 2 ^ s
-kept-outside y s n =
-    let c : s + n ≡ n + s = omega arith in
-    let under : bitAnd y ((2 ^ n - 1) * 2 ^ s) ≡ (y / 2 ^ s % 2 ^ n) * 2 ^ s = ap (λ (m : ℕ). bitAnd y m) (sym (high-ones n s)) ∙ and-high y n s in
-    let parts : y % 2 ^ (s + n) ≡ (y / 2 ^ s % 2 ^ n) * 2 ^ s + y % 2 ^ s = ap (λ (m : ℕ). y % 2 ^ m) c ∙ mod-pow-add y n s in
-    omega (arith, under, parts, split y (s + n))
 
 no-field : (y s v : ℕ) → withField y s 0 v ≡ y
 no-field y s v = rw (add-zero s, mod-one v) (omega (arith, split y s))
@@ -175,3 +167,8 @@ pub field-five : (g : ℕ → ℕ) (b : ℕ) {b₁ b₂ b₃ b₄ b₅ : ℕ} �
     → b₄ ≡ field g (8 * (b + 3)) 8 → b₅ ≡ field g (8 * (b + 4)) 8 → (((b₁ * 256 + b₂) * 256 + b₃) * 256 + b₄) * 256 + b₅ ≡ field g (8 * b) 40
 field-five g b e₁ e₂ e₃ e₄ e₅ =
     field-more g b 4 (field-more g b 3 (field-more g b 2 (field-more g b 1 e₁ e₂ refl refl) e₃ refl refl) e₄ refl refl) e₅ refl refl
+
+-- as they are read
+pub five-field : (l : List ℕ) (b : ℕ) → fiveOf l b ≡ field (bitAt l) (8 * b) 40
+five-field l b =
+    field-five (bitAt l) b (sym (field-byte l b)) (sym (field-byte l (b + 1))) (sym (field-byte l (b + 2))) (sym (field-byte l (b + 3))) (sym (field-byte l (b + 4)))

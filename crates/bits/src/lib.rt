@@ -2,7 +2,6 @@
 // read. Bits go high bit first. In go a bit, a field of 0 to 32 bits or an ns code; out come the
 // cursor behind it and the buffer with those bits and no other bit changed. docs/RULES.md, 'Header' and
 // 'Rust forms to recast'; standard 4.10.2, 4.10.7; encoder/bitwriter.rs.
-
 ghost use Prim.Native.Nat.{_+_, _-_, _*_, _/_, _%_, _^_, _≤_, _<_};
 ghost use lib.ListN.{length};
 ghost use mathlib.Core.List.{[], _∷_};
@@ -11,11 +10,9 @@ ghost use Rattle.bits.specs.Bits.{bitAt, bitOf, withBit, putBits};
 ghost use Rattle.bits.specs.Fields.{field, fieldBits, padBits};
 ghost use Rattle.bits.specs.Ns.{ns, nsBits, bitLength};
 ghost use Rattle.bits.specs.Inner.{Room, Wrote, FieldIs, ReadIs, NsWidthIs};
+use byte_field::BYTE;
 
 pub const BITS_OF_A_BYTE: usize = 8;
-
-// The same, as a width.
-const BYTE: u32 = 8;
 
 pub struct BitCursor {
     pub at: usize,
@@ -33,14 +30,6 @@ pub struct Read {
     pub next: BitCursor,
 }
 
-// 2 to the power of k.
-pub fn power(k: u32) -> u32
-    requires { ⌜ k < 32 ⌝ }
-    ensures { λ r. ⌜ r ≡ 2 ^ k ⌝ }
-{
-    1u32 << k
-}
-
 // The bit of weight 2 to the k.
 fn bit_of(x: u32, k: u32) -> u32
     requires { ⌜ k < 32 ⌝ }
@@ -49,19 +38,13 @@ fn bit_of(x: u32, k: u32) -> u32
     (x >> k) % 2
 }
 
-fn wide(x: u8) -> u32
-    ensures { λ r. ⌜ r ≡ x ⌝ }
-{
-    x as u32
-}
-
 // The byte with b as its bit of weight 2 to the k.
 fn with_bit(x: u8, k: u32, b: u32) -> u8
     requires { ⌜ (k < 8) × (b < 2) ⌝ }
     ensures { λ r. ⌜ r ≡ withBit x k b ⌝ }
 {
-    let whole = wide(x);
-    let weight = power(k);
+    let whole = byte_field::wide(x);
+    let weight = byte_field::power(k);
     let without = whole - bit_of(whole, k) * weight;
     (without + b * weight) as u8
 }
@@ -73,43 +56,9 @@ fn bit_at(bytes: &[u8], at: usize) -> u32
     let byte = at / BITS_OF_A_BYTE;
     let k = (7 - at % BITS_OF_A_BYTE) as u32;
     if byte < bytes.len() {
-        return bit_of(wide(bytes[byte]), k);
+        return bit_of(byte_field::wide(bytes[byte]), k);
     }
     0
-}
-
-// 2 to the power of k, among 64 bits.
-fn wide_power(k: u32) -> u64
-    requires { ⌜ k ≤ 32 ⌝ }
-    ensures { λ r. ⌜ r ≡ 2 ^ k ⌝ }
-{
-    1u64 << k
-}
-
-fn low_byte(word: u64) -> u8
-    ensures { λ r. ⌜ r ≡ word % 2 ^ 8 ⌝ }
-{
-    (word % 256) as u8
-}
-
-// The byte with the low k bits of word as its first.
-fn with_front(byte: u8, k: u32, word: u64) -> u8
-    requires { ⌜ k ≤ 8 ⌝ }
-    ensures { λ r. ⌜ r ≡ word % 2 ^ k * 2 ^ (8 - k) + byte % 2 ^ (8 - k) ⌝ }
-{
-    let whole = byte as u64;
-    let rest = wide_power(BYTE - k);
-    let kept = whole % rest;
-    (word % wide_power(k) * rest + kept) as u8
-}
-
-// A byte's first bits and, behind them, the low n bits of value: one field that begins with the byte.
-fn joined(byte: u8, used: u32, n: u32, value: u32) -> u64
-    requires { ⌜ (used ≤ 8) × (n ≤ 32) ⌝ }
-    ensures { λ r. ⌜ r ≡ byte / 2 ^ (8 - used) * 2 ^ n + value % 2 ^ n ⌝ }
-{
-    let before = byte as u64 / wide_power(BYTE - used);
-    before * wide_power(n) + value as u64 % wide_power(n)
 }
 
 // A whole byte, which isn't read.
@@ -117,7 +66,7 @@ fn store_byte(buffer: &mut [u8], at: usize, word: u64)
     requires { ⌜ at < length (now buffer) ⌝ }
     ensures { λ _. ⌜ now (buffer .exit) ≡ putBits (now (buffer .entry)) (8 * at) (fieldBits 8 word) ⌝ }
 {
-    buffer[at] = low_byte(word);
+    buffer[at] = byte_field::low_byte(word);
 }
 
 // The first bits of a byte; the others stay.
@@ -125,21 +74,7 @@ fn store_front(buffer: &mut [u8], at: usize, k: u32, word: u64)
     requires { ⌜ (k ≤ 8) × (at < length (now buffer)) ⌝ }
     ensures { λ _. ⌜ now (buffer .exit) ≡ putBits (now (buffer .entry)) (8 * at) (fieldBits k word) ⌝ }
 {
-    buffer[at] = with_front(buffer[at], k, word);
-}
-
-// The byte with the low n bits of value above its last ones, of which there are `behind`; the others stay. What goes is taken out by a mask,
-// so that between a byte's load and its store there are few steps: the next field often waits for it.
-fn with_inside(byte: u8, n: u32, behind: u32, value: u32) -> u8
-    requires { ⌜ behind + n ≤ 8 ⌝ }
-    ensures { λ r. ⌜ r ≡ byte / 2 ^ (behind + n) * 2 ^ (behind + n) + (value % 2 ^ n * 2 ^ behind + byte % 2 ^ behind) ⌝ }
-{
-    let whole = wide(byte);
-    let below = power(behind);
-    let size = power(n);
-    let mask = (size - 1) * below;
-    let kept = whole - (whole & mask);
-    (kept + value % size * below) as u8
+    buffer[at] = byte_field::with_front(buffer[at], k, word);
 }
 
 // A field that lies in one byte, behind so many of its bits.
@@ -147,7 +82,7 @@ fn store_inside(buffer: &mut [u8], at: usize, used: u32, n: u32, value: u32)
     requires { ⌜ (used + n ≤ 8) × (at < length (now buffer)) ⌝ }
     ensures { λ _. ⌜ now (buffer .exit) ≡ putBits (now (buffer .entry)) (8 * at + used) (fieldBits n value) ⌝ }
 {
-    buffer[at] = with_inside(buffer[at], n, BYTE - used - n, value);
+    buffer[at] = byte_field::with_inside(buffer[at], n, BYTE - used - n, value);
 }
 
 // The low n bits of word, from the first bit of a byte on.
@@ -165,67 +100,6 @@ fn store_word(buffer: &mut [u8], first: usize, n: u32, word: u64)
     if 0 < left {
         store_front(buffer, at, left, word);
     }
-}
-
-// A byte as a number, 0 past the end.
-fn byte_at(bytes: &[u8], at: usize) -> u64
-    ensures { λ r. ⌜ (r ≡ field (bitAt (now (bytes .entry))) (8 * at) 8) × (r < 256) ⌝ }
-{
-    if at < bytes.len() {
-        return bytes[at] as u64;
-    }
-    0
-}
-
-// A byte that is there.
-fn byte_in(bytes: &[u8], at: usize) -> u64
-    requires { ⌜ at < length (now bytes) ⌝ }
-    ensures { λ r. ⌜ (r ≡ field (bitAt (now (bytes .entry))) (8 * at) 8) × (r < 256) ⌝ }
-{
-    bytes[at] as u64
-}
-
-// Five bytes as a number, the first highest, with zeros past the end.
-fn five_padded(bytes: &[u8], first: usize) -> u64
-    requires { ⌜ first + 5 < 2 ^ 64 ⌝ }
-    ensures { λ r. ⌜ (r ≡ field (bitAt (now (bytes .entry))) (8 * first) 40) × (r < 2 ^ 40) ⌝ }
-{
-    let one = byte_at(bytes, first);
-    let two = one * 256 + byte_at(bytes, first + 1);
-    let three = two * 256 + byte_at(bytes, first + 2);
-    let four = three * 256 + byte_at(bytes, first + 3);
-    four * 256 + byte_at(bytes, first + 4)
-}
-
-// The same where all five are there.
-fn five_inside(bytes: &[u8], first: usize) -> u64
-    requires { ⌜ first + 5 ≤ length (now bytes) ⌝ }
-    ensures { λ r. ⌜ (r ≡ field (bitAt (now (bytes .entry))) (8 * first) 40) × (r < 2 ^ 40) ⌝ }
-{
-    let one = byte_in(bytes, first);
-    let two = one * 256 + byte_in(bytes, first + 1);
-    let three = two * 256 + byte_in(bytes, first + 2);
-    let four = three * 256 + byte_in(bytes, first + 3);
-    four * 256 + byte_in(bytes, first + 4)
-}
-
-// The same: a field of 32 bits lies in them, wherever in the first it begins.
-fn five_bytes(bytes: &[u8], first: usize) -> u64
-    requires { ⌜ first + 5 < 2 ^ 64 ⌝ }
-    ensures { λ r. ⌜ (r ≡ field (bitAt (now (bytes .entry))) (8 * first) 40) × (r < 2 ^ 40) ⌝ }
-{
-    if first + 5 <= bytes.len() {
-        return five_inside(bytes, first);
-    }
-    five_padded(bytes, first)
-}
-
-// n bits of five bytes, from bit `used` on.
-fn bits_inside(word: u64, used: u32, n: u32) -> u32
-    requires { ⌜ (used < 8) × (n ≤ 32) ⌝ }
-    ensures { λ r. ⌜ r ≡ word / 2 ^ (40 - used - n) % 2 ^ n ⌝ }
-{
-    ((word >> (5 * BYTE - used - n)) % wide_power(n)) as u32
 }
 
 // The number of bits of n, FloorLog2(n) + 1.
@@ -247,7 +121,10 @@ fn ns_width(n: u32) -> NsWidth
     ensures { λ r. ⌜ NsWidthIs r n ⌝ }
 {
     let w = bit_length(n);
-    NsWidth { w, m: power(w) - n }
+    NsWidth {
+        w,
+        m: byte_field::power(w) - n,
+    }
 }
 
 // The ns code of v, as one field.
@@ -305,7 +182,7 @@ impl BitCursor {
                 at: at + n as usize,
             };
         }
-        let word = joined(buffer[first], used, n, value);
+        let word = byte_field::joined(buffer[first], used, n, value);
         store_word(buffer, first, used + n, word);
         BitCursor {
             at: at + n as usize,
@@ -349,9 +226,9 @@ impl BitCursor {
     {
         let at = self.at;
         let used = (at % BITS_OF_A_BYTE) as u32;
-        let word = five_bytes(bytes, at / BITS_OF_A_BYTE);
+        let word = five_bytes::five_bytes(bytes, at / BITS_OF_A_BYTE);
         Read {
-            value: bits_inside(word, used, n),
+            value: five_bytes::bits_inside(word, used, n),
             next: BitCursor {
                 at: at + n as usize,
             },

@@ -16,7 +16,8 @@ use Rattle.exact.proofs.Fits.{same-fit}
 use Rattle.exact.proofs.Refit.{same-model}
 use Rattle.trim.specs.Trim.{trimmedFrom, trimmedModelFrom}
 use Rattle.trim_order.proofs.AnyOrder.{same-trimmed, same-trimmed-model}
-use Rattle.by_class.specs.ByClass.{noTypeOrFlag, noModelOrFlag, refusedTrim, refusedTrimmedModel, fittedFrom, fittedBy, quantizedBy, trimmedBy, trimmedModelBy}
+use Rattle.by_class.specs.ByClass.{refusedTrim, fittedFrom, fittedBy, quantizedBy, trimmedBy, trimmedModelBy}
+use Rattle.class_rows.specs.Rows.{noTypeOrFlag, noModelOrFlag, refusedTrimmedModel}
 use Rattle.by_class.specs.Agree.{Reordered}
 use Rattle.by_class.proofs.Named.{same-call}
 

@@ -25,7 +25,8 @@ use Rattle.trim.specs.Trim.{trimmedFrom, trimmedModelFrom}
 use Rattle.trim.proofs.Mapped.{fit-mapped, params-mapped, trimmed-mapped, model-mapped}
 use Rattle.elect.specs.Elect.{stopped, electedFrom}
 use Rattle.elect.proofs.Mapped.{elected-mapped}
-use Rattle.by_class.specs.ByClass.{letsPass, noTypeOrFlag, noModelOrFlag, refusedScore, refusedTrim, refusedTrimmedModel}
+use Rattle.by_class.specs.ByClass.{refusedScore, refusedTrim}
+use Rattle.class_rows.specs.Rows.{letsPass, noTypeOrFlag, noModelOrFlag, refusedTrimmedModel}
 use Rattle.by_class.specs.ByClass.{fittedFrom, fittedBy, quantizedBy, scoredBy, trimmedBy, trimmedModelBy, electedBy}
 use Rattle.by_class.specs.Agree.{Agree}
 use Rattle.by_class.proofs.Named.{all-five, of-read, agree}

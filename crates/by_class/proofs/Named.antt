@@ -12,7 +12,8 @@ use Rattle.sample.specs.Sample.{sampleOf}
 use Rattle.class_set.specs.Set.{allClasses, chosen}
 use Rattle.class_set.proofs.Chosen.{all-chosen, read-chosen}
 use Rattle.fit.proofs.SameSamples.{withoutClass, class-plays-no-part}
-use Rattle.by_class.specs.ByClass.{letsPass, emptyRefusal, setRefusal, byClass}
+use Rattle.by_class.specs.ByClass.{byClass}
+use Rattle.class_rows.specs.Rows.{letsPass, emptyRefusal, setRefusal}
 use Rattle.by_class.specs.Agree.{Pass, Agree}
 use Rattle.by_class.proofs.Rows.{passed}
 

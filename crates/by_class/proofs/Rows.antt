@@ -15,7 +15,8 @@ use Rattle.sample.specs.Word.{mostSamples}
 use Rattle.class.specs.Class.{lastClass, classOver}
 use Rattle.class_set.specs.Set.{namesOver, chosen}
 use Rattle.fit.specs.Fitted.{tooMany}
-use Rattle.by_class.specs.ByClass.{letsPass, emptyRefusal, setRefusal, byClass}
+use Rattle.by_class.specs.ByClass.{byClass}
+use Rattle.class_rows.specs.Rows.{letsPass, emptyRefusal, setRefusal}
 
 -- what rows 1, 2 and 4 let pass
 pub record Passed (wrong : Bool) (set samples : ℕ) (classes : List ℕ) : Type 0 where

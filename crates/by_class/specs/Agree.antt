@@ -9,7 +9,7 @@ use lib.ListN.{length}
 use Rattle.sample.specs.declared.MotionSample.{MotionSample}
 use Rattle.exact.specs.Words.{Words, SameWords}
 use Rattle.class_set.specs.Set.{chosen}
-use Rattle.by_class.specs.ByClass.{letsPass}
+use Rattle.class_rows.specs.Rows.{letsPass}
 
 -- rows 1, 2 and 4 let both pass
 pub record Pass {A : Type 0} (wrong : Bool) (set : ℕ) (xs : List A) (cs : List ℕ) (ys : List A) (ds : List ℕ) : Type 0 where

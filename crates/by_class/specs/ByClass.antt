@@ -2,42 +2,28 @@
 -- the named samples, in their order. For any list whose elements are read as samples.
 -- Assumes nothing.
 use Prim.Native.Nat.{ℕ}
-use mathlib.Core.Bool.{Bool, false, not}
-use mathlib.Core.List.{List, [], _∷_}
-use lib.Dec.{ltb, eqb}
-use lib.IntN.{ℤ, pos}
-use lib.ListN.{length, replicate}
+use mathlib.Core.Bool.{Bool, false}
+use mathlib.Core.List.{List}
+use lib.Dec.{ltb}
+use lib.IntN.{ℤ}
+use lib.ListN.{length}
 use Rattle.laws.specs.Binary64.{nought}
 use Rattle.laws.specs.Call.{answered}
-use Rattle.laws.specs.Refusal.{row, judge, orElse, either}
 use Rattle.sample.specs.declared.MotionSample.{MotionSample}
-use Rattle.class.specs.Class.{lastClass, classOver}
-use Rattle.class_set.specs.Set.{namesOver, namesNone, chosen}
+use Rattle.class_set.specs.Set.{chosen}
 use Rattle.fit.specs.declared.Fitted.{Fitted}
 use Rattle.fit.specs.declared.Fitted.the-variants.{Refused}
-use Rattle.fit.specs.Fitted.{tooMany, noType, fitRefusal, fitFrom}
+use Rattle.fit.specs.Fitted.{noType, fitRefusal, fitFrom}
 use Rattle.score.specs.declared.Score.{Score}
 use Rattle.score.specs.Score.{continuousModel, scoreAs, scored}
 use Rattle.quantize.specs.declared.Quantized.{Quantized}
-use Rattle.quantize.specs.Quantize.{noModel, refusedModel, quantizedFrom}
+use Rattle.quantize.specs.Quantize.{refusedModel, quantizedFrom}
 use Rattle.trim.specs.declared.Trimmed.{Trimmed}
 use Rattle.trim.specs.declared.TrimmedModel.{TrimmedModel}
-use Rattle.trim.specs.Trim.{trimmedAs, trimmedModelAs, trimmedFrom, trimmedModelFrom}
+use Rattle.trim.specs.Trim.{trimmedAs, trimmedFrom, trimmedModelFrom}
 use Rattle.elect.specs.declared.Elected.{Elected}
 use Rattle.elect.specs.Elect.{stopped, electedFrom}
-
--- rows 1, 2 and 4 of so many samples and their classes, of all classes and not of the named alone; `wrong` is the call's own condition of row 4
-abbrev pub letsPass : Bool → ℕ → ℕ → List ℕ → ℕ
-letsPass wrong set samples classes =
-    judge
-    (row 1 (tooMany samples) ∷ row 2 (not (eqb (length classes) samples)) ∷ row 4 (either wrong (either (classOver lastClass classes) (namesOver set))) ∷ [])
-
--- row 19
-abbrev pub emptyRefusal : ℕ → ℕ
-emptyRefusal set = judge (row 19 (namesNone set) ∷ [])
-
-abbrev pub setRefusal : Bool → ℕ → ℕ → List ℕ → ℕ
-setRefusal wrong set samples classes = orElse (letsPass wrong set samples classes) (emptyRefusal set)
+use Rattle.class_rows.specs.Rows.{noModelOrFlag, noTypeOrFlag, refusedTrimmedModel, setRefusal}
 
 -- those rows, then the call over the named samples
 abbrev pub byClass : {A B : Type 0} → (ℕ → B) → Bool → (List A → B) → ℕ → List A → List ℕ → B
@@ -52,16 +38,6 @@ refusedScore n = scoreAs n nought
 
 abbrev pub refusedTrim : ℕ → Trimmed
 refusedTrim n = trimmedAs (Refused n) 0
-
-abbrev pub refusedTrimmedModel : ℕ → TrimmedModel
-refusedTrimmedModel n = trimmedModelAs n 0 (replicate 6 (pos 0))
-
--- row 4 of a call of two codes
-abbrev pub noTypeOrFlag : ℕ → ℕ → Bool
-noTypeOrFlag gmType flag = either (noType gmType) (ltb 1 flag)
-
-abbrev pub noModelOrFlag : Fitted → ℕ → Bool
-noModelOrFlag f flag = either (noModel f) (ltb 1 flag)
 
 module _ {A : Type 0} (read : A → MotionSample) where
   -- the fit of a type code, of words the fit of today

@@ -54,8 +54,8 @@ const ONE: i32 = 65536;
 fn patch(row: u32, column: u32) -> u32
     ensures { λ r. ⌜ r < 1024 ⌝ }
 {
-    let state = practice::next_state(practice::next_state(row / 8) ^ column / 8);
-    practice::next_state(state) / 65536 % 1024
+    let state = generator::next_state(generator::next_state(row / 8) ^ column / 8);
+    generator::next_state(state) / 65536 % 1024
 }
 
 // Four layers of patches, each shifted a little.

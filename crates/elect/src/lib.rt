@@ -3,19 +3,11 @@
 // encoder/global_motion.rs; docs/RULES.md, 'Election', rows 1, 4 and 16). Who is passed over and who is
 // held, for `word_elect` too; and the election over numbers in a call's own memory, which lent samples
 // take. Who is held is an answer whose numbers are still x first.
-
-use fit::AFFINE;
+ghost use mathlib.Core.Path.{_≡_};
+ghost use Rattle.elect.specs.Elect.{identityParams, isIdentity, invalidShear, unfit, nobody, stopped, beats, heldAfter, electRefusal, asStored};
 use fit::NO_SUCH_CODE;
 use fit::ROTZOOM;
-use fit::TRANSLATION;
 use grid::IDENTITY;
-use trim::NOT_FINITE;
-ghost use mathlib.Core.Path.{_≡_};
-ghost use Prim.Native.Nat.{_≤_};
-ghost use Rattle.sample.specs.Word.{mostSamples};
-ghost use Rattle.fit.specs.Sums.{itself};
-ghost use Rattle.trim.specs.Inner.{samplesIn};
-ghost use Rattle.elect.specs.Elect.{identityParams, errorFrom, isIdentity, invalidShear, unfit, nobody, stopped, beats, heldAfter, turn, winnerFrom, electRefusal, asStored, electedFrom};
 
 // A field of less energy than this stands still.
 pub const MIN_MOTION_ENERGY: f64 = 0.25;
@@ -43,22 +35,6 @@ pub fn identity_params() -> [i32; 6]
     ensures { λ r. ⌜ r ≡ identityParams ⌝ }
 {
     [0, 0, 65536, 0, 0, 65536]
-}
-
-// The score of a model, x first, over the first n samples of the numbers.
-fn error_of(params: [i32; 6], numbers: &[f64; 16384], n: usize) -> f64
-    requires { ⌜ n ≤ mostSamples ⌝ }
-    ensures { λ r. ⌜ r ≡ errorFrom itself params (samplesIn (now (numbers .entry)) n) ⌝ }
-{
-    let m = score::continuous_of_params(params);
-    let mut acc = 0.0;
-    let mut i = 0usize;
-    while i < n {
-        acc = score::score_step(m, acc, trim::sample_at(numbers, i));
-        i += 1;
-    }
-    let scored = score::score_of(acc, n);
-    scored.score
 }
 
 // ---- who is passed over
@@ -145,50 +121,6 @@ pub fn held_after(energy: f64, held: Elected, gm_type: u8, params: [i32; 6], err
     held
 }
 
-// A type's candidate takes its turn: its trimmed fit on the grid, unless that is refused or unfit.
-fn turn(
-    flag: u8,
-    numbers: &[f64; 16384],
-    n: usize,
-    energy: f64,
-    held: Elected,
-    gm_type: u8,
-) -> Elected
-    requires { ⌜ n ≤ mostSamples ⌝ }
-    ensures { λ r. ⌜ r ≡ turn itself flag (samplesIn (now (numbers .entry)) n) energy held «gm_type» ⌝ }
-{
-    if held.refusal != 0 {
-        return held;
-    }
-    let candidate = trim::trimmed_model(gm_type, flag, numbers, n);
-    if candidate.refusal == NOT_FINITE {
-        return stopped(NOT_FINITE);
-    }
-    if candidate.refusal != 0 {
-        return held;
-    }
-    let params = candidate.params;
-    if unfit(gm_type, params) {
-        return held;
-    }
-    held_after(energy, held, gm_type, params, error_of(params, numbers, n))
-}
-
-// ---- the election
-
-fn winner(flag: u8, numbers: &[f64; 16384], n: usize) -> Elected
-    requires { ⌜ n ≤ mostSamples ⌝ }
-    ensures { λ r. ⌜ r ≡ winnerFrom itself flag (samplesIn (now (numbers .entry)) n) ⌝ }
-{
-    let energy = error_of(identity_params(), numbers, n);
-    if energy < MIN_MOTION_ENERGY {
-        return nobody(energy);
-    }
-    let first = turn(flag, numbers, n, energy, nobody(energy), TRANSLATION);
-    let second = turn(flag, numbers, n, energy, first, ROTZOOM);
-    turn(flag, numbers, n, energy, second, AFFINE)
-}
-
 pub fn as_stored(held: Elected) -> Elected
     ensures { λ r. ⌜ r ≡ asStored held ⌝ }
 {
@@ -215,15 +147,4 @@ pub fn elect_refusal(flag: u8, samples: usize) -> u32
         return NO_SUCH_CODE;
     }
     0
-}
-
-// Over the first n samples of the numbers.
-pub fn elected_in(flag: u8, numbers: &[f64; 16384], n: usize) -> Elected
-    ensures { λ r. ⌜ r ≡ electedFrom itself flag (samplesIn (now (numbers .entry)) n) ⌝ }
-{
-    let refusal = elect_refusal(flag, n);
-    if refusal != 0 {
-        return stopped(refusal);
-    }
-    as_stored(winner(flag, numbers, n))
 }

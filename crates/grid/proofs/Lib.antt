@@ -6,4 +6,5 @@ pub mod Table
 pub mod Slots
 pub mod Symbols
 pub mod Reach
+pub mod Places
 pub mod Bounds

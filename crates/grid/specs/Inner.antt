@@ -7,9 +7,10 @@ use lib.Dec.{ltb, eqb}
 use lib.IntN.{ℤ, pos, natAbs, _+ℤ_, _-ℤ_}
 use lib.ListN.{length, take}
 use Rattle.laws.specs.Refusal.{choose}
-use Rattle.grid.specs.Grid.{step, absBits, precBits, centre, Row}
+use Rattle.grid.specs.Grid.{step, absBits, precBits, centre, Row, Codable}
 use Rattle.grid.specs.Slots.{slotsOf}
 use Rattle.grid.specs.Symbols.{symbols, symbolOf, place, priorOut}
+use Rattle.grid.specs.declared.Coded.{Coded}
 use Rattle.grid.specs.declared.SlotOrder.{SlotOrder}
 use Rattle.grid.specs.declared.SlotSymbols.{SlotSymbols}
 
@@ -45,6 +46,26 @@ pub record SymbolsIs (gmType flag slot : ℕ) (q : ℤ) (r : SlotSymbols) : Type
 pub record SymbolIs (gmType flag slot : ℕ) (z : ℤ) (r : ℕ) : Type 0 where
   pub is : r ≡ symbolOf (absBits gmType flag slot) (precBits gmType flag slot) (centre slot) z
   pub below : r < symbols (absBits gmType flag slot)
+
+-- two numbers within reach by their places, for any absBits, precBits and centre
+pub record PlacesAre (abs prec c : ℕ) (z q : ℤ) (r : Coded) : Type 0 where
+  pub mx : r .mx ≡ symbols abs
+  pub prior : r .r ≡ placeCode abs prec c q
+  pub own : r .t ≡ placeCode abs prec c z
+
+-- a codable number of a slot, and its prior in range
+pub record CodedIn (gmType flag slot : ℕ) (z q : ℤ) : Type 0 where
+  pub prior : PriorIn slot q
+  pub own : Codable (absBits gmType flag slot) (precBits gmType flag slot) (centre slot) z
+
+-- S, the prior's place and the number's symbol
+pub record CodedIs (gmType flag slot : ℕ) (z q : ℤ) (r : Coded) : Type 0 where
+  pub mx : r .mx ≡ symbols (absBits gmType flag slot)
+  pub stands : r .r ≡ place gmType flag slot q
+  pub is : r .t ≡ symbolOf (absBits gmType flag slot) (precBits gmType flag slot) (centre slot) z
+  pub below : r .r < r .mx
+  pub less : r .t < r .mx
+  pub few : r .mx ≤ 8193
 
 -- the slots of a type at the front of an array of six
 pub record SlotsIs (gmType : ℕ) (r : SlotOrder) : Type 0 where

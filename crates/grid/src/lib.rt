@@ -6,10 +6,15 @@ ghost use Prim.Native.Nat.{_*_, _^_, _<_, _≤_};
 ghost use lib.IntN.{pos, natAbs, _-ℤ_, _+ℤ_, _*ℤ_};
 ghost use Rattle.grid.specs.Grid.{paramBits, absBits, precBits, centre, negative, step, nearestOrdinal, signed, quantize, quantized, Row, rejected, answer};
 ghost use Rattle.grid.specs.Symbols.{symbols, symbolOf, numberOf};
-ghost use Rattle.grid.specs.Inner.{offGrid, Symbol, Prior, placeCode, PriorIn, SymbolsIs, SymbolIs, SlotsIs};
+ghost use Rattle.grid.specs.Inner.{offGrid, Symbol, Prior, placeCode, PriorIn, SymbolsIs, SymbolIs, PlacesAre, CodedIn, CodedIs, SlotsIs};
 
 // Fraction bits of a model's numbers.
 const WARPEDMODEL_PREC_BITS: u32 = 16;
+
+// absBits and precBits of slots 2 to 5.
+const LINEAR_ABS_BITS: u32 = 12;
+
+const LINEAR_PREC_BITS: u32 = 15;
 
 // The types of a model.
 pub const IDENTITY: u8 = 0;
@@ -35,6 +40,13 @@ pub struct ParamBits {
 pub struct SlotSymbols {
     pub mx: u32,
     pub r: u32,
+}
+
+// S, the place of the prior, and the symbol of the number.
+pub struct Coded {
+    pub mx: u32,
+    pub r: u32,
+    pub t: u32,
 }
 
 // The slots that a type carries, in the order of reading: the first `count` of `order`.
@@ -72,8 +84,8 @@ pub fn global_param_bits(gm_type: u8, flag: u8, slot: u8) -> ParamBits
         };
     }
     ParamBits {
-        abs_bits: 12,
-        prec_bits: 15,
+        abs_bits: LINEAR_ABS_BITS,
+        prec_bits: LINEAR_PREC_BITS,
     }
 }
 
@@ -260,6 +272,37 @@ pub fn symbol_of(gm_type: u8, flag: u8, slot: u8, value: i32) -> u32
 {
     let bits = global_param_bits(gm_type, flag, slot);
     symbol_among(bits.abs_bits, bits.prec_bits, centre_of(slot), value)
+}
+
+// Of a number and its prior by their places, with S.
+fn coded_among(abs_bits: u32, prec_bits: u32, round: u32, value: i32, prior: i32) -> Coded
+    requires { ⌜ Prior «abs_bits» «prec_bits» round value × Prior «abs_bits» «prec_bits» round prior × («abs_bits» ≤ 12) ⌝ }
+    ensures { λ r. ⌜ PlacesAre «abs_bits» «prec_bits» round value prior r ⌝ }
+{
+    Coded {
+        mx: (2 * power_of_two(abs_bits) + 1) as u32,
+        r: place_among(abs_bits, prec_bits, round, prior),
+        t: place_among(abs_bits, prec_bits, round, value),
+    }
+}
+
+// S, the place of the prior, and the symbol of a codable number, which is its place. Slots 2 to 5 have the same bits
+// whatever the type: they are named, so that the compiler knows them.
+pub fn coded_of(gm_type: u8, flag: u8, slot: u8, value: i32, prior: i32) -> Coded
+    requires { ⌜ CodedIn «gm_type» flag slot value prior ⌝ }
+    ensures { λ r. ⌜ CodedIs «gm_type» flag slot value prior r ⌝ }
+{
+    if slot < 2 {
+        let bits = global_param_bits(gm_type, flag, slot);
+        return coded_among(bits.abs_bits, bits.prec_bits, 0, value, prior);
+    }
+    coded_among(
+        LINEAR_ABS_BITS,
+        LINEAR_PREC_BITS,
+        centre_of(slot),
+        value,
+        prior,
+    )
 }
 
 // The number that a symbol of a slot stands for.

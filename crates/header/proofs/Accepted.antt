@@ -12,7 +12,7 @@ use lib.ListN.{length}
 use Rattle.laws.specs.Refusal.{either, judge}
 use Rattle.laws.proofs.Call.{answered-accepted, answered-refused, left-accepted, left-refused}
 use Rattle.laws.proofs.Refusal.{neither, length-is, quiet, or-else-quiet}
-use Rattle.header.specs.Inner.{Seven, HeaderReady}
+use Rattle.header.specs.Inner.{Seven, HeaderReady, HeaderCoded}
 use Rattle.header.specs.Writing.{headerBits, lengthsWrong, bytesFor, bitsPlaced, codeRows, modelRows, roomRows, writeRefusal, notWritten, written, headerAfter}
 use Rattle.header.proofs.RoundTrip.{Writable}
 
@@ -59,10 +59,10 @@ module _ (types : List ℕ) (ps : List ℤ) (flag : ℕ) (qs : List ℤ) where
           roomy = ltb-false room (bytesFor start (length (headerBits types ps flag qs))) (quiet (roomRows start types ps flag qs room) tt (rest .1) .0);
         }
 
-    pub header-ready : (room : ℕ) → Accepted room → HeaderReady types ps qs
-    header-ready room a =
+    pub header-coded : (room : ℕ) → Accepted room → HeaderCoded types ps flag qs
+    header-coded room a =
         let w = a .writable in
-        record { all = record { seven = w .seven; numbers = w .models; places = w .priors }; within = w .within }
+        record { ready = record { all = record { seven = w .seven; numbers = w .models; places = w .priors }; within = w .within }; right = w .right }
 
     pub not-refused : (room : ℕ) → Accepted room → writeRefusal start types ps flag qs room ≡ 0
     unfolding writeRefusal

@@ -22,7 +22,7 @@ use Rattle.models.specs.Integers.{equal}
 use Rattle.models.specs.Models.{carries, filler, slotWrong, slotAt, modelWrong, modelAt, modelsWrong, priorAt, priorsOut, typeAt, typesOver}
 use Rattle.models.proofs.Integers.{same-equal}
 use Rattle.header.specs.Reading.{referenceRead, referencesRead, modelsRead}
-use Rattle.header.specs.Inner.{ValidPrior, ModelReady, HeaderReady}
+use Rattle.header.specs.Inner.{ValidPrior, ModelReady, ModelCoded, HeaderReady, HeaderCoded}
 use Rattle.header.specs.Writing.{slotOf, referenceBits, referencesBits, headerBits, bitsPlaced, bytesFor}
 use Rattle.header.proofs.Placed.{placed}
 use Rattle.header.proofs.Reference.{reference-back, reference-bits, at-most-141-bits}
@@ -38,21 +38,20 @@ module _ (gmType flag : ℕ) (ps : List ℤ) (first : ℕ) where
   abbrev rightNumber : ℕ → ℤ
   rightNumber slot = choose (carries gmType slot) (quantized gmType flag slot (slotOf ps first slot)) (filler gmType slot (slotOf ps first 2) (slotOf ps first 3))
 
+  module _ (wrong : modelWrong gmType flag ps first ≡ false) where
+    right-number : (slot : ℕ) → slot < 6 → slotOf ps first slot ≡ rightNumber slot
+    unfolding modelWrong slotWrong
+    right-number slot l =
+        let e : slotAt gmType flag ps first slot ≡ false = each-fails (slotAt gmType flag ps first) 6 wrong slot l in
+        same-equal (slotOf ps first slot) (rightNumber slot) (right (equal (slotOf ps first slot) (rightNumber slot)) e)
+
+    pub carried-codable : (slot : ℕ) → slot < 6 → carries gmType slot ≡ true → Codable (absBits gmType flag slot) (precBits gmType flag slot) (centre slot) (slotOf ps first slot)
+    carried-codable slot l c =
+        let e : slotOf ps first slot ≡ quantized gmType flag slot (slotOf ps first slot) = rw c at (right-number slot l) in
+        subst (Codable (absBits gmType flag slot) (precBits gmType flag slot) (centre slot)) (sym e) (row-codable gmType flag slot (slotOf ps first slot))
+
   pub right-model : gmType ≤ 3 → modelWrong gmType flag ps first ≡ false → ValidModel gmType flag ps first
-  unfolding modelWrong slotWrong
-  right-model known wrong =
-      record {
-        known = known;
-        carried = λ slot l c.
-            let e : slotOf ps first slot ≡ quantized gmType flag slot (slotOf ps first slot) = rw c at (own slot l) in
-            subst (Codable (absBits gmType flag slot) (precBits gmType flag slot) (centre slot)) (sym e) (row-codable gmType flag slot (slotOf ps first slot));
-        filled = λ slot l c. rw c at (own slot l);
-      }
-    where
-      own : (slot : ℕ) → slot < 6 → slotOf ps first slot ≡ rightNumber slot
-      own slot l =
-          let e : slotAt gmType flag ps first slot ≡ false = each-fails (slotAt gmType flag ps first) 6 wrong slot l in
-          same-equal (slotOf ps first slot) (rightNumber slot) (right (equal (slotOf ps first slot) (rightNumber slot)) e)
+  right-model known wrong = record { known = known; carried = carried-codable wrong; filled = λ slot l c. rw c at (right-number wrong slot l) }
 
 pub valid-model : (types : List ℕ) (flag : ℕ) (ps : List ℤ) (r : ℕ) → r < length types → typesOver types ≡ false → modelsWrong types flag ps ≡ false
     → ValidModel (getD types r 0) flag ps (6 * r)
@@ -77,6 +76,14 @@ model-ready types ps qs r h l =
       numbers = omega (arith, h .all .numbers);
       places = omega (arith, h .all .places);
       priors = valid-prior qs r (omega (arith, h .all .places)) (h .within);
+    }
+
+pub model-coded : (types : List ℕ) (ps : List ℤ) (flag : ℕ) (qs : List ℤ) (r : ℕ) → HeaderCoded types ps flag qs → r < 7 → ModelCoded (getD types r 0) flag ps qs (6 * r)
+unfolding modelsWrong
+model-coded types ps flag qs r h l =
+    record {
+      ready = model-ready types ps qs r (h .ready) l;
+      right = each-fails (modelAt types flag ps) (length types) (h .right) r (omega (arith, h .ready .all .seven));
     }
 
 -- ---- seven references

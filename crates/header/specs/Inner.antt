@@ -1,13 +1,13 @@
 -- What the functions below the public calls ask and answer; no public contract cites it.
 -- Assumes nothing.
 use Prim.Native.Nat.{ℕ, _+_, _-_, _/_, _^_, _≤_, _<_}
-use mathlib.Core.Bool.{false}
+use mathlib.Core.Bool.{true, false}
 use mathlib.Core.Path.{_≡_}
 use mathlib.Core.List.{List}
 use lib.IntN.{ℤ}
 use lib.ListN.{length, getD, set, replicate}
 use Rattle.grid.specs.Symbols.{priorOut}
-use Rattle.models.specs.Models.{priorsOut}
+use Rattle.models.specs.Models.{carries, modelWrong, modelsWrong, priorsOut}
 use Rattle.header.specs.Writing.{slotOf}
 
 -- the six priors from `first` on are in range
@@ -20,6 +20,16 @@ pub record ModelReady (ps qs : List ℤ) (first : ℕ) : Type 0 where
   pub places : first + 6 ≤ length qs
   pub priors : ValidPrior qs first
 
+-- a slot that the type carries
+pub record Carried (gmType slot : ℕ) : Type 0 where
+  pub known : slot < 6
+  pub is : carries gmType slot ≡ true
+
+-- and the model is right: its carried numbers are codable
+pub record ModelCoded (gmType flag : ℕ) (ps qs : List ℤ) (first : ℕ) : Type 0 where
+  pub ready : ModelReady ps qs first
+  pub right : modelWrong gmType flag ps first ≡ false
+
 -- seven types and their models, and as many priors
 pub record Seven (types : List ℕ) (ps qs : List ℤ) : Type 0 where
   pub seven : length types ≡ 7
@@ -30,6 +40,11 @@ pub record Seven (types : List ℕ) (ps qs : List ℤ) : Type 0 where
 pub record HeaderReady (types : List ℕ) (ps qs : List ℤ) : Type 0 where
   pub all : Seven types ps qs
   pub within : priorsOut qs ≡ false
+
+-- and the models right
+pub record HeaderCoded (types : List ℕ) (ps : List ℤ) (flag : ℕ) (qs : List ℤ) : Type 0 where
+  pub ready : HeaderReady types ps qs
+  pub right : modelsWrong types flag ps ≡ false
 
 -- n identities from reference r on
 pub record Identities (types : List ℕ) (r n : ℕ) : Type 0 where

@@ -8,10 +8,10 @@ ghost use lib.ListN.{length, take};
 ghost use Rattle.laws.specs.Buffer.{onto};
 ghost use Rattle.laws.specs.Refusal.{judge};
 ghost use Rattle.bits.specs.Inner.{Room, Wrote, FieldIs};
-ghost use Rattle.grid.specs.Inner.{PriorIn};
+ghost use Rattle.grid.specs.Inner.{PriorIn, CodedIn};
 ghost use Rattle.header.specs.Coefficient.{coefficientBits};
 ghost use Rattle.header.specs.Count.{slotCount, modelCount, headerCount};
-ghost use Rattle.header.specs.Inner.{ModelReady, Seven, HeaderReady, Identities, pageOf, Begins};
+ghost use Rattle.header.specs.Inner.{Carried, ModelReady, ModelCoded, Seven, HeaderReady, HeaderCoded, Identities, pageOf, Begins};
 ghost use Rattle.header.specs.Writing.{slotBits, typeBits, modelBits, referenceBits, headerBits, bitsPlaced, written, headerAfter};
 ghost use Rattle.header.specs.Writing.{lengthsWrong, bytesFor, tooShort, codeRows, modelRows, roomRows, writeRefusal};
 use bits::BITS_OF_A_BYTE;
@@ -65,12 +65,11 @@ fn write_global_param(
     value: i32,
     prior: i32,
 ) -> BitCursor
-    requires { ⌜ PriorIn slot prior × Room (now header) (cursor .at) (length (coefficientBits «gm_type» flag slot value prior)) ⌝ }
+    requires { ⌜ CodedIn «gm_type» flag slot value prior × Room (now header) (cursor .at) (length (coefficientBits «gm_type» flag slot value prior)) ⌝ }
     ensures { λ r. ⌜ Wrote (now (header .entry)) (cursor .at) (coefficientBits «gm_type» flag slot value prior) (now (header .exit)) (r .at) ⌝ }
 {
-    let s = grid::symbols_of(gm_type, flag, slot, prior);
-    let t = grid::symbol_of(gm_type, flag, slot, value);
-    subexp::encode_unsigned_subexp_with_ref(cursor, header, s.mx, s.r, t)
+    let s = grid::coded_of(gm_type, flag, slot, value, prior);
+    subexp::encode_unsigned_subexp_with_ref(cursor, header, s.mx, s.r, s.t)
 }
 
 // is_global, is_rot_zoom and is_translation, as far as they are written.
@@ -108,7 +107,7 @@ fn write_slot(
     first: usize,
     slot: u8,
 ) -> BitCursor
-    requires { ⌜ ModelReady (now params) (now prior) first × (slot < 6) × Room (now header) (cursor .at) (length (slotBits flag (now params) (now prior) «gm_type» first slot)) ⌝ }
+    requires { ⌜ ModelCoded «gm_type» flag (now params) (now prior) first × Carried «gm_type» slot × Room (now header) (cursor .at) (length (slotBits flag (now params) (now prior) «gm_type» first slot)) ⌝ }
     ensures { λ r. ⌜ Wrote (now (header .entry)) (cursor .at) (slotBits flag (now (params .entry)) (now (prior .entry)) «gm_type» first slot) (now (header .exit)) (r .at) ⌝ }
 {
     let value = params[first + slot as usize];
@@ -126,7 +125,7 @@ fn write_model(
     prior: &[i32],
     first: usize,
 ) -> BitCursor
-    requires { ⌜ ModelReady (now params) (now prior) first × Room (now header) (cursor .at) (length (modelBits flag (now params) (now prior) «gm_type» first)) ⌝ }
+    requires { ⌜ ModelCoded «gm_type» flag (now params) (now prior) first × Room (now header) (cursor .at) (length (modelBits flag (now params) (now prior) «gm_type» first)) ⌝ }
     ensures { λ r. ⌜ Wrote (now (header .entry)) (cursor .at) (modelBits flag (now (params .entry)) (now (prior .entry)) «gm_type» first) (now (header .exit)) (r .at) ⌝ }
 {
     let slots = grid::slots_of(gm_type);
@@ -151,7 +150,7 @@ fn write_reference(
     prior: &[i32],
     first: usize,
 ) -> BitCursor
-    requires { ⌜ ModelReady (now params) (now prior) first × Room (now header) (cursor .at) (length (referenceBits flag (now params) (now prior) «gm_type» first)) ⌝ }
+    requires { ⌜ ModelCoded «gm_type» flag (now params) (now prior) first × Room (now header) (cursor .at) (length (referenceBits flag (now params) (now prior) «gm_type» first)) ⌝ }
     ensures { λ r. ⌜ Wrote (now (header .entry)) (cursor .at) (referenceBits flag (now (params .entry)) (now (prior .entry)) «gm_type» first) (now (header .exit)) (r .at) ⌝ }
 {
     let next = write_type(cursor, header, gm_type);
@@ -182,7 +181,7 @@ fn write_references(
     params: &[i32],
     prior: &[i32],
 ) -> BitCursor
-    requires { ⌜ HeaderReady (now types) (now params) (now prior) × Room (now header) (cursor .at) (length (headerBits (now types) (now params) flag (now prior))) ⌝ }
+    requires { ⌜ HeaderCoded (now types) (now params) flag (now prior) × Room (now header) (cursor .at) (length (headerBits (now types) (now params) flag (now prior))) ⌝ }
     ensures { λ r. ⌜ Wrote (now (header .entry)) (cursor .at) (headerBits (now (types .entry)) (now (params .entry)) flag (now (prior .entry))) (now (header .exit)) (r .at) ⌝ }
 {
     let mut next = cursor;
@@ -375,7 +374,7 @@ fn write_after(
     prior: &[i32],
     header: &mut [u8],
 ) -> usize
-    requires { ⌜ HeaderReady (now types) (now params) (now prior) × Begins start before (now header)
+    requires { ⌜ HeaderCoded (now types) (now params) flag (now prior) × Begins start before (now header)
         × (bytesFor start (length (headerBits (now types) (now params) flag (now prior))) ≤ length (now header)) ⌝ }
     ensures { λ r. ⌜ (r ≡ length (headerBits (now (types .entry)) (now (params .entry)) flag (now (prior .entry))))
         × (now (header .exit) ≡ bitsPlaced start (headerBits (now (types .entry)) (now (params .entry)) flag (now (prior .entry))) (now (header .entry))) ⌝ }
@@ -398,7 +397,7 @@ fn write_header(
     prior: &[i32],
     header: &mut [u8],
 ) -> usize
-    requires { ⌜ HeaderReady (now types) (now params) (now prior) × (start < 8) × (bytesFor start (length (headerBits (now types) (now params) flag (now prior))) ≤ length (now header)) ⌝ }
+    requires { ⌜ HeaderCoded (now types) (now params) flag (now prior) × (start < 8) × (bytesFor start (length (headerBits (now types) (now params) flag (now prior))) ≤ length (now header)) ⌝ }
     ensures { λ r. ⌜ (r ≡ length (headerBits (now (types .entry)) (now (params .entry)) flag (now (prior .entry))))
         × (now (header .exit) ≡ bitsPlaced start (headerBits (now (types .entry)) (now (params .entry)) flag (now (prior .entry))) (now (header .entry))) ⌝ }
 {

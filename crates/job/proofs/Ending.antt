@@ -21,24 +21,40 @@ use Rattle.class_set.proofs.Chosen.{chosen-count, named-few}
 use Rattle.search.specs.declared.Searched.{Searched}
 use Rattle.search.specs.Refusal as search
 use Rattle.frame_store.specs.InForm.{storedInLeft, storeRefusalIn}
-use Rattle.header.specs.Writing.{written, bitsPlaced}
+use Rattle.header.specs.Writing.{written}
 use Rattle.job_task.specs.declared.Settings.{Settings}
-use Rattle.job_task.specs.Task.{Task, Lent, lend, searchTask, searchLent}
+use Rattle.job_task.specs.Task.{Task, Lent, lend, Sheet, sheetOf, searchTask, searchLent}
 use Rattle.job_task.specs.Rows.{early}
-use Rattle.job_task.proofs.Ready.{Ready}
+use Rattle.job_task.proofs.Ready.{Sound, Writes, Ready}
 use Rattle.job_task.proofs.Accepted.{ready}
 use Rattle.job_model.specs.declared.Modelled.{Modelled}
 use Rattle.job_model.specs.Modelled.{modelled, modelledAs, notModelled}
-use Rattle.job_model.specs.Inner.{Modelling}
 use Rattle.job_outcome.specs.declared.Report.{Report}
-use Rattle.job_outcome.specs.Outcome.{Ended, ended, samples, words, named, bits, late, refused, accepted, blocksBy, outcome}
+use Rattle.job_outcome.specs.Words as sheet
+use Rattle.job_outcome.specs.Words.{Finished, finish, fromWords}
+use Rattle.job_outcome.specs.Outcome.{Ended, ended, samples, words, late, refused, outcome}
 use Rattle.job_outcome.specs.Done.{Done}
-use Rattle.job_outcome.proofs.Demand3.{done}
+use Rattle.job_outcome.proofs.Demand3.{as-words, done}
 use Rattle.job_outcome.proofs.Stages.{refused-early, refused-late, ends-accepted}
-use Rattle.job_outcome.proofs.Samples.{words-length, words-few}
+use Rattle.job_outcome.proofs.Samples.{words-length}
 use Rattle.job_outcome.proofs.Blocks.{stored}
 use Rattle.job_outcome.proofs.Written.{bits-written, header-written}
-use Rattle.job.specs.Inner.{Naming, Finished, finish, reportOf, writtenOut, finished}
+use Rattle.job.specs.Inner.{Naming, reportOf, writtenOut, finished}
+
+-- ---- the words that a model is of: the named ones are at most all, and as many as row 15 counts
+
+pub naming : (j : Sheet) → Sound j → Naming (j .settings) (j .types) (j .models) (j .words) (j .classes)
+naming j s =
+    let few : length (sheet.named j) ≤ 4096 = omega (arith, named-few (j .settings .set) (j .words) (j .classes), s .few) in
+    record {
+      classed = sym (s .class-count);
+      few = s .few;
+      modelling = record {
+        fitting = record { range = s .range; few = few; enough = rw (chosen-count (j .settings .set) (j .words) (j .classes) (s .class-count)) (s .enough) };
+        six = s .six;
+        numbers = s .numbers;
+      };
+    }
 
 -- ---- the search of a job that is ready
 
@@ -73,63 +89,57 @@ module _ (j : Task) (l : Lent) (r : Ready j l) {found : Searched} {left : search
   pub found-front : Front (words j) (left .words) (found .samples)
   found-front = record { counted = found-samples ∙ sym (words-length j); front = found-words }
 
-  -- the named words are at most all, and as many as row 15 counts
-  modelling : Modelling (j .settings) (j .types) (j .models) (named j)
-  modelling =
-      let s = r .sound in
-      let few : length (named j) ≤ 4096 = omega (arith, named-few (j .settings .set) (words j) (j .classes), words-few j s) in
-      record {
-        fitting = record { range = s .range; few = few; enough = rw (chosen-count (j .settings .set) (words j) (j .classes) (s .class-count ∙ sym (words-length j))) (s .enough) };
-        six = s .six;
-        numbers = s .numbers;
-      }
-
   pub found-naming : Naming (j .settings) (j .types) (j .models) (take (found .samples) (left .words)) (j .classes)
-  found-naming =
-      let s = r .sound in
-      rw found-words (record { classed = words-length j ∙ sym (s .class-count); few = words-few j s; modelling = modelling })
+  found-naming = rw found-words (naming (sheetOf j) (r .writes .sound))
 
 -- ---- what follows from the words, by the model's refusal
 
 pub finish-same : {r r' : Report} {b b' h h' : List ℕ} → r ≡ r' → b ≡ b' → h ≡ h' → finish r b h ≡ finish r' b' h'
 finish-same p q s = rw (p, q, s)
 
-module _ (j : Task) where
+module _ (j : Sheet) where
   abbrev model : Modelled
-  model = modelled (j .settings) (j .types) (j .models) (named j)
+  model = modelled (j .settings) (j .types) (j .models) (sheet.named j)
 
   abbrev whole : Modelled
-  whole = modelledAs (j .settings) (j .types) (j .models) (named j)
+  whole = modelledAs (j .settings) (j .types) (j .models) (sheet.named j)
 
-  with-model : late j ≡ 0 → model ≡ whole
+  with-model : sheet.late j ≡ 0 → model ≡ whole
   unfolding modelled
-  with-model z = answered-accepted notModelled (late j) whole z
+  with-model z = answered-accepted notModelled (sheet.late j) whole z
 
-  with-none : (late j ≡ 0 → ⊥) → model ≡ notModelled (late j)
+  with-none : (sheet.late j ≡ 0 → ⊥) → model ≡ notModelled (sheet.late j)
   unfolding modelled
-  with-none h = answered-refused notModelled (late j) whole h
+  with-none h = answered-refused notModelled (sheet.late j) whole h
 
-  abbrev finishedOf : Lent → Finished
-  finishedOf l = finished (j .settings) (j .form) (j .types) (j .models) (j .prior) (words j) (j .classes) (l .blocks) (l .header)
+  abbrev finishedOf : List ℕ → List ℕ → Finished
+  finishedOf blocks header = finished (j .settings) (j .form) (j .types) (j .models) (j .prior) (j .words) (j .classes) blocks header
 
-  finished-refused : (l : Lent) → (late j ≡ 0 → ⊥) → finishedOf l ≡ finish (refused (late j)) (l .blocks) (l .header)
-  unfolding finished
-  finished-refused l h = rw (with-none h, ne-eqb (late j) 0 h)
-
-  module _ (l : Lent) (r : Ready j l) (z : late j ≡ 0) where
-    report-is : reportOf whole (written (j .settings .start) (whole .types) (whole .models) (j .settings .flag) (j .prior) (length (l .header)) .bits) (length (words j)) ≡ accepted j
-    report-is =
-        rw (bits-written j (r .sound) z (l .header) (r .header-room))
-        (ap (λ (n : ℕ). reportOf whole (length (bits j)) n) (words-length j))
-
-    blocks-are : storedInLeft (j .form) (j .settings .frame) (words j) (j .classes) (l .blocks) ≡ blocksBy j l
-    blocks-are =
-        let n = length (l .blocks) in
-        left-accepted (storeRefusalIn (j .form) (j .settings .frame) (words j) (j .classes) n) (blocksBy j l) (l .blocks) (stored j (r .sound) n (r .blocks-room))
-
-    finished-accepted : finishedOf l ≡ finish (accepted j) (blocksBy j l) (bitsPlaced (j .settings .start) (bits j) (l .header))
+  module _ (blocks header : List ℕ) where
+    finished-refused : (sheet.late j ≡ 0 → ⊥) → finishedOf blocks header ≡ finish (refused (sheet.late j)) blocks header
     unfolding finished
-    finished-accepted = rw (with-model z) (finish-same report-is blocks-are (header-written j (r .sound) z (l .header) (r .header-room)))
+    finished-refused h = rw (with-none h, ne-eqb (sheet.late j) 0 h)
+
+    module _ (r : Writes j blocks header) (z : sheet.late j ≡ 0) where
+      report-is : reportOf whole (written (j .settings .start) (whole .types) (whole .models) (j .settings .flag) (j .prior) (length header) .bits) (length (j .words)) ≡ sheet.accepted j
+      report-is = rw (bits-written j (r .sound) z header (r .header-room)) refl
+
+      blocks-are : storedInLeft (j .form) (j .settings .frame) (j .words) (j .classes) blocks ≡ sheet.blocksBy j blocks
+      blocks-are =
+          let n = length blocks in
+          left-accepted (storeRefusalIn (j .form) (j .settings .frame) (j .words) (j .classes) n) (sheet.blocksBy j blocks) blocks (stored j (r .sound) n (r .blocks-room))
+
+      finished-accepted : finishedOf blocks header ≡ finish (sheet.accepted j) (sheet.blocksBy j blocks) (sheet.headerBy j header)
+      unfolding finished
+      finished-accepted = rw (with-model z) (finish-same report-is blocks-are (header-written j (r .sound) z header (r .header-room)))
+
+    -- either way it is how a job from its words on ends
+    pub finished-from : Writes j blocks header → finishedOf blocks header ≡ fromWords j blocks header
+    finished-from r =
+        ⊎-elim
+        (λ (z : sheet.late j ≡ 0). finished-accepted r z ∙ rw z)
+        (λ (h : sheet.late j ≡ 0 → ⊥). finished-refused h ∙ rw (ne-eqb (sheet.late j) 0 h))
+        (eq-or-ne (sheet.late j) 0)
 
 -- ---- the outcome
 
@@ -138,11 +148,12 @@ abbrev endedBy : search.Lent → Finished → Ended
 endedBy left f = ended (f .report) (lend (left .inputHalf) (left .refHalf) (left .words) (f .blocks) (f .header))
 
 module _ (j : Task) (l : Lent) (quiet : early j l ≡ 0) {found : Searched} {left : search.Lent} (d : search.Done (searchTask j) (searchLent l) found left) where
-  by-words : endedBy left (finishedOf j l) ≡ outcome j l
+  by-words : endedBy left (finishedOf (sheetOf j) (l .blocks) (l .header)) ≡ outcome j l
   by-words =
+      let w = ready j l quiet .writes in
       ⊎-elim
-      (λ (z : late j ≡ 0). rw (d .buffers, finished-accepted j l (ready j l quiet) z) (sym (ends-accepted j l quiet z)))
-      (λ (h : late j ≡ 0 → ⊥). rw (d .buffers, finished-refused j l h) (sym (refused-late j l quiet h)))
+      (λ (z : late j ≡ 0). rw (d .buffers, finished-accepted (sheetOf j) (l .blocks) (l .header) w z ∙ sym (as-words j l z)) (sym (ends-accepted j l quiet z)))
+      (λ (h : late j ≡ 0 → ⊥). rw (d .buffers, finished-refused (sheetOf j) (l .blocks) (l .header) h) (sym (refused-late j l quiet h)))
       (eq-or-ne (late j) 0)
 
   pub ended-found : {f : Finished} → f ≡ finished (j .settings) (j .form) (j .types) (j .models) (j .prior) (take (found .samples) (left .words)) (j .classes) (l .blocks) (l .header)

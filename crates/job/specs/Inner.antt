@@ -15,22 +15,13 @@ use Rattle.job_model.specs.declared.Modelled.{Modelled}
 use Rattle.job_model.specs.Modelled.{modelled}
 use Rattle.job_model.specs.Inner.{Modelling}
 use Rattle.job_outcome.specs.declared.Report.{Report}
-use Rattle.job_outcome.specs.Outcome.{refused}
+use Rattle.job_outcome.specs.Words.{Finished, finish, refused}
 
 -- what the model of the named words rests on
 pub record Naming (s : Settings) (types : List ℕ) (models : List ℤ) (ws cs : List ℕ) : Type 0 where
   pub classed : length ws ≡ length cs
   pub few : length ws ≤ 4096
   pub modelling : Modelling s types models (chosen (s .set) ws cs)
-
--- the report of a job whose words are there, and what it leaves in blocks and header
-pub record Finished : Type 0 where
-  pub report : Report
-  pub blocks : List ℕ
-  pub header : List ℕ
-
-abbrev pub finish : Report → List ℕ → List ℕ → Finished
-finish r b h = record { report = r; blocks = b; header = h }
 
 -- the report of a model, of the bits written and of the samples
 abbrev pub reportOf : Modelled → ℕ → ℕ → Report

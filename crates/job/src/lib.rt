@@ -14,11 +14,13 @@ ghost use Rattle.class_set.specs.Set.{chosen};
 ghost use Rattle.job_task.specs.Task.{task, taskIn, lend};
 ghost use Rattle.job_task.specs.Rows.{early};
 ghost use Rattle.job_model.specs.Modelled.{modelled};
+ghost use Rattle.job_outcome.specs.Words as sheet;
 ghost use Rattle.job_outcome.specs.Outcome.{refused, ended, outcome};
 ghost use Rattle.job_outcome.specs.Done.{Done};
 ghost use Rattle.job.specs.Inner as inner;
 
-fn refused(number: u32) -> Report
+// The number of a refused job, and zeros.
+pub fn refused(number: u32) -> Report
     ensures { λ r. ⌜ r ≡ refused number ⌝ }
 {
     let types = [0u8; 7];
@@ -44,7 +46,7 @@ fn write_out(
     blocks: &mut [u8],
     header: &mut [u8],
 ) -> Report
-    ensures { λ r. ⌜ inner.finish r (now (blocks .exit)) (now (header .exit)) ≡
+    ensures { λ r. ⌜ sheet.finish r (now (blocks .exit)) (now (header .exit)) ≡
         inner.writtenOut m settings form (now (prior .entry)) (now (words .entry)) (now (classes .entry)) (now (blocks .entry)) (now (header .entry)) ⌝ }
 {
     let types = m.types;
@@ -85,7 +87,7 @@ fn model_of_named(
 }
 
 // The model of the named words; a refused one writes no block and no header.
-fn finish(
+pub fn finish(
     settings: Settings,
     form: u32,
     types: &[u8],
@@ -97,7 +99,7 @@ fn finish(
     header: &mut [u8],
 ) -> Report
     requires { ⌜ inner.Naming settings (now types) (now models) (now words) (now classes) ⌝ }
-    ensures { λ r. ⌜ inner.finish r (now (blocks .exit)) (now (header .exit)) ≡
+    ensures { λ r. ⌜ sheet.finish r (now (blocks .exit)) (now (header .exit)) ≡
         inner.finished settings form (now (types .entry)) (now (models .entry)) (now (prior .entry)) (now (words .entry)) (now (classes .entry)) (now (blocks .entry)) (now (header .entry)) ⌝ }
 {
     let m = model_of_named(settings, types, models, words, classes);

@@ -31,11 +31,10 @@ use Rattle.frame_store.proofs.Rows.{storing}
 use Rattle.frame_read.specs.Read.{codecIn, readBoth, bareWordsLeft, classesLeft}
 use Rattle.frame_read.proofs.Stored.{carried}
 use Rattle.frame_read.proofs.RoundTrip.{reads-in, read-stored-in, words-stored-in, classes-stored-in}
-use Rattle.job_task.specs.Task.{Task}
+use Rattle.job_task.specs.Task.{Sheet}
 use Rattle.job_task.proofs.Ready.{Sound}
-use Rattle.job_outcome.specs.Outcome.{Ended, samples, words, classedWords}
+use Rattle.job_outcome.specs.Words.{Finished, samples, classedWords}
 use Rattle.job_outcome.specs.Demand3.{blockForm, ownBlocks, samplesRead, wordsRead, classesRead, BlocksRead}
-use Rattle.job_outcome.proofs.Samples.{words-length, words-few, words-storable, words-bare, words-fit, sample-is}
 use Rattle.job_outcome.proofs.Alone.{form-back, alone-read}
 
 -- a form is known by its number
@@ -52,47 +51,47 @@ carried-is : (frame : ℕ) (xs : List Classed) → carried frame xs ≡ choose (
 carried-is frame [] = refl
 carried-is frame (x ∷ xs) = rw (ne-eqb (length (x ∷ xs)) 0 (omega arith))
 
-module _ (j : Task) (s : Sound j) where
-  class-each : length (j .classes) ≡ length (words j)
-  class-each = s .class-count ∙ sym (words-length j)
+module _ (j : Sheet) (s : Sound j) where
+  class-each : length (j .classes) ≡ length (j .words)
+  class-each = s .class-count
 
-  words-in : wordsIn (classedWords j) ≡ words j
-  words-in = class.words-of (words j) (j .classes) class-each
+  words-in : wordsIn (classedWords j) ≡ j .words
+  words-in = class.words-of (j .words) (j .classes) class-each
 
   classes-in : classesIn (classedWords j) ≡ j .classes
-  classes-in = class.classes-of (words j) (j .classes) class-each
+  classes-in = class.classes-of (j .words) (j .classes) class-each
 
   samples-count : length (classedWords j) ≡ samples j
-  samples-count = class.classed-length (words j) (j .classes) class-each ∙ words-length j
+  samples-count = class.classed-length (j .words) (j .classes) class-each
 
   few : length (classedWords j) ≤ mostSamples
-  few = rw (class.classed-length (words j) (j .classes) class-each) (words-few j s)
+  few = rw (class.classed-length (j .words) (j .classes) class-each) (s .few)
 
   sound : class.Sound (codecOf (j .form) .last) 0 (classedWords j)
-  sound = record { in-order = rw words-in (words-storable j s); bare = rw words-in (words-bare j s); held = rw classes-in (s .held) }
+  sound = record { in-order = rw words-in (s .in-order); bare = rw words-in (s .bare); held = rw classes-in (s .held) }
 
-  fit : Words (words j)
-  fit = record { fit = words-fit j s }
+  fit : Words (j .words)
+  fit = record { fit = s .fit }
 
   -- storing them is never refused
   module _ (room : ℕ) (enough : blockBytes * blocksOf (blockForm j) (samples j) ≤ room) where
-    pub stored : storeRefusalIn (j .form) (j .settings .frame) (words j) (j .classes) room ≡ 0
+    pub stored : storeRefusalIn (j .form) (j .settings .frame) (j .words) (j .classes) room ≡ 0
     stored =
-        storing (j .form) (j .settings .frame) (words j) (j .classes) room
+        storing (j .form) (j .settings .frame) (j .words) (j .classes) room
         (record {
-          few-enough = words-few j s;
+          few-enough = s .few;
           class-each = class-each;
           known = s .classed;
-          in-order = words-storable j s;
-          bare = words-bare j s;
+          in-order = s .in-order;
+          bare = s .bare;
           held = s .held;
-          room-enough = rw (words-length j) enough;
+          room-enough = enough;
           used = s .used;
         })
 
-module _ (j : Task) (s : Sound j) (o : Ended) (old : List ℕ) (enough : blockBytes * blocksOf (blockForm j) (samples j) ≤ length old)
-    (left : o .left .blocks ≡ onto (frameBytes (codecOf (j .form)) (j .settings .frame) (classedWords j)) old) (count : o .report .samples ≡ samples j) where
-  accepted : storeRefusalIn (j .form) (j .settings .frame) (words j) (j .classes) (length old) ≡ 0
+module _ (j : Sheet) (s : Sound j) (o : Finished) (old : List ℕ) (enough : blockBytes * blocksOf (blockForm j) (samples j) ≤ length old)
+    (left : o .blocks ≡ onto (frameBytes (codecOf (j .form)) (j .settings .frame) (classedWords j)) old) (count : o .report .samples ≡ samples j) where
+  accepted : storeRefusalIn (j .form) (j .settings .frame) (j .words) (j .classes) (length old) ≡ 0
   accepted = stored j s (length old) enough
 
   bytes-are : ownBlocks j o ≡ frameBytes (codecOf (j .form)) (j .settings .frame) (classedWords j)
@@ -108,14 +107,14 @@ module _ (j : Task) (s : Sound j) (o : Ended) (old : List ℕ) (enough : blockBy
       let f = j .settings .frame in
       let frame-is : carried f (classedWords j) ≡ choose (eqb (samples j) 0) 0 f = carried-is f (classedWords j) ∙ ap (λ (n : ℕ). choose (eqb n 0) 0 f) (samples-count j s) in
       ap (λ (b : List ℕ). readBoth b room classRoom) bytes-are
-      ∙ (read-stored-in (j .form) f (words j) (j .classes) (length old) accepted (fit j s) room classRoom (rw (words-length j) w) (rw (words-length j) c) ∙ rw (frame-is, words-length j))
+      ∙ (read-stored-in (j .form) f (j .words) (j .classes) (length old) accepted (fit j s) room classRoom w c ∙ rw frame-is)
 
   samples-same : samplesRead j o ≡ classedWords j
   samples-same =
       ap (λ (b : List ℕ). samplesIn (codecIn b) b) bytes-are
-      ∙ reads-in (j .form) (j .settings .frame) (words j) (j .classes) (length old) accepted (fit j s) .samples-is
+      ∙ reads-in (j .form) (j .settings .frame) (j .words) (j .classes) (length old) accepted (fit j s) .samples-is
 
-  same : wordsRead j o ≡ words j
+  same : wordsRead j o ≡ j .words
   same = ap wordsIn samples-same ∙ words-in j s
 
   same-classes : classesRead j o ≡ j .classes
@@ -144,14 +143,14 @@ module _ (j : Task) (s : Sound j) (o : Ended) (old : List ℕ) (enough : blockBy
       → bareWordsLeft (ownBlocks j o) buffer (length classes) ≡ onto (wordsRead j o) buffer
   kept buffer classes w c =
       ap (λ (b : List ℕ). bareWordsLeft b buffer (length classes)) bytes-are
-      ∙ (words-stored-in (j .form) (j .settings .frame) (words j) (j .classes) (length old) accepted (fit j s) buffer (length classes) (rw (words-length j) w) (rw (words-length j) c)
+      ∙ (words-stored-in (j .form) (j .settings .frame) (j .words) (j .classes) (length old) accepted (fit j s) buffer (length classes) w c
       ∙ ap (λ (ws : List ℕ). onto ws buffer) (sym same))
 
   kept-classes : (buffer classes : List ℕ) → samples j ≤ length buffer → samples j ≤ length classes
       → classesLeft (ownBlocks j o) (length buffer) classes ≡ onto (classesRead j o) classes
   kept-classes buffer classes w c =
       ap (λ (b : List ℕ). classesLeft b (length buffer) classes) bytes-are
-      ∙ (classes-stored-in (j .form) (j .settings .frame) (words j) (j .classes) (length old) accepted (fit j s) (length buffer) classes (rw (words-length j) w) (rw (words-length j) c)
+      ∙ (classes-stored-in (j .form) (j .settings .frame) (j .words) (j .classes) (length old) accepted (fit j s) (length buffer) classes w c
       ∙ ap (λ (cs : List ℕ). onto cs classes) (sym same-classes))
 
   pub blocks-read : BlocksRead j o
@@ -165,6 +164,5 @@ module _ (j : Task) (s : Sound j) (o : Ended) (old : List ℕ) (enough : blockBy
         same-classes = same-classes;
         left = kept;
         left-classes = kept-classes;
-        each = λ i l. rw (same, same-classes) (sample-is j s i l);
         reported = count;
       }

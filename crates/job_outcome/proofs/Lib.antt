@@ -19,3 +19,4 @@ pub mod Unnamed
 pub mod OutsideEnds
 pub mod Outside
 pub mod Agreeing
+pub mod AsJob

@@ -10,7 +10,7 @@ use Rattle.frame_store.specs.InForm.{storeRefusalIn}
 use Rattle.models.specs.Models.{modelWrong, modelsWrong}
 use Rattle.job_model.specs.Modelled.{stored}
 use Rattle.job_model.proofs.Refusals.{model-refusals}
-use Rattle.job_task.specs.Task.{Task, Lent, sizesOf}
+use Rattle.job_task.specs.Task.{Task, Lent, sheetOf, sizesOf}
 use Rattle.job_task.specs.Rows.{tooLittle, early}
 use Rattle.job_task.proofs.Accepted.{all-quiet, quiet-all, ready}
 use Rattle.job_outcome.specs.Outcome.{Ended, words, named, ownType, types, models, late, refusal, refused, searched, outcome}
@@ -48,7 +48,7 @@ module _ (j : Task) (l : Lent) where
   pub never-twelve : refusal j l ≡ 12 → ⊥
   never-twelve e =
       let q = refused-in-second j l 12 (early-never-twelve j l) e in
-      let r = ready j l (q .0) .sound .range in
+      let r = ready j l (q .0) .writes .sound .range in
       ⊎-elim (λ (z : late j ≡ 0). omega (arith, q .1))
       (⊎-elim (λ (z : late j ≡ 6). omega (arith, q .1)) (λ (z : late j ≡ 16). omega (arith, q .1)))
       (model-refusals (j .settings) (named j) r)
@@ -56,14 +56,14 @@ module _ (j : Task) (l : Lent) where
   module _ (quiet : early j l ≡ 0) where
     -- storing refuses nothing, 12 neither
     pub storing-accepted : storeRefusalIn (j .form) (j .settings .frame) (words j) (j .classes) (length (l .blocks)) ≡ 0
-    storing-accepted = let r = ready j l quiet in blocks.stored j (r .sound) (length (l .blocks)) (r .blocks-room)
+    storing-accepted = let r = ready j l quiet in blocks.stored (sheetOf j) (r .writes .sound) (length (l .blocks)) (r .writes .blocks-room)
 
     -- no model of a job is wrong, the fitted one neither
     pub models-never-seven : late j ≡ 0 → modelsWrong (types j) (j .settings .flag) (models j) ≡ false
-    models-never-seven fits = writable j (ready j l quiet .sound) fits .right
+    models-never-seven fits = writable (sheetOf j) (ready j l quiet .writes .sound) fits .right
 
     pub fitted-never-seven : late j ≡ 0 → modelWrong (ownType j) (j .settings .flag) (stored (j .settings) (named j)) 0 ≡ false
-    fitted-never-seven fits = fitted-right j (ready j l quiet .sound) fits
+    fitted-never-seven fits = fitted-right (sheetOf j) (ready j l quiet .writes .sound) fits
 
     -- ---- other buffers
 
@@ -71,7 +71,7 @@ module _ (j : Task) (l : Lent) where
       pub early-again : early j other ≡ 0
       early-again =
           let q = all-quiet (sizesOf j l) (j .settings) (j .form) (j .classes) (j .types) (j .models) (j .prior) quiet in
-          let few = ready j l quiet .sound .enough in
+          let few = ready j l quiet .writes .sound .enough in
           quiet-all (sizesOf j other) (j .settings) (j .form) (j .classes) (j .types) (j .models) (j .prior)
           (record { sizes = q .sizes; codes = q .codes; handed = q .handed; room = rw (enough, few); shutter = q .shutter })
 

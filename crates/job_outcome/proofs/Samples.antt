@@ -1,21 +1,18 @@
--- The words of a job's search: how many, that a frame may store them, and what each of them holds.
+-- The words of a job's search: how many, and what each of them holds.
 -- Assumes nothing.
-use Prim.Native.Nat.{ℕ, _/_, _%_, _^_, _≤_, _<_}
-use mathlib.Core.Bool.{true}
+use Prim.Native.Nat.{ℕ, _/_, _%_, _≤_, _<_}
 use mathlib.Core.Path.{_≡_, refl, sym, ap, _∙_}
 use lib.IntN.{ℤ, pos, natAbs, _+ℤ_, _-ℤ_, +ℤ-negℤ-cancel}
 use lib.ListN.{length, getD}
 use Rattle.grid.proofs.Symbols.{lifted}
 use Rattle.sample.specs.Word.{rowOf, colOf, vOf, uOf, classOf}
 use Rattle.sample.specs.Sample.{eighthsOf}
-use Rattle.sample.specs.Storable.{storable}
 use Rattle.sample.proofs.Word as word
-use Rattle.class.specs.Class.{allBare}
-use Rattle.search.specs.Search.{stored, natural, blockColumns}
+use Rattle.plane.specs.Inner.{Small}
+use Rattle.search.specs.Search.{halved, stored, natural, blockColumns}
 use Rattle.search.proofs.Range.{motion-within-223}
-use Rattle.search.proofs.Words.{sampleWords-length, sampleCount-le-4096, sampleWords-at, word-held, sampleWords-storable, sampleWords-bare, sampleWords-fit}
+use Rattle.search.proofs.Words.{sampleWords-length, sampleWords-at, word-held}
 use Rattle.job_task.specs.Task.{Task}
-use Rattle.job_task.proofs.Ready.{Sound}
 use Rattle.job_outcome.specs.Outcome.{samples, words}
 use Rattle.job_outcome.specs.Demand3.{SampleIs, motionOf}
 
@@ -29,28 +26,11 @@ stored-eighths z h =
 pub words-length : (j : Task) → length (words j) ≡ samples j
 words-length j = sampleWords-length (j .input) (j .reference) (j .width) (j .height)
 
-module _ (j : Task) (s : Sound j) where
-  pub samples-few : samples j ≤ 4096
-  samples-few = sampleCount-le-4096 (j .width) (j .height) (s .narrow) (s .low)
-
-  pub words-few : length (words j) ≤ 4096
-  words-few = rw (words-length j) samples-few
-
-  -- so that row 12 never holds
-  pub words-storable : storable (words j) ≡ true
-  words-storable = sampleWords-storable (j .input) (j .reference) (j .width) (j .height) (s .narrow) (s .low)
-
-  -- their class bits are zero, and they are words of 32 bits
-  pub words-bare : allBare (words j) ≡ true
-  words-bare = sampleWords-bare (j .input) (j .reference) (j .width) (j .height) (s .narrow) (s .low)
-
-  pub words-fit : (i : ℕ) → getD (words j) i 0 < 2 ^ 32
-  words-fit = sampleWords-fit (j .input) (j .reference) (j .width) (j .height) (s .narrow) (s .low)
-
+module _ (j : Task) (s : Small (j .width) (j .height)) where
   -- the i-th word, and the i-th class beside it
   pub sample-is : (i : ℕ) → i < samples j → SampleIs j i (getD (words j) i 0) (getD (j .classes) i 0)
   sample-is i l =
-      let m = motion-within-223 (j .input) (j .reference) (j .width) (j .height) (i / blockColumns (j .width)) (i % blockColumns (j .width)) in
+      let m = motion-within-223 (halved (j .input) (j .reference) (j .width) (j .height)) (i / blockColumns (j .width)) (i % blockColumns (j .width)) in
       let h = word-held (j .input) (j .reference) (j .width) (j .height) (s .narrow) (s .low) i l in
       let w = sampleWords-at (j .input) (j .reference) (j .width) (j .height) i l in
       record {

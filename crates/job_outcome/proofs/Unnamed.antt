@@ -49,6 +49,6 @@ module _ (j : Task) (all : j .settings .set ≡ allClasses) where
     unfolding outcome
     as-unnamed =
         ⊎-elim
-        (λ (quiet : early j l ≡ 0). let s = ready j l quiet .sound in rw (early-is, all-words (s .class-count) (s .classed)))
+        (λ (quiet : early j l ≡ 0). let s = ready j l quiet .writes .sound in rw (early-is, all-words (s .class-count ∙ words-length j) (s .classed)))
         (λ (h : early j l ≡ 0 → ⊥). rw (← early-is, ne-eqb (early j l) 0 h))
         (eq-or-ne (early j l) 0)

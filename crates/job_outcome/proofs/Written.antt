@@ -26,13 +26,13 @@ use Rattle.elect.proofs.Codable.{winner-codable}
 use Rattle.job_model.specs.Modelled.{winner, own, stored}
 use Rattle.job_model.proofs.OwnType as own-type
 use Rattle.job_model.proofs.Refusals.{fit-type}
-use Rattle.job_task.specs.Task.{Task}
+use Rattle.job_task.specs.Task.{Sheet}
 use Rattle.job_task.specs.Rows.{headerBytes, elects}
 use Rattle.job_task.proofs.Ready.{Sound}
-use Rattle.job_outcome.specs.Outcome.{named, ownType, fitWords, types, models, bits, fitIn, late}
+use Rattle.job_outcome.specs.Words.{named, ownType, fitWords, types, models, bits, fitIn, late}
 use Rattle.job_outcome.proofs.Seven.{seven-types, types-known, all-numbers, own-six, models-right, row-first-length}
 
-module _ (j : Task) (s : Sound j) (fits : late j ≡ 0) where
+module _ (j : Sheet) (s : Sound j) (fits : late j ≡ 0) where
   abbrev kind : ℕ
   kind = ownType j
 

@@ -3,23 +3,18 @@
 use Prim.Native.Nat.{ℕ}
 use mathlib.Core.List.{List}
 use lib.Dec.{eqb}
-use lib.IntN.{ℤ, pos}
-use lib.ListN.{length, replicate}
-use Rattle.laws.specs.Buffer.{onto}
-use Rattle.laws.specs.Binary64.{nought}
+use lib.IntN.{ℤ}
+use lib.ListN.{length}
 use Rattle.laws.specs.Refusal.{orElse, choose}
-use Rattle.search.specs.Search.{sampleCount, sampleWords}
+use Rattle.search.specs.Search.{sampleCount}
 use Rattle.search.specs.Refusal as search
 use Rattle.fit.specs.declared.Fitted.{Fitted}
-use Rattle.class.specs.Class.{Classed, classed}
-use Rattle.class_set.specs.Set.{chosen}
-use Rattle.forms.specs.Forms.{codecOf}
-use Rattle.block.specs.Frame.{frameBytes}
-use Rattle.header.specs.Writing.{headerBits, bitsPlaced}
-use Rattle.job_task.specs.Task.{Task, Lent, lend, searchTask, searchLent}
+use Rattle.class.specs.Class.{Classed}
+use Rattle.job_task.specs.Task.{Task, Lent, lend, sheetOf, searchTask, searchLent}
 use Rattle.job_task.specs.Rows.{early}
 use Rattle.job_model.specs.Modelled as model
 use Rattle.job_outcome.specs.declared.Report.{Report}
+use Rattle.job_outcome.specs.Words as sheet
 
 pub record Ended : Type 0 where
   pub report : Report
@@ -28,50 +23,51 @@ pub record Ended : Type 0 where
 abbrev pub ended : Report → Lent → Ended
 ended r l = record { report = r; left = l }
 
--- ---- what the job finds
+-- what it shares with a job from its words on
+abbrev pub finishedIn : Ended → sheet.Finished
+finishedIn o = sheet.finish (o .report) (o .left .blocks) (o .left .header)
+
+-- ---- what the job finds: what a job from the search's words on does
 
 abbrev pub samples : Task → ℕ
 samples j = sampleCount (j .width) (j .height)
 
--- the search's words, and the samples: each word with its class
+-- the search's words
 abbrev pub words : Task → List ℕ
-words j = sampleWords (j .input) (j .reference) (j .width) (j .height)
+words j = sheetOf j .words
 
-abbrev pub classedWords : Task → List Classed
-classedWords j = classed (words j) (j .classes)
-
--- the words of the named classes, in their order: what the model and its score are of
+-- those of the named classes, in their order: what the model and its score are of
 abbrev pub named : Task → List ℕ
-named j = chosen (j .settings .set) (words j) (j .classes)
+named j = sheet.named (sheetOf j)
 
--- the type of its model, the words of its fit and those of its score
+-- the type of its model
 abbrev pub ownType : Task → ℕ
-ownType j = model.ownType (j .settings) (named j)
+ownType j = sheet.ownType (sheetOf j)
 
+-- the words of its fit, and the fit
 abbrev pub fitWords : Task → List ℕ
-fitWords j = model.fitWords (j .settings) (named j)
+fitWords j = sheet.fitWords (sheetOf j)
 
-abbrev pub scoreWords : Task → List ℕ
-scoreWords j = model.scoreWords (j .settings) (named j)
-
--- the fit
 abbrev pub fitIn : Task → Fitted
-fitIn j = model.fitIn (j .settings) (named j)
+fitIn j = sheet.fitIn (sheetOf j)
 
--- the seven types and models as stored, and the bits of their header
+-- the samples, each word with its class, and the header's bits
+abbrev pub classedWords : Task → List Classed
+classedWords j = sheet.classedWords (sheetOf j)
+
 abbrev pub types : Task → List ℕ
-types j = model.allTypes (j .settings) (j .types) (named j)
+types j = sheet.types (sheetOf j)
 
 abbrev pub models : Task → List ℤ
-models j = model.allModels (j .settings) (j .models) (named j)
+models j = sheet.models (sheetOf j)
 
 abbrev pub bits : Task → List ℕ
-bits j = headerBits (types j) (models j) (j .settings .flag) (j .prior)
+bits j = sheet.bits (sheetOf j)
 
 -- ---- when it says no: before the search, by `early`; after it, where its model is refused
 
 abbrev pub late : Task → ℕ
-late j = model.modelRefusal (j .settings) (named j)
+late j = sheet.late (sheetOf j)
 
 abbrev pub refusal : Task → Lent → ℕ
 refusal j l = orElse (early j l) (late j)
@@ -79,7 +75,7 @@ refusal j l = orElse (early j l) (late j)
 -- ---- what it reports
 
 abbrev pub refused : ℕ → Report
-refused n = record { refusal = n; types = replicate 7 0; models = replicate 42 (pos 0); score = nought; bits = 0; samples = 0 }
+refused = sheet.refused
 
 abbrev pub accepted : Task → Report
 accepted j =
@@ -107,11 +103,11 @@ leftBySearch j l = leftWith j l (l .blocks) (l .header)
 
 -- the samples' blocks, of the job's form
 abbrev pub blocksBy : Task → Lent → List ℕ
-blocksBy j l = onto (frameBytes (codecOf (j .form)) (j .settings .frame) (classedWords j)) (l .blocks)
+blocksBy j l = sheet.blocksBy (sheetOf j) (l .blocks)
 
 -- accepted: the blocks, and the header's bits from the job's start on
 abbrev pub leftByJob : Task → Lent → Lent
-leftByJob j l = leftWith j l (blocksBy j l) (bitsPlaced (j .settings .start) (bits j) (l .header))
+leftByJob j l = leftWith j l (blocksBy j l) (sheet.headerBy (sheetOf j) (l .header))
 
 -- ---- the whole outcome, by stages
 

@@ -17,6 +17,7 @@ use Rattle.class_set.specs.Set.{allClasses, namesOver}
 use Rattle.search.specs.Search.{sampleCount}
 use Rattle.search.specs.Refusal as search
 use Rattle.search.proofs.Rows as search-rows
+use Rattle.search.proofs.Words.{sampleWords-length, sampleCount-le-4096, sampleWords-storable, sampleWords-bare, sampleWords-fit}
 use Rattle.fit.specs.Fitted.{noType}
 use Rattle.models.specs.Models.{typesOver}
 use Rattle.layout.specs.Form.{blockBytes, blocksOf}
@@ -25,10 +26,10 @@ use Rattle.frame_number.specs.Shutter.{closedRefusal}
 use Rattle.frame_number.proofs.InUse.{in-use}
 use Rattle.job_task.specs.declared.Settings.{Settings}
 use Rattle.job_task.specs.declared.Sizes.{Sizes}
-use Rattle.job_task.specs.Task.{Task, Lent, sizesOf, searchTask, searchLent}
+use Rattle.job_task.specs.Task.{Task, Lent, sheetOf, sizesOf, searchTask, searchLent}
 use Rattle.job_task.specs.Rows.{otherTypes, otherNumbers, priorNumbers, headerBytes, elects, unlessElects, sizeRows, codeRows, modelRows, roomRows, refusalBefore, early}
 use Rattle.job_task.specs.Inner.{InRange}
-use Rattle.job_task.proofs.Ready.{Ready}
+use Rattle.job_task.proofs.Ready.{Sound, Ready}
 
 -- ---- the groups
 
@@ -157,25 +158,33 @@ module _ (j : Task) (l : Lent) where
       let three = neither (search.tooShort (j .width) (j .height) (length (l .inputHalf)) (length (l .refHalf)) (length (l .words))) _ (last .0) in
       let room = neither (ltb (length (l .blocks)) needed) (ltb (length (l .header)) headerBytes) (three .1) in
       let found : search.refusal (searchTask j) (searchLent l) ≡ 0 = search-accepts (searchTask j) (searchLent l) (n .large) (n .planes) (c .classed) (three .0) in
+      let counted = sampleWords-length (j .input) (j .reference) (j .width) (j .height) in
+      let sound : Sound (sheetOf j) =
       record {
-        sound = record {
-          narrow = n .sides .narrow;
-          low = n .sides .low;
-          class-count = n .classed;
-          classed = c .classed;
-          formed = c .formed;
-          held = m .1 .1 .0;
-          six = n .six;
-          numbers = n .numbers;
-          places = n .places;
-          range = c .range;
-          known = c .known;
-          right = m .0;
-          within = m .1 .0;
-          enough = last .1 .0;
-          used = in-use (j .settings .frame) (q .shutter);
-        };
+        few = rw counted (sampleCount-le-4096 (j .width) (j .height) (n .sides .narrow) (n .sides .low));
+        in-order = sampleWords-storable (j .input) (j .reference) (j .width) (j .height) (n .sides .narrow) (n .sides .low);
+        bare = sampleWords-bare (j .input) (j .reference) (j .width) (j .height) (n .sides .narrow) (n .sides .low);
+        fit = sampleWords-fit (j .input) (j .reference) (j .width) (j .height) (n .sides .narrow) (n .sides .low);
+        class-count = n .classed ∙ sym counted;
+        classed = c .classed;
+        formed = c .formed;
+        held = m .1 .1 .0;
+        six = n .six;
+        numbers = n .numbers;
+        places = n .places;
+        range = c .range;
+        known = c .known;
+        right = m .0;
+        within = m .1 .0;
+        enough = last .1 .0;
+        used = in-use (j .settings .frame) (q .shutter);
+      } in
+      record {
+        small = n .sides;
         searched = found;
-        blocks-room = ltb-false (length (l .blocks)) needed (room .0);
-        header-room = ltb-false (length (l .header)) headerBytes (room .1);
+        writes = record {
+          sound = sound;
+          blocks-room = rw counted (ltb-false (length (l .blocks)) needed (room .0));
+          header-room = ltb-false (length (l .header)) headerBytes (room .1);
+        };
       }

@@ -4,6 +4,7 @@ use Prim.Native.Nat.{ℕ}
 use mathlib.Core.List.{List}
 use lib.IntN.{ℤ}
 use lib.ListN.{length}
+use Rattle.search.specs.Search.{sampleWords}
 use Rattle.search.specs.Refusal as search
 use Rattle.job_task.specs.declared.Settings.{Settings}
 use Rattle.job_task.specs.declared.Sizes.{Sizes}
@@ -39,6 +40,27 @@ task = taskIn 2
 
 abbrev pub lend : List ℕ → List ℕ → List ℕ → List ℕ → List ℕ → Lent
 lend i r w b h = record { inputHalf = i; refHalf = r; words = w; blocks = b; header = h }
+
+-- a job from its words on: the words, the settings, the form of the blocks, a class for each word, the six other types and models, and the prior
+pub record Sheet : Type 0 where
+  pub words : List ℕ
+  pub settings : Settings
+  pub form : ℕ
+  pub classes : List ℕ
+  pub types : List ℕ
+  pub models : List ℤ
+  pub prior : List ℤ
+
+abbrev pub sheetIn : ℕ → List ℕ → Settings → List ℕ → List ℕ → List ℤ → List ℤ → Sheet
+sheetIn form ws s c t m p = record { words = ws; settings = s; form = form; classes = c; types = t; models = m; prior = p }
+
+-- outside a run
+abbrev pub sheet : List ℕ → Settings → List ℕ → List ℕ → List ℤ → List ℤ → Sheet
+sheet = sheetIn 2
+
+-- a job's own: the words are the search's
+abbrev pub sheetOf : Task → Sheet
+sheetOf j = sheetIn (j .form) (sampleWords (j .input) (j .reference) (j .width) (j .height)) (j .settings) (j .classes) (j .types) (j .models) (j .prior)
 
 -- the job's search: its planes and classes, and the buffers that are lent on to it
 abbrev pub searchTask : Task → search.Task

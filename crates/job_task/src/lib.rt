@@ -181,7 +181,7 @@ fn too_little(sizes: Sizes, form: u32) -> bool
 }
 
 // Of the classes' samples those count that the set names.
-fn too_few_to_trim(settings: Settings, classes: &[u8]) -> bool
+pub fn too_few_to_trim(settings: Settings, classes: &[u8]) -> bool
     ensures { λ b. ⌜ b ≡ tooFewToTrim settings (namedCount (settings .set) (now (classes .entry))) ⌝ }
 {
     if settings.elect == 1 {
@@ -206,7 +206,7 @@ fn sizes_refusal(sizes: Sizes, classes: usize, types: usize, models: usize, prio
     0
 }
 
-fn codes_refusal(settings: Settings, form: u32, classes: &[u8], types: &[u8]) -> u32
+pub fn codes_refusal(settings: Settings, form: u32, classes: &[u8], types: &[u8]) -> u32
     ensures { λ r. ⌜ r ≡ judge (codeRows settings form (now (classes .entry)) (now (types .entry))) ⌝ }
 {
     if bad_codes(settings, form, classes, types) {

@@ -37,6 +37,11 @@ or-else-refused (suc a) b h = refl
 pub or-else-none : (a b : ℕ) → a ≡ 0 → b ≡ orElse a b
 or-else-none a b e = rw e
 
+-- nothing follows a group
+pub or-else-nothing : (a : ℕ) → orElse a 0 ≡ a
+or-else-nothing zero = refl
+or-else-nothing (suc a) = refl
+
 -- the answer 0 says that neither group refuses
 pub or-else-quiet : (a b : ℕ) → orElse a b ≡ 0 → (a ≡ 0) × (b ≡ 0)
 or-else-quiet zero b e = (refl, e)

@@ -17,8 +17,8 @@ pub extern "C" fn belt_elect_samples(samples: &[MotionSample], flag: u8) -> Elec
     let mut kept = [0.0f64; 16384];
     let mut i = 0usize;
     while i < n {
-        trim::store(&mut kept, i, samples[i]);
+        held_trim::store(&mut kept, i, samples[i]);
         i += 1;
     }
-    elect::elected_in(flag, &kept, samples.len())
+    held_elect::elected_in(flag, &kept, samples.len())
 }

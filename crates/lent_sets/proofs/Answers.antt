@@ -26,7 +26,8 @@ use Rattle.quantize.specs.declared.Refitting.{Refitting}
 use Rattle.quantize.specs.Quantize.{quantizedFrom}
 use Rattle.quantize.specs.Inner.{refittingBegun, refittingStep, refittingEnds}
 use Rattle.quantize.proofs.Walked.{walk-ends}
-use Rattle.by_class.specs.ByClass.{setRefusal, byClass, fittedFrom}
+use Rattle.by_class.specs.ByClass.{byClass, fittedFrom}
+use Rattle.class_rows.specs.Rows.{setRefusal}
 use Rattle.by_class.proofs.Rows.{Passed, call-passed, call-refused, call-answered}
 use Rattle.named_samples.specs.Named.{lentSample, samplesOf, namedSamples}
 

@@ -1,15 +1,16 @@
 -- The six calls over lent samples: lists that agree on the named samples have the same answers, and all five classes named give the lent call without a set.
 -- Assumes nothing.
-use Prim.Native.Nat.{ℕ, zero, suc}
+use Prim.Native.Nat.{ℕ}
 use mathlib.Core.Bool.{Bool, false}
 use mathlib.Core.List.{List}
-use mathlib.Core.Path.{_≡_, refl, ap, _∙_}
+use mathlib.Core.Path.{_≡_, ap, _∙_}
 use lib.Dec.{ltb}
 use lib.IntN.{ℤ}
 use lib.ListN.{length, length-map}
 use lib.Ieee.{Float}
 use Rattle.laws.specs.Call.{answered}
 use Rattle.laws.specs.Refusal.{orElse}
+use Rattle.laws.proofs.Refusal.{or-else-nothing}
 use Rattle.sample.specs.declared.MotionSample.{MotionSample}
 use Rattle.class_set.specs.Set.{allClasses}
 use Rattle.fit.specs.declared.Fitted.{Fitted}
@@ -20,7 +21,8 @@ use Rattle.score.specs.Score.{continuousModel, scored}
 use Rattle.quantize.specs.Quantize.{refusedModel, quantizedFrom}
 use Rattle.trim.specs.Trim.{trimmedFrom, trimmedModelFrom}
 use Rattle.elect.specs.Elect.{stopped, electedFrom}
-use Rattle.by_class.specs.ByClass.{letsPass, byClass, noTypeOrFlag, noModelOrFlag, refusedScore, refusedTrim, refusedTrimmedModel}
+use Rattle.class_rows.specs.Rows.{letsPass, noTypeOrFlag, noModelOrFlag, refusedTrimmedModel}
+use Rattle.by_class.specs.ByClass.{byClass, refusedScore, refusedTrim}
 use Rattle.by_class.specs.ByClass.{fittedFrom, fittedBy, quantizedBy, scoredBy, trimmedBy, trimmedModelBy, electedBy}
 use Rattle.by_class.specs.Agree.{Pass, Agree}
 use Rattle.by_class.proofs.Named.{all-five, same-call}
@@ -66,10 +68,6 @@ module _ {set : ℕ} {xs ys : List (List Float)} {cs ds : List ℕ} where
 
 -- ---- all five classes
 
-or-else-zero : (n : ℕ) → orElse n 0 ≡ n
-or-else-zero zero = refl
-or-else-zero (suc n) = refl
-
 module _ (xs : List (List Float)) (cs : List ℕ) where
   abbrev samples : List MotionSample
   samples = samplesOf xs
@@ -80,7 +78,7 @@ module _ (xs : List (List Float)) (cs : List ℕ) where
 
   -- row 4 has nothing to say of a type that there is
   of-type : (f : Fitted) → answered Refused (orElse (listRefusal (length samples)) 0) f ≡ fitAnswer (length samples) f
-  of-type f = ap (λ (n : ℕ). answered Refused n f) (or-else-zero (listRefusal (length samples)))
+  of-type f = ap (λ (n : ℕ). answered Refused n f) (or-else-nothing (listRefusal (length samples)))
 
   pub all-five-translation : letsPass false allClasses (length xs) cs ≡ 0
       → fittedBy itself allClasses 1 samples cs ≡ fitAnswer (length samples) (translationFrom itself samples)

@@ -7,7 +7,7 @@ use mathlib.Core.Path.{_≡_}
 use lib.ListN.{length}
 use lib.Ieee.{Float}
 use Rattle.trim.specs.Inner.{samplesIn}
-use Rattle.by_class.specs.ByClass.{setRefusal}
+use Rattle.class_rows.specs.Rows.{setRefusal}
 use Rattle.named_samples.specs.Named.{namedSamples}
 use Rattle.lent_sets.specs.declared.Judged.{Judged}
 

@@ -47,7 +47,7 @@ pub extern "C" fn belt_fit_samples_by_class(
 ) -> FitAnswer
     ensures { λ r. ⌜ r ≡ numbersOf (fittedBy itself set kind (samplesOf (now (samples .entry))) (now (classes .entry))) ⌝ }
 {
-    let refusal = by_class::set_refusal(by_class::no_type(kind), set, samples.len(), classes);
+    let refusal = class_rows::set_refusal(class_rows::no_type(kind), set, samples.len(), classes);
     if refusal != 0 {
         return fit_numbers::numbers_of(Fitted::Refused(refusal));
     }
@@ -81,10 +81,10 @@ pub extern "C" fn belt_quantize_samples_by_class(
 {
     let numbers = model.numbers;
     let fitted = fit_numbers::fitted_of(model.kind, numbers);
-    let wrong = by_class::no_model_or_flag(fitted, model.flag);
-    let refusal = by_class::set_refusal(wrong, set, samples.len(), classes);
+    let wrong = class_rows::no_model_or_flag(fitted, model.flag);
+    let refusal = class_rows::set_refusal(wrong, set, samples.len(), classes);
     if refusal != 0 {
-        return by_class::refused_model(refusal);
+        return class_rows::refused_model(refusal);
     }
     let begun = quantize::refit_begin(fitted, model.flag);
     let t = named_samples::refit_named(begun, set, samples, classes);
@@ -100,7 +100,7 @@ pub extern "C" fn belt_score_samples_by_class(
 ) -> Score
     ensures { λ r. ⌜ r ≡ scoredBy itself set (model .numbers) (samplesOf (now (samples .entry))) (now (classes .entry)) ⌝ }
 {
-    let refusal = by_class::set_refusal(false, set, samples.len(), classes);
+    let refusal = class_rows::set_refusal(false, set, samples.len(), classes);
     if refusal != 0 {
         return Score {
             refusal,
@@ -126,7 +126,7 @@ fn judge(
     requires { ⌜ length (now numbers) ≡ mostNumbers ⌝ }
     ensures { λ r. ⌜ Judges wrong set (now (samples .entry)) (now (classes .entry)) (now (numbers .exit)) r ⌝ }
 {
-    let refusal = by_class::set_refusal(wrong, set, samples.len(), classes);
+    let refusal = class_rows::set_refusal(wrong, set, samples.len(), classes);
     if refusal != 0 {
         return Judged { refusal, count: 0 };
     }
@@ -146,14 +146,20 @@ pub extern "C" fn belt_fit_trimmed_samples_by_class(
     ensures { λ r. ⌜ r ≡ answerOf (trimmedBy itself set kind (samplesOf (now (samples .entry))) (now (classes .entry))) ⌝ }
 {
     let mut numbers = [0.0f64; 16384];
-    let judged = judge(by_class::no_type(kind), set, samples, classes, &mut numbers);
+    let judged = judge(
+        class_rows::no_type(kind),
+        set,
+        samples,
+        classes,
+        &mut numbers,
+    );
     if judged.refusal != 0 {
         return trim_numbers::answer_of(Trimmed {
             fitted: Fitted::Refused(judged.refusal),
             used: 0,
         });
     }
-    trim_numbers::answer_of(trim::trimmed_fit(kind, &numbers, judged.count))
+    trim_numbers::answer_of(held_trim::trimmed_fit(kind, &numbers, judged.count))
 }
 
 #[no_mangle]
@@ -166,12 +172,12 @@ pub extern "C" fn belt_quantize_trimmed_samples_by_class(
     ensures { λ r. ⌜ r ≡ trimmedModelBy itself set (codes .kind) (codes .flag) (samplesOf (now (samples .entry))) (now (classes .entry)) ⌝ }
 {
     let mut numbers = [0.0f64; 16384];
-    let wrong = by_class::no_type_or_flag(codes.kind, codes.flag);
+    let wrong = class_rows::no_type_or_flag(codes.kind, codes.flag);
     let judged = judge(wrong, set, samples, classes, &mut numbers);
     if judged.refusal != 0 {
-        return by_class::refused_trimmed_model(judged.refusal);
+        return class_rows::refused_trimmed_model(judged.refusal);
     }
-    trim::trimmed_model(codes.kind, codes.flag, &numbers, judged.count)
+    held_trim::trimmed_model(codes.kind, codes.flag, &numbers, judged.count)
 }
 
 #[no_mangle]
@@ -188,5 +194,5 @@ pub extern "C" fn belt_elect_samples_by_class(
     if judged.refusal != 0 {
         return elect::stopped(judged.refusal);
     }
-    elect::elected_in(flag, &numbers, judged.count)
+    held_elect::elected_in(flag, &numbers, judged.count)
 }

@@ -22,13 +22,13 @@ pub struct ToTrim {
 fn fit_answer(kind: u8, numbers: &[f64; 16384], samples: usize) -> TrimmedAnswer
     ensures { λ r. ⌜ r ≡ answerOf (trimmedFrom itself kind (samplesIn (now (numbers .entry)) samples)) ⌝ }
 {
-    trim_numbers::answer_of(trim::trimmed_fit(kind, numbers, samples))
+    trim_numbers::answer_of(held_trim::trimmed_fit(kind, numbers, samples))
 }
 
 fn model_answer(codes: ToTrim, numbers: &[f64; 16384], samples: usize) -> TrimmedModel
     ensures { λ r. ⌜ r ≡ trimmedModelFrom itself (codes .kind) (codes .flag) (samplesIn (now (numbers .entry)) samples) ⌝ }
 {
-    trim::trimmed_model(codes.kind, codes.flag, numbers, samples)
+    held_trim::trimmed_model(codes.kind, codes.flag, numbers, samples)
 }
 
 #[no_mangle]
@@ -39,7 +39,7 @@ pub extern "C" fn belt_fit_trimmed_samples(samples: &[MotionSample], kind: u8) -
     let mut kept = [0.0f64; 16384];
     let mut i = 0usize;
     while i < n {
-        trim::store(&mut kept, i, samples[i]); // each in its place
+        held_trim::store(&mut kept, i, samples[i]); // each in its place
         i += 1;
     }
     fit_answer(kind, &kept, samples.len())
@@ -56,7 +56,7 @@ pub extern "C" fn belt_quantize_trimmed_samples(
     let mut kept = [0.0f64; 16384];
     let mut i = 0usize;
     while i < n {
-        trim::store(&mut kept, i, samples[i]);
+        held_trim::store(&mut kept, i, samples[i]);
         i += 1;
     }
     model_answer(codes, &kept, samples.len())

@@ -125,7 +125,7 @@ pub fn gather(set: u8, samples: &[[f64; 4]], classes: &[u8], numbers: &mut [f64;
     let mut n = 0usize;
     let mut i = 0usize;
     while i < samples.len() {
-        trim::store(numbers, n, lent_sample(samples[i]));
+        held_trim::store(numbers, n, lent_sample(samples[i]));
         if class_set::names(set, classes[i]) {
             n += 1;
         }

@@ -7,7 +7,8 @@ use lib.IntN.{ℤ, natAbs}
 use Rattle.laws.proofs.Refusal.{neither, quiet}
 use Rattle.plane.specs.Inner.{Small}
 use Rattle.search.proofs.Rows.{small}
-use Rattle.practice.specs.Call.{largestShift, rows, refusal}
+use Rattle.practice.specs.Call.{rows, refusal}
+use Rattle.practice_planes.specs.Shift.{largestShift}
 
 pub record Accepted (w h : ℕ) (dy dx : ℤ) (input reference : ℕ) : Type 0 where
   pub small : Small w h

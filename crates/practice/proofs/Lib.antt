@@ -1,5 +1,2 @@
-pub mod Steps
 pub mod Shifts
-pub mod Planes
 pub mod Accepted
-pub mod Worked

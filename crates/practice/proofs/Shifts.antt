@@ -7,7 +7,7 @@ use native.Mathlib.Omega.{arith}
 use lib.IntN.{ℤ, pos, negsuc, natAbs}
 use Rattle.grid.specs.Grid.{negative}
 use Rattle.plane.proofs.Offsets.{offset-pos, offset-neg}
-use Rattle.practice.specs.Call.{largestShift}
+use Rattle.practice_planes.specs.Shift.{largestShift}
 use Rattle.practice.specs.Inner.{Biased}
 
 pub below : (z : ℤ) → negative z ≡ true → natAbs z ≤ largestShift → Biased z (largestShift - natAbs z)

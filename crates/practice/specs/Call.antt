@@ -12,11 +12,8 @@ use Rattle.laws.specs.Refusal.{Row, row, judge, either}
 use Rattle.laws.specs.Call.{answered, left}
 use Rattle.search.specs.Refusal.{tooLarge}
 use Rattle.practice.specs.declared.Made.{Made}
-use Rattle.practice.specs.Belt.{referencePlane, inputPlane}
-
--- in pels, either way
-abbrev pub largestShift : ℕ
-largestShift = 24
+use Rattle.practice_planes.specs.Belt.{referencePlane, inputPlane}
+use Rattle.practice_planes.specs.Shift.{largestShift}
 
 abbrev pub tooFar : ℤ → ℤ → Bool
 tooFar dy dx = either (ltb largestShift (natAbs dy)) (ltb largestShift (natAbs dx))

@@ -1,4 +1,2 @@
-pub mod Generator
-pub mod Belt
 pub mod Call
 pub mod Inner

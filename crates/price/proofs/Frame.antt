@@ -14,9 +14,10 @@ use Rattle.laws.proofs.Call.{answered-accepted, answered-refused}
 use Rattle.laws.proofs.Refusal.{or-else-quiet, quiet}
 use Rattle.header.specs.Count.{headerCount}
 use Rattle.header.specs.Writing.{codeRows, modelRows, roomRows, writeRefusal}
-use Rattle.frame_motion.specs.Frame.{keyCodeRows, keyModelRows, keyRefusal, frameCount, frameRefusal, frameWritten}
+use Rattle.frame_header.specs.Frame.{frameCount, frameRefusal, frameWritten}
+use Rattle.key_frame.specs.Key.{keyCodeRows, keyModelRows, keyRefusal}
 use Rattle.header.specs.declared.Written.{Written}
-use Rattle.frame_motion.proofs.RoundTrip.{bits-counted}
+use Rattle.frame_header.proofs.RoundTrip.{bits-counted}
 use Rattle.price.specs.Frame.{framePriceRefusal, notPriced, framePrice}
 
 module _ (types : List ℕ) (ps : List ℤ) (flag : ℕ) (qs : List ℤ) where

@@ -9,7 +9,8 @@ use Rattle.laws.specs.Refusal.{Row, row, judge, orElse}
 use Rattle.laws.specs.Call.{answered}
 use Rattle.models.specs.Models.{modelsWrong, priorsOut}
 use Rattle.header.specs.Writing.{codeRows}
-use Rattle.frame_motion.specs.Frame.{keyCodeRows, notIdentity, frameCount}
+use Rattle.frame_header.specs.Frame.{frameCount}
+use Rattle.key_frame.specs.Key.{keyCodeRows, notIdentity}
 use Rattle.price.specs.declared.Price.{Price}
 
 -- rows 2 and 4

@@ -173,7 +173,7 @@ pub fn frame_price(intra: bool, types: &[u8], params: &[i32], flag: u8, prior: &
     ensures { λ r. ⌜ r ≡ framePrice intra (now (types .entry)) (now (params .entry)) flag (now (prior .entry)) ⌝ }
 {
     if intra {
-        let refusal = frame_motion::key_refusal(0, types, params, flag);
+        let refusal = key_frame::key_refusal(0, types, params, flag);
         return Price { refusal, bits: 0 };
     }
     inter_price(types, params, flag, prior)

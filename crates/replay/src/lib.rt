@@ -161,7 +161,7 @@ fn sum_of_pels(pels: &[u16]) -> u32 {
     let mut sum = 1u32;
     let mut i = 0;
     while i < pels.len() {
-        sum = practice::next_state(std::num::wrapping_add_u32(sum, wide(pels[i])));
+        sum = generator::next_state(std::num::wrapping_add_u32(sum, wide(pels[i])));
         i += 1;
     }
     sum

@@ -1,5 +1,1 @@
 pub mod Run
-pub mod Frame
-pub mod Recovery
-pub mod Priors
-pub mod Inner

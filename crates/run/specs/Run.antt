@@ -10,7 +10,7 @@ use Rattle.laws.specs.Call.{answered, left}
 use Rattle.laws.specs.Refusal.{row, choose, either, judge, orElse}
 use Rattle.models.specs.Models.{priorsOut}
 use Rattle.forms.specs.Forms.{noForm}
-use Rattle.frame_motion.specs.Frame.{identities}
+use Rattle.key_frame.specs.Key.{identities}
 use Rattle.run.specs.declared.Run.{Run}
 use Rattle.run.specs.declared.Moved.{Moved}
 

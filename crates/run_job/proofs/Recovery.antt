@@ -12,15 +12,15 @@ use Rattle.laws.specs.Refusal.{both}
 use Rattle.laws.proofs.Call.{left-accepted, left-refused}
 use Rattle.laws.proofs.Cases.{eq-or-ne}
 use Rattle.header_read.specs.declared.Models.{Models}
-use Rattle.frame_motion.specs.Frame.{frameModels}
-use Rattle.frame_motion.proofs.Inter.{inter-models}
+use Rattle.frame_header.specs.Frame.{frameModels}
+use Rattle.frame_header.proofs.Inter.{inter-models}
 use Rattle.run.specs.declared.Run.{Run}
-use Rattle.run.specs.declared.FrameModels.{FrameModels}
+use Rattle.run_frame.specs.declared.FrameModels.{FrameModels}
 use Rattle.run.specs.Run.{runOf, started}
-use Rattle.run.specs.Frame.{readOn, readIn}
-use Rattle.run.specs.Recovery as frames
-use Rattle.run.proofs.Answers.{read-plain}
-use Rattle.run.proofs.Recovery.{recovered-by, turn-recovered}
+use Rattle.run_frame.specs.Frame.{readOn, readIn}
+use Rattle.run_frame.specs.Recovery as frames
+use Rattle.run_frame.proofs.Answers.{read-plain}
+use Rattle.run_frame.proofs.Recovery.{recovered-by, turn-recovered}
 use Rattle.job_task.specs.Task.{Lent}
 use Rattle.job_outcome.specs.declared.Report.{Report}
 use Rattle.job_outcome.specs.Outcome.{Ended, outcome}

@@ -87,5 +87,5 @@ stored-in-form run frame ws cs room e =
 -- a run whose job no early row refuses isn't refused
 pub run-right : (run : Run) (j : Asked) (l : Lent) → early (inRun run j) l ≡ 0 → runRefusal run ≡ 0
 run-right run j l e =
-    let s = ready (inRun run j) l e .sound in
+    let s = ready (inRun run j) l e .writes .sound in
     rw (le-ltb 1 (run .flag) (s .range .flagged), s .formed, s .within)

@@ -14,9 +14,9 @@ use Rattle.models.specs.Models.{priorsOut}
 use Rattle.header.proofs.Priors.{models-prior}
 use Rattle.run.specs.declared.Run.{Run}
 use Rattle.run.specs.Run.{codesWrong, runOf, runRefusal, started}
-use Rattle.run.specs.Recovery.{turns}
-use Rattle.run.proofs.Sound as frames
-use Rattle.job_task.specs.Task.{Task, Lent}
+use Rattle.run_frame.specs.Recovery.{turns}
+use Rattle.run_frame.proofs.Sound as frames
+use Rattle.job_task.specs.Task.{Task, Lent, sheetOf}
 use Rattle.job_task.proofs.Accepted.{ready}
 use Rattle.job_outcome.specs.Outcome.{Ended, outcome, types, models}
 use Rattle.job_outcome.proofs.Stages.{accepted-stages, ends-accepted}
@@ -28,7 +28,7 @@ module _ (j : Task) (l : Lent) (e : outcome j l .report .refusal ≡ 0) where
   pub models-in : priorsOut (outcome j l .report .models) ≡ false
   models-in =
       let q = accepted-stages j l e in
-      let w = writable j (ready j l (q .0) .sound) (q .1) in
+      let w = writable (sheetOf j) (ready j l (q .0) .writes .sound) (q .1) in
       ap (λ (o : Ended). priorsOut (o .report .models)) (ends-accepted j l (q .0) (q .1))
       ∙ models-prior (types j) (j .settings .flag) (models j) (omega (arith, w .seven, w .models)) (w .known) (w .right)
 
@@ -39,7 +39,7 @@ job-sound run j l right =
     let n : ℕ = o .report .refusal in
     ⊎-elim
     (λ (e : n ≡ 0).
-    let s = ready (inRun run j) l (accepted-stages (inRun run j) l e .0) .sound in
+    let s = ready (inRun run j) l (accepted-stages (inRun run j) l e .0) .writes .sound in
     let sound : runRefusal next ≡ 0 = rw (le-ltb 1 (run .flag) (s .range .flagged), s .formed, models-in (inRun run j) l e) in
     subst (λ (r : Run). runRefusal r ≡ 0) (sym (left-accepted n next run e)) sound)
     (λ (h : n ≡ 0 → ⊥). subst (λ (r : Run). runRefusal r ≡ 0) (sym (left-refused n next run h)) right)

@@ -1,3 +1,4 @@
 pub mod Store
 pub mod Job
+pub mod Words
 pub mod Recovery

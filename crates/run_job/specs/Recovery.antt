@@ -9,7 +9,7 @@ use Rattle.laws.specs.Call.{left}
 use Rattle.header_read.specs.declared.Models.{Models}
 use Rattle.run.specs.declared.Run.{Run}
 use Rattle.run.specs.Run.{started}
-use Rattle.run.specs.Recovery as frames
+use Rattle.run_frame.specs.Recovery as frames
 use Rattle.job_task.specs.Task.{Lent}
 use Rattle.job_outcome.specs.declared.Report.{Report}
 use Rattle.job_outcome.specs.Outcome.{Ended, outcome}

@@ -1,12 +1,14 @@
-// What stores in a run (docs/RULES.md, 'A run of frames'): a frame of words and classes, and a job. Both
-// take the form that the run holds; the job is an inter frame, so it takes the run's flag and prior too,
+// What stores in a run (docs/RULES.md, 'A run of frames'): a frame of words and classes, a job, and a job
+// of words. All take the form that the run holds; a job is an inter frame, so it takes the run's flag and prior too,
 // and its seven models are the next prior. A refused call gives the run back as it was.
 ghost use mathlib.Core.Path.{_≡_};
 ghost use lib.ListN.{length};
 ghost use Rattle.job_task.specs.Task.{lend};
 ghost use Rattle.job_outcome.specs.Outcome.{ended};
 ghost use Rattle.run_job.specs.Store.{storedInRun, storedInRunLeft};
+ghost use Rattle.job_outcome.specs.Words.{finish};
 ghost use Rattle.run_job.specs.Job.{withFlag, asked, DoneIn};
+ghost use Rattle.run_job.specs.Words.{askedOf, WordsDoneIn};
 use block::Stored;
 use job::Report;
 use job::Settings;
@@ -101,4 +103,42 @@ pub fn job_in_run(
     let moved = report.models;
     let next = run::step_to(run, moved);
     JobDone { report, run: next }
+}
+
+// A job of words with the run's prior, flag and form: the flag of its settings isn't looked at.
+pub fn job_of_words_in_run(
+    run: Run,
+    words: &[u32],
+    settings: Settings,
+    classes: &[u8],
+    types: &[u8],
+    models: &[i32],
+    blocks: &mut [u8],
+    header: &mut [u8],
+) -> JobDone
+    ensures { λ r. ⌜ WordsDoneIn run
+        (askedOf (now (words .entry)) settings (now (classes .entry)) (now (types .entry)) (now (models .entry)))
+        (now (blocks .entry)) (now (header .entry))
+        (finish (r .report) (now (blocks .exit)) (now (header .exit)))
+        (r .run) ⌝ }
+{
+    let prior = run.prior;
+    let form = run.form;
+    let report = words_job::job_of_words_in(
+        words,
+        with_flag(settings, run.flag),
+        form,
+        classes,
+        types,
+        models,
+        &prior,
+        blocks,
+        header,
+    );
+    if report.refusal != 0 {
+        return JobDone { report, run };
+    }
+    let moved = report.models;
+    let after = run::step_to(run, moved);
+    JobDone { report, run: after }
 }

@@ -4,3 +4,4 @@ pub mod Ending
 pub mod Range
 pub mod Words
 pub mod Counted
+pub mod Bands

@@ -6,7 +6,6 @@ use mathlib.Core.Path.{_≡_, refl, ap, _∙_}
 use native.Mathlib.Omega.{arith}
 use lib.IntN.{ℤ, pos, _+ℤ_, _*ℤ_, natAbs}
 use Rattle.plane.specs.declared.Place.{Place}
-use Rattle.plane.specs.Plane.{halfPlane}
 use Rattle.plane.specs.Clamp.{offset}
 use Rattle.plane.specs.Difference.{difference}
 use Rattle.cost.specs.Cost.{eighthsCost}
@@ -15,7 +14,7 @@ use Rattle.stage.specs.Stage.{coarse, fullPel, eighthsStep, refined, priced}
 use Rattle.stage.proofs.Motion.{offset-same, offset-back, offset-twice, offset-eightfold}
 use Rattle.stage.proofs.Scan.{Within}
 use Rattle.stage.proofs.Stages.{coarse-inside, fullPel-inside, eighthsStep-inside}
-use Rattle.search.specs.Search.{motion, stored, blockAt}
+use Rattle.search.specs.Search.{Scene, motionIn, stored, blockAt}
 
 -- the offset is a biased number of at most `last`
 record Biased (bias last : ℕ) (z : ℤ) : Type 0 where
@@ -46,29 +45,31 @@ eightfold b last m =
 zero-motion : Biased 0 0 (offset 12 12)
 zero-motion = record { number = 0; same = offset-same 12 12 0 0 refl; small = omega arith }
 
-module _ (input ref : List ℕ) (w h R C : ℕ) where
+module _ (s : Scene) (R C : ℕ) where
   refined-range : (place : Place) (v u : ℤ) → Biased 216 432 v → Biased 216 432 u →
-      Biased 223 446 (refined input ref place v u .dy) × Biased 223 446 (refined input ref place v u .dx)
+      Biased 223 446 (refined (s .input) (s .ref) place v u .dy) × Biased 223 446 (refined (s .input) (s .ref) place v u .dx)
   unfolding refined
   refined-range place v u p q =
-      let start = priced (eighthsCost input ref place) v u in
-      let by-4 = eighthsStep input ref place 4 start in
-      let by-2 = eighthsStep input ref place 2 by-4 in
-      let i4 = eighthsStep-inside input ref place 4 start in
-      let i2 = eighthsStep-inside input ref place 2 by-4 in
-      let i1 = eighthsStep-inside input ref place 1 by-2 in (
+      let start = priced (eighthsCost (s .input) (s .ref) place) v u in
+      let by-4 = eighthsStep (s .input) (s .ref) place 4 start in
+      let by-2 = eighthsStep (s .input) (s .ref) place 2 by-4 in
+      let i4 = eighthsStep-inside (s .input) (s .ref) place 4 start in
+      let i2 = eighthsStep-inside (s .input) (s .ref) place 2 by-4 in
+      let i1 = eighthsStep-inside (s .input) (s .ref) place 1 by-2 in (
         within 222 444 1 (within 220 440 2 (within 216 432 4 p (i4 .0)) (i2 .0)) (i1 .0),
         within 222 444 1 (within 220 440 2 (within 216 432 4 q (i4 .1)) (i2 .1)) (i1 .1),
       )
 
-  motion-biased : Biased 223 446 (motion input ref w h R C .dy) × Biased 223 446 (motion input ref w h R C .dx)
-  unfolding motion
+  motion-biased : Biased 223 446 (motionIn s R C .dy) × Biased 223 446 (motionIn s R C .dx)
+  unfolding motionIn
   motion-biased =
-      let far = coarse (halfPlane input w h) (halfPlane ref w h) (blockAt 8 (w / 2) (h / 2) R C) in
-      let i = coarse-inside (halfPlane input w h) (halfPlane ref w h) (blockAt 8 (w / 2) (h / 2) R C) in
-      let full = fullPel input ref (blockAt 16 w h R C) (pos 2 *ℤ far .dy) (pos 2 *ℤ far .dx) in
-      let j = fullPel-inside input ref (blockAt 16 w h R C) (pos 2 *ℤ far .dy) (pos 2 *ℤ far .dx) in
-      refined-range (blockAt 16 w h R C) (pos 8 *ℤ full .dy) (pos 8 *ℤ full .dx)
+      let half = blockAt 8 (s .width / 2) (s .height / 2) R C in
+      let whole = blockAt 16 (s .width) (s .height) R C in
+      let far = coarse (s .inputHalf) (s .refHalf) half in
+      let i = coarse-inside (s .inputHalf) (s .refHalf) half in
+      let full = fullPel (s .input) (s .ref) whole (pos 2 *ℤ far .dy) (pos 2 *ℤ far .dx) in
+      let j = fullPel-inside (s .input) (s .ref) whole (pos 2 *ℤ far .dy) (pos 2 *ℤ far .dx) in
+      refined-range whole (pos 8 *ℤ full .dy) (pos 8 *ℤ full .dx)
       (eightfold 27 54 (within 24 48 3 (twice 12 24 (within 0 0 12 zero-motion (i .0))) (j .0)))
       (eightfold 27 54 (within 24 48 3 (twice 12 24 (within 0 0 12 zero-motion (i .1))) (j .1)))
 
@@ -85,9 +86,9 @@ module _ (input ref : List ℕ) (w h R C : ℕ) where
       omega arith
 
   -- every motion is within 223 eighths each way
-  pub motion-within-223 : (natAbs (motion input ref w h R C .dy) ≤ 223) × (natAbs (motion input ref w h R C .dx) ≤ 223)
+  pub motion-within-223 : (natAbs (motionIn s R C .dy) ≤ 223) × (natAbs (motionIn s R C .dx) ≤ 223)
   motion-within-223 = (near _ (motion-biased .0), near _ (motion-biased .1))
 
   -- and its stored form at most 446
-  pub stored-motion-le-446 : (stored (motion input ref w h R C .dy) ≤ 446) × (stored (motion input ref w h R C .dx) ≤ 446)
+  pub stored-motion-le-446 : (stored (motionIn s R C .dy) ≤ 446) × (stored (motionIn s R C .dx) ≤ 446)
   stored-motion-le-446 = (kept _ (motion-biased .0), kept _ (motion-biased .1))

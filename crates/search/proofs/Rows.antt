@@ -64,7 +64,7 @@ ready input ref w h classes inputHalf refHalf words e s =
       small = small w h (q .0);
       input-pels = sym (length-is _ _ (two .0));
       ref-pels = sym (length-is _ _ (three .0));
-      words-room = record { room = ltb-false _ _ (words-short .1) };
+      words-room = ltb-false _ _ (words-short .1);
       input-room = ltb-false _ _ (short .0);
       ref-room = ltb-false _ _ (words-short .0);
     }

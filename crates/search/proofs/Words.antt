@@ -19,7 +19,7 @@ use Rattle.sample.proofs.Storable.{in-range-of, storable-by-index}
 use Rattle.class.specs.Class.{allBare}
 use Rattle.plane.specs.Plane.{largestSide}
 use Rattle.plane.proofs.Listing.{getD-listing}
-use Rattle.search.specs.Search.{motion, stored, wordAt, sampleWord, sampleWords, sampleCount, blockColumns}
+use Rattle.search.specs.Search.{halved, motion, stored, wordAt, sampleWord, sampleWords, sampleCount, blockColumns}
 use Rattle.search.proofs.Rows.{factor-pos, count-small}
 use Rattle.search.proofs.Range.{stored-motion-le-446}
 
@@ -49,7 +49,7 @@ next-place k m p q = by (ltb (k % m + 1) m) refl
 
 pub sampleWords-length : (input ref : List ℕ) (w h : ℕ) → length (sampleWords input ref w h) ≡ sampleCount w h
 unfolding sampleWords
-sampleWords-length input ref w h = length-listing (sampleWord input ref w h) (sampleCount w h)
+sampleWords-length input ref w h = length-listing (sampleWord (halved input ref w h)) (sampleCount w h)
 
 pub sampleCount-le-4096 : (w h : ℕ) → w ≤ largestSide → h ≤ largestSide → sampleCount w h ≤ 4096
 sampleCount-le-4096 w h p q = count-small w h p q
@@ -67,9 +67,9 @@ bare-by-index (w ∷ ws) h = rw (h 0 (omega arith)) (bare-by-index ws (λ k l. h
 
 -- the k-th word is the k-th block's
 pub sampleWords-at : (input ref : List ℕ) (w h : ℕ) (k : ℕ) → k < sampleCount w h →
-    getD (sampleWords input ref w h) k 0 ≡ wordAt input ref w h (k / blockColumns w) (k % blockColumns w)
+    getD (sampleWords input ref w h) k 0 ≡ wordAt (halved input ref w h) (k / blockColumns w) (k % blockColumns w)
 unfolding sampleWords sampleWord
-sampleWords-at input ref w h k l = getD-listing (sampleWord input ref w h) (sampleCount w h) k 0 l
+sampleWords-at input ref w h k l = getD-listing (sampleWord (halved input ref w h)) (sampleCount w h) k 0 l
 
 module _ (input ref : List ℕ) (w h : ℕ) (narrow : w ≤ largestSide) (low : h ≤ largestSide) where
   pub word-held : (k : ℕ) → k < sampleCount w h →
@@ -81,7 +81,7 @@ module _ (input ref : List ℕ) (w h : ℕ) (narrow : w ≤ largestSide) (low : 
       let p = factor-pos (h / 16) (w / 16) k l in
       let r : k / (w / 16) < h / 16 = div-lt-iff-lt-mul p .1 l in
       let c : k % (w / 16) < w / 16 = mod-lt k p in
-      let s = stored-motion-le-446 input ref w h (k / blockColumns w) (k % blockColumns w) in
+      let s = stored-motion-le-446 (halved input ref w h) (k / blockColumns w) (k % blockColumns w) in
       let v = s .0 in
       let u = s .1 in
       record { row = omega arith; col = omega arith; motion-v = omega arith; motion-u = omega arith; class = omega arith }
@@ -91,9 +91,9 @@ module _ (input ref : List ℕ) (w h : ℕ) (narrow : w ≤ largestSide) (low : 
 
   in-range-at : (k : ℕ) → k < sampleCount w h → inRange (getD (sampleWords input ref w h) k 0) ≡ true
   in-range-at k l =
-      let s = stored-motion-le-446 input ref w h (k / blockColumns w) (k % blockColumns w) in
+      let s = stored-motion-le-446 (halved input ref w h) (k / blockColumns w) (k % blockColumns w) in
       ap inRange (sampleWords-at input ref w h k l)
-      ∙ in-range-of (wordAt input ref w h (k / blockColumns w) (k % blockColumns w))
+      ∙ in-range-of (wordAt (halved input ref w h) (k / blockColumns w) (k % blockColumns w))
       (rw (word.v-of-word (word-held k l)) (s .0))
       (rw (word.u-of-word (word-held k l)) (s .1))
 

@@ -1,8 +1,9 @@
 // The sample word of each block, and the rows added to find it.
 ghost use mathlib.Core.Path.{_≡_};
 ghost use Rattle.laws.specs.Buffer.{onto};
-ghost use Rattle.search.specs.Search.{sampleWords, rowsAdded};
-ghost use Rattle.search.specs.Inner.{Halves, Inside, Room, sampledAt};
+ghost use Rattle.search.specs.Search.{scene};
+ghost use Rattle.search.specs.Band.{bandWords, bandRows};
+ghost use Rattle.search.specs.Inner.{Halves, Inside, Band, sampledAt};
 use plane::BLOCK;
 use plane::HALF_BLOCK;
 use plane::Offset;
@@ -28,9 +29,9 @@ fn word_at(
     ref_half: &[u16],
     block: Place,
 ) -> Sampled
-    requires { ⌜ Halves (now input) (now reference) (now «input_half») (now «ref_half») (block .width) (block .height) ⌝ }
+    requires { ⌜ Halves (scene (now input) (now reference) (block .width) (block .height) (now «input_half») (now «ref_half»)) ⌝ }
     requires { ⌜ Inside block ⌝ }
-    ensures { λ s. ⌜ s ≡ sampledAt (now (input .entry)) (now (reference .entry)) (block .width) (block .height) (block .r) (block .c) ⌝ }
+    ensures { λ s. ⌜ s ≡ sampledAt (scene (now (input .entry)) (now (reference .entry)) (block .width) (block .height) (now («input_half» .entry)) (now («ref_half» .entry))) (block .r) (block .c) ⌝ }
 {
     let half = Place {
         width: block.width / 2,
@@ -38,7 +39,7 @@ fn word_at(
         r: block.r * HALF_BLOCK,
         c: block.c * HALF_BLOCK,
     };
-    let coarse = stage::coarse(input_half, ref_half, half);
+    let coarse = coarse::coarse(input_half, ref_half, half);
     let place = Place {
         r: block.r * BLOCK,
         c: block.c * BLOCK,
@@ -48,7 +49,7 @@ fn word_at(
         y: 2 * coarse.y + FULL_REACH,
         x: 2 * coarse.x + FULL_REACH,
     };
-    let best = stage::fine(twice, input, reference, place);
+    let best = fine::fine(twice, input, reference, place);
     Sampled {
         word: sample::word_of(
             block.r as u32,
@@ -61,27 +62,32 @@ fn word_at(
     }
 }
 
-// One word for each whole block, row by row; the rows added for all.
-pub fn fill_words(
+// One word for each whole block of the block rows `first` to `end` - 1, row by row, from the front; the
+// rows added for them.
+pub fn fill_band(
     input: &[u16],
     reference: &[u16],
     input_half: &[u16],
     ref_half: &[u16],
     sides: Sides,
+    first: usize,
+    end: usize,
     words: &mut [u32],
 ) -> u32
-    requires { ⌜ Halves (now input) (now reference) (now «input_half») (now «ref_half») (sides .width) (sides .height) ⌝ }
-    requires { ⌜ Room (sides .width) (sides .height) (now words) ⌝ }
-    ensures { λ _. ⌜ now (words .exit) ≡ onto (sampleWords (now (input .entry)) (now (reference .entry)) (sides .width) (sides .height)) (now (words .entry)) ⌝ }
-    ensures { λ r. ⌜ r ≡ rowsAdded (now (input .entry)) (now (reference .entry)) (sides .width) (sides .height) ⌝ }
+    requires { ⌜ Halves (scene (now input) (now reference) (sides .width) (sides .height) (now «input_half») (now «ref_half»)) ⌝ }
+    requires { ⌜ Band (sides .width) (sides .height) first end (now words) ⌝ }
+    ensures { λ _. ⌜ now (words .exit) ≡ onto (bandWords (scene (now (input .entry)) (now (reference .entry)) (sides .width) (sides .height) (now («input_half» .entry)) (now («ref_half» .entry))) first end) (now (words .entry)) ⌝ }
+    ensures { λ r. ⌜ r ≡ bandRows (scene (now (input .entry)) (now (reference .entry)) (sides .width) (sides .height) (now («input_half» .entry)) (now («ref_half» .entry))) first end ⌝ }
 {
     let columns = sides.width / BLOCK;
-    let samples = sides.height / BLOCK * columns;
+    let before = first * columns;
+    let samples = (end - first) * columns;
     let mut rows: u32 = 0;
     let mut k = 0;
     while k < samples {
-        let row = k / columns;
-        let column = k % columns;
+        let at = before + k;
+        let row = at / columns;
+        let column = at % columns;
         let block = Place {
             width: sides.width,
             height: sides.height,

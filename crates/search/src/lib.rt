@@ -40,12 +40,14 @@ fn search_into(
     plane::downsample(input_y, sides.width, sides.height, &mut *input_half);
     plane::downsample(ref_y, sides.width, sides.height, &mut *ref_half);
     let half = sides.height / 2 * (sides.width / 2);
-    blocks::fill_words(
+    blocks::fill_band(
         input_y,
         ref_y,
         &input_half[..half],
         &ref_half[..half],
         sides,
+        0,
+        sides.height / BLOCK,
         &mut *words,
     )
 }

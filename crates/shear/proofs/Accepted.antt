@@ -20,8 +20,9 @@ use Rattle.grid.proofs.Table.{row-codable}
 use Rattle.models.specs.Models.{carries, filler, slotWrong, slotAt, modelWrong}
 use Rattle.models.proofs.Integers.{same-equal}
 use Rattle.shear.specs.Call.{rows, shearRefusal}
-use Rattle.shear.specs.Inner.{Reach, Linear}
-use Rattle.shear.proofs.Products.{natAbs-product}
+use Rattle.warp.specs.Inner.{Linear}
+use Rattle.divisor.specs.Inner.{Reach}
+use Rattle.divisor.proofs.Products.{natAbs-product}
 
 -- a codable number of slots 2 to 5 is within 4,096 steps of 2 from its centre
 codable-reach : (c : ℕ) (z : ℤ) → Codable 12 15 c z → natAbs (z -ℤ pos c) ≤ 8192

@@ -13,16 +13,17 @@ use Rattle.laws.proofs.Signed.{natAbs-sub-le, sub-shift}
 use Rattle.grid.specs.Grid.{negative}
 use Rattle.grid.proofs.Signs.{natAbs-signed}
 use Rattle.models.specs.Models.{slotWrong, modelWrong}
-use Rattle.shear.specs.Rounding.{round2, round2Signed, floorLog2By, floorLog2}
-use Rattle.shear.specs.Divisor.{divLut, lutIndex, divShift, divFactor, dividedBy}
-use Rattle.shear.specs.Shear.{clamped, reduced, warpValid, alpha0, beta0, gamma0, delta0}
+use Rattle.divisor.specs.Rounding.{round2, round2Signed, floorLog2By, floorLog2}
+use Rattle.divisor.specs.Divisor.{divLut, lutIndex, divShift, divFactor, dividedBy}
+use Rattle.warp.specs.Shear.{clamped, reduced, warpValid, alpha0, beta0, gamma0, delta0}
 use Rattle.shear.specs.Call.{shearOf}
-use Rattle.shear.specs.Inner.{Divisor, Exponent, Reach, Linear}
-use Rattle.shear.proofs.Clamped.{clamp-idle}
-use Rattle.shear.proofs.DivLut.{entry-small}
-use Rattle.shear.proofs.Products.{product-within}
-use Rattle.shear.proofs.Reach.{reach-divisor}
-use Rattle.shear.proofs.Rounding.{log2-between, round2-within, index-small, index-is}
+use Rattle.warp.specs.Inner.{Linear}
+use Rattle.divisor.specs.Inner.{Divisor, Exponent, Reach}
+use Rattle.warp.proofs.Clamped.{clamp-idle}
+use Rattle.divisor.proofs.DivLut.{entry-small}
+use Rattle.divisor.proofs.Products.{product-within}
+use Rattle.divisor.proofs.Reach.{reach-divisor}
+use Rattle.divisor.proofs.Rounding.{log2-between, round2-within, index-small, index-is}
 
 -- slot 2 has 16 or 17 bits
 exponent : (d : ℕ) → Divisor d → (Exponent (floorLog2 d) d) × (15 ≤ floorLog2 d)

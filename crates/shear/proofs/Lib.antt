@@ -1,9 +1,2 @@
 pub mod Accepted
-pub mod Clamped
 pub mod Codable
-pub mod DivLut
-pub mod Nearest
-pub mod Passes
-pub mod Products
-pub mod Reach
-pub mod Rounding

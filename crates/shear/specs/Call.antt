@@ -11,7 +11,7 @@ use lib.ListN.{length, getD}
 use Rattle.laws.specs.Refusal.{Row, row, judge, either}
 use Rattle.laws.specs.Call.{answered}
 use Rattle.models.specs.Models.{modelWrong}
-use Rattle.shear.specs.Shear.{alpha0, beta0, gamma0, delta0, reduced, warpValid}
+use Rattle.warp.specs.Shear.{alpha0, beta0, gamma0, delta0, reduced, warpValid}
 use Rattle.shear.specs.declared.Shear.{Shear}
 
 -- the four numbers with the verdict on them

@@ -1,5 +1,1 @@
-pub mod Rounding
-pub mod Divisor
-pub mod Shear
 pub mod Call
-pub mod Inner

@@ -67,7 +67,7 @@ fn rung_step(i: u32) -> u32
     requires { ⌜ i ≤ 16 ⌝ }
     ensures { λ r. ⌜ (r ≡ rungStep i) × (r ≤ 262144) ⌝ }
 {
-    bits::power(rung_bits(i))
+    byte_field::power(rung_bits(i))
 }
 
 // mk of clause 5.9.28 at its i.
@@ -111,7 +111,7 @@ fn write_last(cursor: BitCursor, buffer: &mut [u8], num_syms: u32, v: u32, i: u3
     ensures { λ r. ⌜ Wrote (now (buffer .entry)) (cursor .at) (lastBits «num_syms» v i) (now (buffer .exit)) (r .at) ⌝ }
 {
     let mk = rung_start(i);
-    let ones = bits::power(i) - 1;
+    let ones = byte_field::power(i) - 1;
     let next = cursor.write_bits(buffer, i, ones);
     next.write_ns(buffer, num_syms - mk, v - mk)
 }
@@ -123,7 +123,7 @@ fn write_stop(cursor: BitCursor, buffer: &mut [u8], v: u32, i: u32) -> BitCursor
 {
     let mk = rung_start(i);
     let b2 = rung_bits(i);
-    let ones = 2 * bits::power(i) - 2;
+    let ones = 2 * byte_field::power(i) - 2;
     let next = cursor.write_bits(buffer, i + 1, ones);
     next.write_bits(buffer, b2, v - mk)
 }

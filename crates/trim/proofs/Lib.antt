@@ -7,5 +7,4 @@ pub mod Roots
 pub mod Under
 pub mod Answers
 pub mod Cuts
-pub mod FirstFit
 pub mod LastFit

@@ -88,7 +88,7 @@ fn sum_of_bytes(bytes: &[u8]) -> u32 {
     let mut sum = 1u32;
     let mut i = 0;
     while i < bytes.len() {
-        sum = practice::next_state(std::num::wrapping_add_u32(sum, wide(bytes[i])));
+        sum = generator::next_state(std::num::wrapping_add_u32(sum, wide(bytes[i])));
         i += 1;
     }
     sum
@@ -98,7 +98,7 @@ fn sum_of_words(words: &[u32]) -> u32 {
     let mut sum = 1u32;
     let mut i = 0;
     while i < words.len() {
-        sum = practice::next_state(std::num::wrapping_add_u32(sum, words[i]));
+        sum = generator::next_state(std::num::wrapping_add_u32(sum, words[i]));
         i += 1;
     }
     sum
@@ -121,10 +121,10 @@ fn make_samples(seed: u32, step: u32, kinds: u32, words: &mut [u32], classes: &m
     let mut base = 0u32;
     let mut i = 0;
     while i < words.len() {
-        let at = practice::next_state(state);
-        let v = practice::next_state(at);
-        let u = practice::next_state(v);
-        state = practice::next_state(u);
+        let at = generator::next_state(state);
+        let v = generator::next_state(at);
+        let u = generator::next_state(v);
+        state = generator::next_state(u);
         let place = (base % PLACES + below(number(at), step)) % PLACES;
         words[i] = sample::word_of(place / 64, place % 64, number(v) % 447, number(u) % 447, 0);
         change_byte(classes, i, (below(number(state), kinds) % 256) as u8);

@@ -47,7 +47,7 @@ fn replay_samples(list: i32) -> bool {
     if count > replay::OVER {
         return false;
     }
-    agrees(list, lent_first::elected_of_first(samples, count, flag))
+    agrees(list, lent_trial::elected_of_first(samples, count, flag))
 }
 
 fn replay_one(list: i32, which: u8) -> bool {

@@ -125,8 +125,8 @@ fn fill(words: &mut [u32], seed: u32, mask: u32, fixed: u32) {
     let mut state = seed;
     let mut i = 0usize;
     while i < words.len() {
-        let high = practice::next_state(state);
-        state = practice::next_state(high);
+        let high = generator::next_state(state);
+        state = generator::next_state(high);
         words[i] = (((high & 0xffff_0000) | (state >> 16)) & mask) | fixed;
         i += 1;
     }
@@ -231,12 +231,12 @@ fn fit_of_first(gm_type: u8, samples: [MotionSample; 4097], count: usize) -> Fit
     requires { ⌜ count ≤ 4097 ⌝ }
 {
     if gm_type == fit::TRANSLATION {
-        return lent_first::translation_of_first(samples, count);
+        return lent_trial::translation_of_first(samples, count);
     }
     if gm_type == fit::ROTZOOM {
-        return lent_first::rotzoom_of_first(samples, count);
+        return lent_trial::rotzoom_of_first(samples, count);
     }
-    lent_first::affine_of_first(samples, count)
+    lent_trial::affine_of_first(samples, count)
 }
 
 // The quantized model of the first samples, and the score of that.
@@ -249,8 +249,8 @@ fn same_quantized_first(
 ) -> bool
     requires { ⌜ count ≤ 4097 ⌝ }
 {
-    let q = lent_first::quantized_of_first(samples, count, model);
-    let s = lent_first::score_of_first(samples, count, Params { numbers: params });
+    let q = lent_trial::quantized_of_first(samples, count, model);
+    let s = lent_trial::score_of_first(samples, count, Params { numbers: params });
     let quantized = q.params;
     q.refusal == 0
         && s.refusal == 0
@@ -304,12 +304,12 @@ fn replay_trimmed_first(
     let refusal = replay::next_word(list);
     let used = replay::next_word(list);
     let wanted = replay::next_params(list);
-    let answer = lent_first::trimmed_of_first(samples, count, gm_type);
+    let answer = lent_trial::trimmed_of_first(samples, count, gm_type);
     let codes = ToTrim {
         kind: gm_type,
         flag,
     };
-    let model = lent_first::trimmed_model_of_first(samples, count, codes);
+    let model = lent_trial::trimmed_model_of_first(samples, count, codes);
     let numbers = answer.numbers;
     let params = model.params;
     answer.refusal == fit_refusal
@@ -483,7 +483,7 @@ fn try_refusals(words: &[u32], few: &[u32]) {
 fn trimmed_refusal(kind: u8, flag: u8, samples: [MotionSample; 4097], count: usize) -> u32
     requires { ⌜ count ≤ 4097 ⌝ }
 {
-    let model = lent_first::trimmed_model_of_first(samples, count, ToTrim { kind, flag });
+    let model = lent_trial::trimmed_model_of_first(samples, count, ToTrim { kind, flag });
     model.refusal
 }
 
@@ -491,7 +491,7 @@ fn first_refusal(kind: u8, flag: u8, samples: [MotionSample; 4097], count: usize
     requires { ⌜ count ≤ 4097 ⌝ }
 {
     let numbers = [0.0, 0.0, 1.0, 0.0, 0.0, 1.0];
-    let q = lent_first::quantized_of_first(
+    let q = lent_trial::quantized_of_first(
         samples,
         count,
         ToQuantize {
@@ -516,7 +516,7 @@ fn try_refusals_of_samples(samples: [MotionSample; 4097]) {
     refused(first_refusal(0, 1, samples, 3) == 4, b"3 samples, type 0");
     refused(first_refusal(4, 1, samples, 3) == 4, b"3 samples, type 4");
     let numbers = [0, 0, 65536, 0, 0, 65536];
-    let scored = lent_first::score_of_first(samples, 4097, Params { numbers });
+    let scored = lent_trial::score_of_first(samples, 4097, Params { numbers });
     refused(scored.refusal == 1, b"4097 samples, score");
     refused(
         trimmed_refusal(0, 2, samples, 4097) == 1,

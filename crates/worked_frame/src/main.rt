@@ -102,7 +102,7 @@ fn numbers_hold(numbers: [i32; 42], accepted: bool) -> bool {
 fn is_read(a: Case, bytes: &[u8], prior: &[i32]) -> bool {
     let room = replay::least(a.room, bytes.len());
     let places = replay::least(a.places, prior.len());
-    let read = frame_motion::read_global_motion(
+    let read = frame_header::read_global_motion(
         true,
         &bytes[0..room],
         a.at,
@@ -122,7 +122,7 @@ fn write_first(a: Case, types: &[u8], params: &[i32], prior: &[i32], out: &mut [
     let m = replay::least(a.numbers, params.len());
     let p = replay::least(a.places, prior.len());
     let room = replay::least(a.room, out.len());
-    frame_motion::encode_global_motion(
+    frame_header::encode_global_motion(
         true,
         &types[0..t],
         &params[0..m],

@@ -71,7 +71,7 @@ fn fill_plane(seed: u32, mask: u32, plane: &mut [u16]) -> u32 {
     let mut state = seed;
     let mut i = 0;
     while i < plane.len() {
-        state = practice::next_state(state);
+        state = generator::next_state(state);
         plane[i] = shade(state, mask);
         i += 1;
     }

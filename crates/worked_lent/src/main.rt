@@ -21,7 +21,7 @@ fn bytes_from(seed: u32) -> [u8; 24] {
     let mut state = seed;
     let mut i = 0usize;
     while i < BYTES {
-        state = practice::next_state(state);
+        state = generator::next_state(state);
         bytes[i] = (upper(state) % 256) as u8;
         i += 1;
     }
@@ -65,7 +65,7 @@ fn prior_from(seed: u32) -> [i32; 42] {
     let mut state = seed;
     let mut i = 0usize;
     while i < NUMBERS {
-        state = practice::next_state(state);
+        state = generator::next_state(state);
         prior[i] = prior_number(i % 6, state);
         i += 1;
     }
@@ -113,9 +113,9 @@ fn models_agree(lent: Models, core: Models) -> bool {
 }
 
 fn models_case(case: u64) -> bool {
-    let seed = practice::next_state((case % 0x1_0000_0000) as u32);
-    let place = practice::next_state(seed);
-    let code = practice::next_state(place);
+    let seed = generator::next_state((case % 0x1_0000_0000) as u32);
+    let place = generator::next_state(seed);
+    let code = generator::next_state(place);
     let at = (upper(place) % 200) as usize;
     let flag = (upper(code) % 3) as u8;
     let bytes = bytes_from(seed);

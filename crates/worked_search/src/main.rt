@@ -99,7 +99,7 @@ fn next_case(list: i32) -> Case {
 }
 
 fn mixed(state: u32, word: u32) -> u32 {
-    let next = practice::next_state(state ^ word);
+    let next = generator::next_state(state ^ word);
     next ^ next / 65536
 }
 
@@ -142,7 +142,7 @@ fn pel(t: Texture, w: Window, r: u32, c: u32) -> u16 {
         mixed(w.seed, repeated(row, t.period)),
         repeated(column, t.period),
     );
-    shade(t, practice::next_state(at) / 65536)
+    shade(t, generator::next_state(at) / 65536)
 }
 
 // The place in a row or a column, as a word.

@@ -4,7 +4,7 @@ use crate::inputs::{self, Scene, float, number, prior, sides, stored_model};
 use crate::random::Random;
 use belt::{
     Buffers, ClassSet, Elected, Fitted, Frame, Kind as FrameKind, Lent, Model, MotionSample, Refusal, Report, Run,
-    RunReader, Settings, StoredModel, Task, Trimmed, TrimmedModel,
+    RunReader, Settings, StoredModel, Task, Trimmed, TrimmedModel, WordTask,
 };
 use oracle::blocks::{self, BLOCK, Form, ONE, TWO};
 use oracle::run::NOT_HELD;
@@ -31,8 +31,10 @@ pub struct Kind {
     pub compare: fn(&mut Case) -> Result<(), String>,
 }
 
-pub const KINDS: [Kind; 41] = [
+pub const KINDS: [Kind; 44] = [
     Kind { name: "search", share: 4, compare: search },
+    Kind { name: "bands", share: 4, compare: bands },
+    Kind { name: "bands, by docs/RULES.md", share: 4, compare: band },
     Kind { name: "fit translation", share: 4, compare: |case| fit(case, 1) },
     Kind { name: "fit rotation-zoom", share: 4, compare: |case| fit(case, 2) },
     Kind { name: "fit affine", share: 4, compare: |case| fit(case, 3) },
@@ -67,6 +69,7 @@ pub const KINDS: [Kind; 41] = [
     Kind { name: "job that trims", share: 6, compare: |case| job(case, 1, 0, None) },
     Kind { name: "job that elects", share: 6, compare: electing_job },
     Kind { name: "job in a run", share: 6, compare: job_in_a_run },
+    Kind { name: "job of words", share: 10, compare: job_of_words },
     Kind { name: "run of frames", share: 8, compare: run_of_frames },
     Kind { name: "blocks of form 2, by docs/RULES.md", share: 4, compare: stored_frame },
     Kind { name: "blocks of form 1, by docs/RULES.md", share: 4, compare: old_frame },
@@ -117,6 +120,7 @@ const TOO_LARGE: u32 = 1;
 const WRONG_LENGTH: u32 = 2;
 const NO_SUCH_CODE: u32 = 4;
 const NO_CLASS: u32 = 19;
+const NO_SUCH_SLOT: u32 = 5;
 const OFF_GRID: u32 = 7;
 const START_OVER: u32 = 14;
 const CLOSED: u32 = 17;
@@ -193,6 +197,112 @@ fn search(case: &mut Case) -> Result<(), String> {
     same_list("half plane of the input", &ours.input_half, &theirs.input_half)?;
     same_list("half plane of the reference", &ours.ref_half, &theirs.ref_half)?;
     same_list("words", &ours.words, &theirs.words)
+}
+
+/// A frame in bands cut at random, over half planes by the library, against the Rust's whole search.
+fn bands(case: &mut Case) -> Result<(), String> {
+    let pair = pair(case);
+    let (width, height, random) = (pair.width, pair.height, &mut case.random);
+    let (columns, last) = (width / 16, height / 16);
+    let mut halves = [&pair.input, &pair.reference].map(|plane| (plane, Vec::new()));
+    for (plane, half) in &mut halves {
+        let values = (width / 2) * (height / 2);
+        *half = vec![0x3C3C; values + random.below(5)];
+        let wanted = [oracle::half_plane(plane, width, height), half[values..].to_vec()].concat();
+        same("half plane", row(belt::half_plane(plane, width, height, half)), Ok(()))?;
+        same_list("half plane", half, &wanted)?;
+        half.truncate(values);
+    }
+    let mut words = vec![0xA5A5_5A5A; columns * last + random.below(9)];
+    let mut theirs = words.clone();
+    let (mut first, mut rows) = (0, 0);
+    let mut cuts = vec![0];
+    while first < last || random.one_in(3) {
+        let end = (first + random.below(5)).min(last);
+        cuts.push(end);
+        // just the room that is needed, or all that is left
+        let all = words.len() - first * columns;
+        let room = if random.one_in(2) { all } else { (end - first) * columns };
+        let own = &mut words[first * columns..][..room];
+        let [input_half, ref_half] = [&halves[0].1, &halves[1].1];
+        let found =
+            belt::search_band(&pair.input, &pair.reference, width, height, input_half, ref_half, first..end, own);
+        let found = row(found.map(|found| (found.samples, found.rows)));
+        same("samples of a band", found.map(|found| found.0), Ok((end - first) * columns))?;
+        rows += found.map_or(0, |found| found.1);
+        first = end;
+    }
+    case.note("cuts", cuts);
+    let found = oracle::sample_words(&pair.input, &pair.reference, width, height);
+    theirs[..found.len()].copy_from_slice(&found);
+    same("rows added", rows, oracle::rows::search(&pair.input, &pair.reference, width, height).0)?;
+    same_list("words", &words, &theirs)
+}
+
+/// One band over half planes of any values, or refused, against a plain writing of the rules.
+fn band(case: &mut Case) -> Result<(), String> {
+    let mut pair = pair(case);
+    let random = &mut case.random;
+    let values = (pair.width / 2) * (pair.height / 2);
+    let garbage = random.below(4);
+    let (kept, set) = (random.pick(&[0xffff, 0x1fff, 0xff, 1, 0]), random.pick(&[0, 0, 0x2000, 0x7fff]));
+    let mut halves = [&pair.input, &pair.reference].map(|plane| match garbage {
+        0 => oracle::half_plane(plane, pair.width, pair.height),
+        1 => plane[..values].to_vec(),
+        _ => (0..values).map(|_| random.bits() as u16 & kept | set).collect(),
+    });
+    let last = pair.height / 16;
+    let (mut first, mut end) = (random.below(last + 1), random.below(last + 1));
+    if first > end && !random.one_in(4) {
+        (first, end) = (end, first);
+    }
+    let mut short = 0;
+    for _ in 0..[0, 0, 1, 2][random.below(4)] {
+        match random.below(9) {
+            0 => pair.width = random.pick(&[1025, 2048, usize::MAX]),
+            1 => pair.height = random.pick(&[1025, 2048, usize::MAX]),
+            2 => pair.input.push(1),
+            3 => pair.reference.truncate(pair.reference.len() / 2),
+            4 => halves[random.below(2)].push(1),
+            5 => halves[random.below(2)].truncate(values / 2),
+            6 => end = random.pick(&[last + 1, usize::MAX]),
+            7 => first = random.pick(&[end.wrapping_add(1), usize::MAX]),
+            _ => short = 1 + random.below(3),
+        }
+    }
+    let needed = if first <= end && end <= last { (end - first) * (pair.width.min(1024) / 16) } else { 0 };
+    let room = if short > 0 { needed.saturating_sub(short) } else { needed + random.below(4) };
+    case.note("rows, room", (first, end, room));
+    if values <= 256 {
+        case.note("half planes", &halves);
+    }
+    let Pair { width, height, input, reference, .. } = &pair;
+    let (width, height) = (*width, *height);
+    let mut words = vec![0xA5A5_5A5A; room];
+    let mut theirs = words.clone();
+    let found = row(belt::search_band(input, reference, width, height, &halves[0], &halves[1], first..end, &mut words));
+    case.accepted = found.is_ok();
+    let lengths = |pels: usize, half: usize| {
+        input.len() != pels || reference.len() != pels || halves.iter().any(|values| values.len() != half)
+    };
+    let wanted = match () {
+        () if width > inputs::MOST_SIDE || height > inputs::MOST_SIDE => Err(TOO_LARGE),
+        () if lengths(width * height, (width / 2) * (height / 2)) => Err(WRONG_LENGTH),
+        () if first > end || end > height / 16 => Err(NO_SUCH_SLOT),
+        () if room < (end - first) * (width / 16) => Err(TOO_SHORT),
+        () => {
+            let halves = [&halves[0][..], &halves[1]];
+            let scene = oracle::rows::Scene { input, reference, width, height, halves };
+            let (rows, motions) = oracle::rows::band(scene, first..end);
+            for (place, &(v, u)) in motions.iter().enumerate() {
+                let (row, column) = (first + place / (width / 16), place % (width / 16));
+                theirs[place] = (row << 26 | column << 20) as u32 | ((v + 223) << 11 | (u + 223) << 2) as u32;
+            }
+            Ok((motions.len(), rows))
+        }
+    };
+    same("samples and rows added", found.map(|found| (found.samples, found.rows)), wanted)?;
+    same_list("words", &words, &theirs)
 }
 
 fn library_fit(gm_type: u8, words: &[u32]) -> Result<Fitted, Refusal> {
@@ -844,7 +954,7 @@ fn job_of_the_rust(
     form: Form,
     left: &mut Buffers,
 ) -> Result<Reported, u32> {
-    let Settings { frame, gm_type, reference, flag, trim, elect, set, start, .. } = settings;
+    let Settings { frame, gm_type, trim, elect, set, .. } = settings;
     if set.bits() > inputs::ALL_CLASSES {
         return Err(NO_SUCH_CODE);
     }
@@ -863,17 +973,213 @@ fn job_of_the_rust(
         return Err(CLOSED);
     }
     let words = searched(pair, left);
+    let Buffers { blocks, header: bytes, .. } = left;
+    finished_by_the_rust(&words, &pair.classes, settings, header, form, blocks, bytes)
+}
+
+/// The same from the words on, where no row before the fit's refuses.
+fn finished_by_the_rust(
+    words: &[u32],
+    classes: &[u8],
+    settings: Settings,
+    header: &Header,
+    form: Form,
+    blocks_left: &mut [u8],
+    header_left: &mut [u8],
+) -> Result<Reported, u32> {
+    let Settings { frame, reference, flag, set, start, .. } = settings;
     let place = usize::from(reference) - 1;
     let mut full = Header { flag, ..*header };
     let score;
-    let own = named_samples(set.bits(), &words, &pair.classes);
+    let own = named_samples(set.bits(), words, classes);
     (full.types[place], full.params[place], score) = own_of_the_rust(settings, &own)?;
     let (mut bytes, bits) = full.written(start);
-    keep_before(start, &mut bytes, &left.header);
-    left.header[..bytes.len()].copy_from_slice(&bytes);
-    let stored = blocks::write(form, frame, &blocks::classed(&words, &pair.classes));
-    left.blocks[..stored.len()].copy_from_slice(&stored);
+    keep_before(start, &mut bytes, header_left);
+    header_left[..bytes.len()].copy_from_slice(&bytes);
+    let stored = blocks::write(form, frame, &blocks::classed(words, classes));
+    blocks_left[..stored.len()].copy_from_slice(&stored);
     Ok((full.types, full.params.map(StoredModel), score, bits, words.len()))
+}
+
+/// What a job of words is handed.
+struct OfWords {
+    words: Vec<u32>,
+    classes: Vec<u8>,
+    settings: Settings,
+    types: Vec<u8>,
+    models: Vec<[i32; 6]>,
+    prior: Vec<[i32; 6]>,
+}
+
+impl OfWords {
+    /// The row of the rules before the fit's; in a run that has the prior's models and a flag, and holds a form.
+    fn row(&self, held: Option<&run::Run>, blocks: usize, header: usize) -> Result<(), u32> {
+        let Settings { frame, gm_type, reference, flag, trim, elect, set, start, .. } = self.settings;
+        let own =
+            run::Run { prior: std::array::from_fn(|i| self.prior.get(i).copied().unwrap_or_default()), flag, form: 2 };
+        let run = held.unwrap_or(&own);
+        let asked = elect == 1 || (1..=3).contains(&gm_type) && trim < 2;
+        let codes = elect < 2 && asked && set.bits() <= inputs::ALL_CLASSES && self.types.iter().all(|&kind| kind < 4);
+        let classes = self.classes.iter().all(|&class| class <= inputs::LAST_CLASS);
+        let high = run.flag == 1;
+        let named = self.classes.iter().filter(|&&class| named(set.bits(), class)).count();
+        let samples = self.words.len();
+        let lengths = [self.classes.len(), self.types.len(), self.models.len()] != [samples, 6, 6];
+        match () {
+            () if samples > inputs::MOST_SAMPLES => Err(TOO_LARGE),
+            () if lengths || held.is_none() && self.prior.len() != 7 => Err(WRONG_LENGTH),
+            () if !codes || !classes || run.judged() == Err(NO_SUCH_CODE) => Err(NO_SUCH_CODE),
+            () if set.bits() == 0 => Err(NO_CLASS),
+            () if !(1..=7).contains(&reference) => Err(NO_SUCH_SLOT),
+            () if start > 7 => Err(START_OVER),
+            () if self.types.iter().zip(&self.models).any(|(&kind, model)| run::off_grid(kind, high, model)) => {
+                Err(OFF_GRID)
+            }
+            () if !run.prior_is_in_range() => Err(run::PRIOR_OUT),
+            () if !blocks::storable(&self.words) => Err(blocks::NOT_RISING),
+            () if held.is_some() && !run.holds(&self.classes) => Err(NOT_HELD),
+            () if blocks < BLOCK * run.form_held().blocks_of(samples) || header < belt::HEADER_BYTES => Err(TOO_SHORT),
+            () if trim == 1 && elect == 0 && named < oracle::least_samples(gm_type) => Err(TOO_FEW),
+            () if frame == blocks::CLOSED => Err(CLOSED),
+            () => Ok(()),
+        }
+    }
+
+    /// Something that a row refuses.
+    fn spoil(&mut self, random: &mut Random) {
+        let (six, count) = (random.below(6), self.words.len());
+        match random.below(17) {
+            0 => self.words.resize(inputs::MOST_SAMPLES + 1, inputs::STILL),
+            1 => self.classes.resize(random.below(count + 2), 0),
+            2 => self.types.resize(random.pick(&[0, 5, 7]), 0),
+            3 => self.models.resize(random.pick(&[0, 5, 7]), oracle::IDENTITY),
+            4 => self.prior.resize(random.pick(&[0, 6, 8]), oracle::IDENTITY),
+            5 => self.classes.iter_mut().take(1).for_each(|class| *class = random.pick(&[5, 255])),
+            6 => self.settings.flag = random.pick(&[2, 255]),
+            7 => self.settings.set = ClassSet::from_bits(random.pick(&[0, 32, 0x80])),
+            8 => self.settings.reference = random.pick(&[0, 8, 255]),
+            9 => self.settings.start = random.pick(&[8, usize::MAX]),
+            10 => self.models.iter_mut().take(1).for_each(|model| model[six] = number(random)),
+            11 => self.prior.iter_mut().take(1).for_each(|model| model[six] = number(random)),
+            12 => self.settings.frame = 0,
+            13 => self.types.iter_mut().take(1).for_each(|kind| *kind = 4),
+            _ if count < 2 => self.settings.elect = 2,
+            _ => {
+                let (i, j) = (random.below(count), random.below(count));
+                match random.below(5) {
+                    0 => self.words.swap(i, j),
+                    1 => self.words[i] = self.words[j],
+                    2 => self.words[i] |= 1 + random.below(3) as u32,
+                    3 => self.words[i] = self.words[i] & !(511 << 11) | (447 + random.below(65) as u32) << 11,
+                    _ => self.words[i] = self.words[i] & !(511 << 2) | (447 + random.below(65) as u32) << 2,
+                }
+            }
+        }
+    }
+}
+
+/// A job of words, of a search or of any that can be stored, or of others, outside or in a run.
+fn job_of_words(case: &mut Case) -> Result<(), String> {
+    let header = header(case);
+    let random = &mut case.random;
+    let words = match random.below(3) {
+        0 => inputs::rising_words(random),
+        _ => {
+            let mut words = inputs::words_to_elect(random);
+            words.iter_mut().for_each(|word| *word = storable_motion(*word));
+            words.sort_by_key(|word| word >> 20);
+            words.dedup_by_key(|word| *word >> 20);
+            words
+        }
+    };
+    let classes = classes_of(random, words.len());
+    let held = match random.below(3) {
+        0 => None,
+        form => Some(run::Run { prior: header.prior, flag: header.flag, form: form as u32 }),
+    };
+    let mut settings = Settings::elect(frame_number(random));
+    settings.gm_type = 1 + random.below(3) as u8;
+    settings.reference = 1 + random.below(7) as u8;
+    settings.flag = if held.is_some() { random.bits() as u8 } else { header.flag };
+    (settings.trim, settings.elect) = (random.below(2) as u8, random.below(2) as u8);
+    settings.set = if random.one_in(2) { ClassSet::ALL } else { ClassSet::from_bits(inputs::any_class_set(random)) };
+    settings.start = start(random);
+    let place = usize::from(settings.reference) - 1;
+    let others = |i: &usize| *i != place;
+    let types = (0..7).filter(others).map(|i| header.types[i]).collect();
+    let models = (0..7).filter(others).map(|i| header.params[i]).collect();
+    let mut of = OfWords { words, classes, settings, types, models, prior: header.prior.to_vec() };
+    for _ in 0..[0, 0, 0, 0, 1, 2][random.below(6)] {
+        of.spoil(random);
+    }
+    let form = held.map_or(TWO, |run| run.form_held());
+    let needed = [BLOCK * form.blocks_of(of.words.len()), belt::HEADER_BYTES];
+    let rooms = needed.map(|bytes| if random.one_in(12) { random.below(bytes + 1) } else { bytes + random.below(30) });
+    let [mut blocks, mut bytes] = rooms.map(|room| random.bytes(room));
+    let (mut blocks_left, mut bytes_left) = (blocks.clone(), bytes.clone());
+    case.note("held", held);
+    case.note("settings", of.settings);
+    case.note("types, models", (&of.types, &of.models));
+    case.note("prior", &of.prior);
+    case.note("rooms", rooms);
+    case.note("words", &of.words);
+    case.note("classes", &of.classes);
+    let stored = |models: &[[i32; 6]]| models.iter().map(|&model| StoredModel(model)).collect::<Vec<_>>();
+    let (models, prior) = (stored(&of.models), stored(&of.prior));
+    let task = WordTask {
+        words: &of.words,
+        settings: of.settings,
+        classes: &of.classes,
+        types: &of.types,
+        models: &models,
+        prior: &prior,
+    };
+    let mut after = header.prior.map(StoredModel);
+    let report = row(match held {
+        None => belt::job_of_words(&task, &mut blocks, &mut bytes),
+        Some(held) => {
+            let mut run = Run::of_parts(after, held.flag, held.form);
+            let report = run.job_of_words(&WordTask { prior: &[], ..task }, &mut blocks, &mut bytes);
+            after = *run.prior();
+            same("flag and form of the run", (run.flag(), run.form()), (held.flag, held.form))?;
+            report
+        }
+    });
+    case.accepted = report.is_ok();
+    let rust = of.row(held.as_ref(), rooms[0], rooms[1]).and_then(|()| {
+        let mut settings = of.settings;
+        settings.flag = header.flag;
+        let mut full = full_header(&of, &header);
+        if held.is_none() {
+            full.prior = std::array::from_fn(|i| of.prior[i]);
+        }
+        finished_by_the_rust(&of.words, &of.classes, settings, &full, form, &mut blocks_left, &mut bytes_left)
+    });
+    let moved = rust.as_ref().map_or(header.prior.map(StoredModel), |report| report.1);
+    same("prior of the run", after, if held.is_some() { moved } else { header.prior.map(StoredModel) })?;
+    let parts = |report: Report| (report.types, report.models, bits(report.score), report.bits, report.samples);
+    let rust_parts = |(types, models, score, count, samples): Reported| (types, models, bits(score), count, samples);
+    same("types, models, bits of the score, header bits, samples", report.map(parts), rust.map(rust_parts))?;
+    same_list("blocks", &blocks, &blocks_left)?;
+    same_list("header", &bytes, &bytes_left)
+}
+
+/// The seven models of an accepted job, with any at its own place.
+fn full_header(of: &OfWords, header: &Header) -> Header {
+    let place = usize::from(of.settings.reference) - 1;
+    let other = |i: usize| if i < place { i } else { i - 1 };
+    let own = |i: usize| i == place;
+    Header {
+        types: std::array::from_fn(|i| if own(i) { header.types[i] } else { of.types[other(i)] }),
+        params: std::array::from_fn(|i| if own(i) { header.params[i] } else { of.models[other(i)] }),
+        ..*header
+    }
+}
+
+/// A word with both motions in range and no class bits.
+fn storable_motion(word: u32) -> u32 {
+    let motion = |shift: u32| (word >> shift & 511).min(446) << shift;
+    word & 0xFFF0_0000 | motion(11) | motion(2)
 }
 
 /// A type and a trim code of any number go in with an election, which looks at neither.

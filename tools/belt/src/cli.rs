@@ -332,6 +332,9 @@ pub struct Measure {
     pub start: usize,
     #[command(flatten)]
     pub header: Header,
+    /// How many threads share the search of a pair; as many as there are processors if it isn't given
+    #[arg(long, value_name = "N", value_parser = clap::value_parser!(u16).range(1..=256))]
+    pub threads: Option<u16>,
     /// One JSON object in one line for each pair, for programs
     #[arg(long)]
     pub json: bool,

@@ -50,6 +50,8 @@ pub struct Job {
     pub within: f64,
     /// Neither the way back nor coarser planes.
     pub fast: bool,
+    /// How many threads share a pair's searches.
+    pub threads: usize,
 }
 
 impl Job {
@@ -67,6 +69,7 @@ impl Job {
             mask,
             within: 0.25,
             fast,
+            threads: 1,
         }
     }
 }
@@ -160,7 +163,7 @@ pub fn measure_planes(
         Refused::Library(refusal) => Failure::refused(&pair, refusal),
         other => Failure::bad(&pair, other),
     };
-    let planes = planes.map_err(refused)?;
+    let planes = planes.map_err(refused)?.shared_by(job.threads);
     // whoever names a type has the library's own fit of it
     let searched = match job.asked {
         Asked::Elected => [planes.first(), planes.second()],
@@ -177,7 +180,8 @@ pub fn measure_planes(
         models: &IDENTITIES[..6],
         prior: &job.prior,
     };
-    let report = belt::job(&task, &mut buffers.lend()).map_err(|refusal| Failure::refused(&pair, refusal))?;
+    let report = belt::job_parallel(&task, &mut buffers.lend(), job.threads);
+    let report = report.map_err(|refusal| Failure::refused(&pair, refusal))?;
     let place = usize::from(job.reference) - 1;
     let stored_type = report.types[place];
     buffers.header.truncate((settings.start + report.bits).div_ceil(8));
@@ -397,6 +401,23 @@ pub mod tests {
             assert_eq!((found.stored_type, found.blocks.len(), found.sample_blocks.len()), (1, 100, 512));
             assert!(found.answer.agree >= 80 && found.warnings.is_empty(), "{found:?}");
         }
+    }
+
+    #[test]
+    fn threads_that_share_a_pair_have_its_answer() {
+        for kind in [IDENTITY, 1, 3] {
+            // the second goes the way back and to coarser planes
+            for (dy, dx) in [(2, -4), (31, 37)] {
+                let (a, b) = (frame("a", 208, 176, dy, dx), frame("b", 208, 176, 0, 0));
+                let told = |threads| format!("{:?}", measure(&Job { threads, ..job(kind) }, &a, &b).unwrap());
+                let alone = told(1);
+                assert!((2..5).all(|threads| told(threads) == alone), "type {kind}, {dy} and {dx}");
+            }
+        }
+        let refused = |threads| {
+            measure(&Job { frame: 0, threads, ..job(1) }, &frame("a", 32, 32, 0, 0), &frame("b", 32, 32, 0, 0))
+        };
+        assert_eq!(refused(2).unwrap_err().to_string(), refused(1).unwrap_err().to_string());
     }
 
     #[test]

@@ -47,6 +47,9 @@ fn what_was_drawn_is_found() {
         assert_eq!(json["stored"]["type"], gm_type, "{name}");
         // an election trims, and says so or not
         assert_eq!(measured(&folder, name, &["--trim"]), json);
+        for threads in ["1", "3", "256"] {
+            assert_eq!(measured(&folder, name, &["--threads", threads]), json);
+        }
         if gm_type != "identity" {
             let trimmed = measured(&folder, name, &["--type", gm_type, "--trim"]);
             assert_eq!((&json["how"], &trimmed["how"]), (&Value::from("elected"), &Value::from("trimmed")));

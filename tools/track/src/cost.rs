@@ -48,7 +48,7 @@ fn cost() {
     let (earlier, later) = timed("planes", || normalise::planes(&details[0], &details[1]));
     let kept = vec![true; 1200];
     let pair = Pair { first: &earlier, second: &later, kept: &kept };
-    let words = timed("search", || Search::new(1200, None).words(pair).unwrap());
+    let words = timed("search", || Search::new(1200, None, 1).words(pair).unwrap());
     timed("elect", || belt::elect(1, &words).unwrap());
     let usable = timed("texture", || texture::usable(pair, &words));
     let cloud: Cloud = usable.iter().map(|&block| words[block]).collect();
@@ -62,6 +62,6 @@ fn cost() {
     timed("again", || refit::again(&cloud, found.model));
     timed("polish", || polish::polished(pair, &cloud.words, &found.model));
     timed("shares", || crate::shares::shares(&cloud));
-    timed("found", || found::Found::of(pair, &[], &mut Search::new(1200, None)).unwrap());
+    timed("found", || found::Found::of(pair, &[], &mut Search::new(1200, None, 1)).unwrap());
     timed("all", || crate::measure(&first, &second, &crate::Options::default()).unwrap());
 }

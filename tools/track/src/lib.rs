@@ -94,6 +94,8 @@ pub struct Planes {
     second: Plane,
     /// What is said where nothing can be measured.
     nothing: Option<Status>,
+    /// How many threads share a search.
+    threads: usize,
 }
 
 impl Planes {
@@ -121,7 +123,13 @@ impl Planes {
             (first.is_flat || second.is_flat).then_some(Status::Flat)
         };
         let (first, second) = normalise::planes(first, second);
-        Ok(Self { first, second, nothing })
+        Ok(Self { first, second, nothing, threads: 1 })
+    }
+
+    /// The same, whose searches so many threads share; the answers stay as they are.
+    #[must_use]
+    pub fn shared_by(self, threads: usize) -> Self {
+        Self { threads, ..self }
     }
 
     /// The pels of the first, for whoever searches them: at most 8,191 each.
@@ -154,7 +162,7 @@ impl Planes {
         }
         let kept: Vec<bool> = options.mask.map_or(vec![true; wanted], |mask| mask.iter().map(|out| !out).collect());
         let pair = Pair { first: &self.first, second: &self.second, kept: &kept };
-        let mut search = Search::new(wanted, words);
+        let mut search = Search::new(wanted, words, self.threads);
         let full = Attempt::of(pair, !options.fast, &mut search)?;
         let reached = if full.is_trusted() || options.fast { None } else { coarser(pair, &full, &mut search)? };
         Ok(Answer::of(full, reached, self.first.width, self.first.height, search.spent()))

@@ -11,14 +11,16 @@ pub(crate) struct Search {
     searched: usize,
     /// The words of the first search, where it was made already.
     known: Option<Vec<u32>>,
+    threads: usize,
     input_half: Vec<u16>,
     ref_half: Vec<u16>,
 }
 
 impl Search {
-    /// For a frame of so many blocks, whose first search may have been made already.
-    pub(crate) fn new(blocks: usize, known: Option<&[u32]>) -> Self {
-        Self { blocks, searched: 0, known: known.map(<[u32]>::to_vec), input_half: Vec::new(), ref_half: Vec::new() }
+    /// For a frame of so many blocks, whose first search may have been made already, on so many threads.
+    pub(crate) fn new(blocks: usize, known: Option<&[u32]>, threads: usize) -> Self {
+        let known = known.map(<[u32]>::to_vec);
+        Self { blocks, searched: 0, known, threads, input_half: Vec::new(), ref_half: Vec::new() }
     }
 
     /// The motion of each block of the first plane in the second: a word for each.
@@ -32,7 +34,7 @@ impl Search {
         self.input_half.resize(half, 0);
         self.ref_half.resize(half, 0);
         let mut words = vec![0; samples];
-        belt::collect_motion_samples(
+        belt::search_parallel(
             &pair.first.pels,
             &pair.second.pels,
             width,
@@ -41,6 +43,7 @@ impl Search {
             &mut self.input_half,
             &mut self.ref_half,
             &mut words,
+            self.threads,
         )?;
         Ok(words)
     }

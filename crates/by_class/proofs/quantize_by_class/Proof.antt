@@ -3,7 +3,7 @@ use borrow.Author.Needs.{needs}
 use mathlib.Core.Path.{refl, sym, _∙_}
 use Rattle.quantize.specs.Quantize.{refusedModel, quantizedModel}
 use Rattle.class_set.proofs.Front.{front-count, front-there}
-use Rattle.by_class.specs.ByClass.{noModelOrFlag}
+use Rattle.class_rows.specs.Rows.{noModelOrFlag}
 use Rattle.by_class.proofs.Rows.{call-passed, call-refused, call-accepted}
 use Rattle.by_class.proofs.quantize_by_class.Statement.{statement}
 use Rattle.by_class.proofs.quantize_by_class.Tie as tie

@@ -22,5 +22,5 @@ loop-again c = (search needs, simp length-set (search needs))
 pub fill-reference-spec : {M : Type 1} → statement M
 fill-reference-spec =
     tie.close
-    (tie.spec Inv-loop μ-loop loop-holds (search needs) (search needs) (search needs) (search needs) (search needs) loop-again (search needs)
-    (search needs))
+    (tie.spec Inv-loop μ-loop loop-holds (λ c. omega arith) (λ c. omega arith) (λ c. omega arith) (λ c. omega arith) (λ c. omega arith) loop-again (λ c. omega arith)
+    (λ c. omega arith))

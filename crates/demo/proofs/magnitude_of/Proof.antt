@@ -1,5 +1,6 @@
 -- `demo::magnitude_of` is safe: a number of 32 bits is small enough.
 -- Assumes nothing.
+use native.Mathlib.Omega.{arith}
 use borrow.Author.Needs.{needs}
 use mir.Syntax.{w64}
 use Rattle.laws.proofs.Signed.{result-reads}
@@ -10,4 +11,4 @@ magnitude-requires : tie.Need-magnitude-requires
 magnitude-requires c κs = rw (result-reads w64 (c .from-centre .result) (c .from-centre .ok)) (c .from-centre .ensures .1)
 
 pub magnitude-of-spec : {M : Type 1} → statement M
-magnitude-of-spec = tie.close (tie.spec (search needs) magnitude-requires (search needs))
+magnitude-of-spec = tie.close (tie.spec (λ c. omega arith) magnitude-requires (λ c. omega arith))

@@ -1,4 +1,5 @@
 -- `demo::same_model`: six slots are left, then fewer. Assumes nothing.
+use native.Mathlib.Omega.{arith}
 use Prim.Native.Nat.{_≤_, _-_}
 use borrow.Author.Needs.{needs}
 use Rattle.demo.proofs.same_model.Statement.{statement}
@@ -13,5 +14,5 @@ abbrev μ-loop : tie.MeasureT-loop
 pub same-model-spec : {M : Type 1} → statement M
 same-model-spec =
     tie.close
-    (tie.spec Inv-loop μ-loop (search needs) (search needs) (search needs) (search needs) (search needs) (search needs) (search needs) (search needs)
-    (search needs) (search needs))
+    (tie.spec Inv-loop μ-loop (λ c. omega arith) (λ c. omega arith) (λ c. omega arith) (λ c. omega arith) (λ c. omega arith) (λ c. omega arith) (λ c. omega arith) (λ c. omega arith)
+    (λ c. omega arith) (λ c. omega arith))

@@ -6,8 +6,8 @@ use Rattle.cost.specs.Inner.{bilinearWindowCost, bilinearWindowCosts, wholeIn, 
 use Rattle.cost.proofs.Ended.{Left, first, next, stops, all, fewer}
 use Rattle.cost.proofs.Bounded.{part-at-most}
 use Rattle.plane.proofs.Listing.{part-length}
-use Rattle.eighths.specs.Inner.{windowFrom}
-use Rattle.eighths.proofs.Blended.{bilinear-laid}
+use Rattle.blend.specs.Inner.{windowFrom}
+use Rattle.blend.proofs.Blended.{bilinear-laid}
 use native.Mathlib.Omega.{arith}
 use Rattle.eighths.proofs.sad_subpel.Statement.{statement}
 use Rattle.eighths.proofs.sad_subpel.Tie as tie

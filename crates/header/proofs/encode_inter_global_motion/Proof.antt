@@ -8,7 +8,7 @@ use lib.ListN.{length}
 use Rattle.bits.specs.Fields.{padBits}
 use Rattle.bits.proofs.Buffer.{length-putBits}
 use Rattle.header.specs.Writing.{headerBits}
-use Rattle.header.proofs.Accepted.{accepted, header-ready, refused, wrote}
+use Rattle.header.proofs.Accepted.{accepted, header-coded, refused, wrote}
 use Rattle.header.proofs.encode_inter_global_motion.Statement.{statement}
 use Rattle.header.proofs.encode_inter_global_motion.Tie as tie
 
@@ -21,7 +21,7 @@ write-header-requires : tie.Need-write-header-requires
 write-header-requires c κs =
     let a = c .before .before .before .before .before .args in
     let k = accepted (a .types .now) (a .params .now) (a .flag) (a .prior .now) (a .start) (length (a .header .now)) (sym (c .before .before .refusal-of .ensures) ∙ c .before .if1 .left) in
-    (header-ready (a .types .now) (a .params .now) (a .flag) (a .prior .now) (a .start) (length (a .header .now)) k, k .low, k .roomy)
+    (header-coded (a .types .now) (a .params .now) (a .flag) (a .prior .now) (a .start) (length (a .header .now)) k, k .low, k .roomy)
 
 same-length : tie.Need-same-length
 same-length c =

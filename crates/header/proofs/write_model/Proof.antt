@@ -13,7 +13,7 @@ use Rattle.grid.specs.Slots.{slotsOf}
 use Rattle.grid.specs.declared.SlotOrder.{SlotOrder}
 use Rattle.grid.proofs.Slots.{six-slots-at-most}
 use Rattle.header.specs.Writing.{slotBits, slotsBits, modelBits}
-use Rattle.header.proofs.Slots.{slot-known, slots-left}
+use Rattle.header.proofs.Slots.{slot-carried, slots-left}
 use Rattle.header.proofs.write_model.Statement.{statement}
 use Rattle.header.proofs.write_model.Tie as tie
 
@@ -58,7 +58,7 @@ write-slot-requires c κs =
     let s = c .before .before .before .before .slots-of in
     let l = c .before .before .loop in (
       pre .0,
-      slot-known (a .gm-type) (s .result) (s .ensures) (l .i) (c .before .loop-test .taken),
+      slot-carried (a .gm-type) (s .result) (s .ensures) (l .i) (c .before .loop-test .taken),
       room (a .flag) (a .params .now) (a .prior .now) (a .gm-type) (a .first) (s .result) (s .ensures) (l .i) (c .before .loop-test .taken) (l .inv .1) (pre .1),
     )
 

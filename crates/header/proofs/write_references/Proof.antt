@@ -14,7 +14,7 @@ use Rattle.bits.proofs.Fields.{length-fieldBits}
 use Rattle.bits.proofs.Buffer.{Reached, reached-first, reached-room, reached-more, reached-last}
 use Rattle.header.specs.Inner.{Identities}
 use Rattle.header.specs.Writing.{modelBits, referenceBits, referencesBits, headerBits}
-use Rattle.header.proofs.RoundTrip.{model-ready}
+use Rattle.header.proofs.RoundTrip.{model-coded}
 use Rattle.header.proofs.write_references.Statement.{statement}
 use Rattle.header.proofs.write_references.Tie as tie
 
@@ -70,10 +70,10 @@ unfolding headerBits
 loop-holds c = (omega arith, reached-first _ _ _)
 
 identities-requires : tie.Need-identities-requires Inv-loop μ-loop
-identities-requires c κs = omega (arith, c .before .before .before .before .pre .0 .all .seven, c .before .loop .inv .0)
+identities-requires c κs = omega (arith, c .before .before .before .before .pre .0 .ready .all .seven, c .before .loop .inv .0)
 
 shared-slice-read-write-reference : tie.Need-shared-slice-read-write-reference Inv-loop μ-loop
-shared-slice-read-write-reference c = omega (arith, c .before .before .before .before .before .before .before .before .pre .0 .all .seven, c .before .before .before .before .loop-test .taken)
+shared-slice-read-write-reference c = omega (arith, c .before .before .before .before .before .before .before .before .pre .0 .ready .all .seven, c .before .before .before .before .loop-test .taken)
 
 mul-write-reference : tie.Need-mul-write-reference Inv-loop μ-loop
 mul-write-reference c = omega (arith, c .before .before .before .before .loop-test .taken)
@@ -85,7 +85,7 @@ write-reference-requires c κs =
     let a = c .before .before .before .before .before .before .before .before .args in
     let l = c .before .before .before .before .before .loop in
     let more-bits = left-more (a .flag) (a .types .now) (a .params .now) (a .prior .now) (l .r) (loop-test .taken) in (
-      model-ready (a .types .now) (a .params .now) (a .prior .now) (l .r) (pre .0) (loop-test .taken),
+      model-coded (a .types .now) (a .params .now) (a .flag) (a .prior .now) (l .r) (pre .0) (loop-test .taken),
       room (a .flag) (a .types .now) (a .params .now) (a .prior .now) (l .r) (l .r + 1) (one (a .flag) (a .types .now) (a .params .now) (a .prior .now) (l .r)) more-bits (l .inv .1) (pre .1),
     )
 
@@ -101,7 +101,7 @@ loop-again c =
     )
 
 cast-write-bits : tie.Need-cast-write-bits Inv-loop μ-loop
-cast-write-bits c = omega (arith, c .before .before .identities .ensures .within, c .before .before .before .before .before .before .before .pre .0 .all .seven)
+cast-write-bits c = omega (arith, c .before .before .identities .ensures .within, c .before .before .before .before .before .before .before .pre .0 .ready .all .seven)
 
 write-bits-requires : tie.Need-write-bits-requires Inv-loop μ-loop
 write-bits-requires c κs =
@@ -110,13 +110,13 @@ write-bits-requires c κs =
     let a = c .before .before .before .before .before .before .before .args in
     let l = c .before .before .before .before .loop in
     let n = still .result in
-    let run = zeros (a .flag) (a .types .now) (a .params .now) (a .prior .now) n (l .r) (still .ensures) (omega (arith, still .ensures .within, pre .0 .all .seven)) in (
-      omega (arith, still .ensures .within, pre .0 .all .seven),
+    let run = zeros (a .flag) (a .types .now) (a .params .now) (a .prior .now) n (l .r) (still .ensures) (omega (arith, still .ensures .within, pre .0 .ready .all .seven)) in (
+      omega (arith, still .ensures .within, pre .0 .ready .all .seven),
       rw (length-fieldBits n 0) at (room (a .flag) (a .types .now) (a .params .now) (a .prior .now) (l .r) (l .r + n) (fieldBits n 0) run (l .inv .1) (pre .1)),
     )
 
 add-r-2 : tie.Need-add-r-2 Inv-loop μ-loop
-add-r-2 c = omega (arith, c .before .before .before .before .before .identities .ensures .within, c .before .before .before .before .before .before .before .before .before .before .pre .0 .all .seven)
+add-r-2 c = omega (arith, c .before .before .before .before .before .identities .ensures .within, c .before .before .before .before .before .before .before .before .before .before .pre .0 .ready .all .seven)
 
 loop-less-2 : tie.Need-loop-less-2 Inv-loop μ-loop
 loop-less-2 c = omega (arith, c .before .before .before .before .if1 .left, c .before .before .before .before .before .before .loop-test .taken)
@@ -128,8 +128,8 @@ loop-again-2 c =
     let a = c .before .before .before .before .before .before .before .before .before .before .args in
     let l = c .before .before .before .before .before .before .before .loop in
     let n = still .result in
-    let run = zeros (a .flag) (a .types .now) (a .params .now) (a .prior .now) n (l .r) (still .ensures) (omega (arith, still .ensures .within, pre .0 .all .seven)) in (
-      omega (arith, still .ensures .within, pre .0 .all .seven),
+    let run = zeros (a .flag) (a .types .now) (a .params .now) (a .prior .now) n (l .r) (still .ensures) (omega (arith, still .ensures .within, pre .0 .ready .all .seven)) in (
+      omega (arith, still .ensures .within, pre .0 .ready .all .seven),
       more (a .flag) (a .types .now) (a .params .now) (a .prior .now) (l .r) (l .r + n) (fieldBits n 0) run (l .inv .1) _ _ (c .before .before .write-bits .ensures),
     )
 

@@ -5,6 +5,7 @@ use borrow.Author.Needs.{needs}
 use mir.Syntax.{w32}
 use Rattle.laws.proofs.Signed.{result-reads}
 use Rattle.header.specs.Writing.{slotOf}
+use Rattle.header.proofs.RoundTrip.{carried-codable}
 use Rattle.header.proofs.write_slot.Statement.{statement}
 use Rattle.header.proofs.write_slot.Tie as tie
 
@@ -15,8 +16,13 @@ write-global-param-requires c κs =
     rw (
       result-reads w32 (slotOf (a .params .now) (a .first) (a .slot)) (c .before .before .value .given),
       result-reads w32 (slotOf (a .prior .now) (a .first) (a .slot)) (c .before .from .given),
+    ) (
+      record {
+        prior = record { known = e .pre .1 .known; within = e .pre .0 .ready .priors .within (a .slot) (e .pre .1 .known) };
+        own = carried-codable (a .gm-type) (a .flag) (a .params .now) (a .first) (e .pre .0 .right) (a .slot) (e .pre .1 .known) (e .pre .1 .is);
+      },
+      e .pre .2,
     )
-    (record { known = e .pre .1; within = e .pre .0 .priors .within (e .args .slot) (e .pre .1) }, e .pre .2)
 
 returns : tie.Need-returns
 returns c =

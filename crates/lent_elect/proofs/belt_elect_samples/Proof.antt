@@ -21,10 +21,10 @@ use Rattle.elect.proofs.Elected as R
 use Rattle.elect.proofs.Elected.Laws as R′
 use Rattle.fit.proofs.list_taken.Symbol as taken-def
 use Rattle.fit.proofs.list_taken.Met as taken-thm
-use Rattle.trim.proofs.store.Symbol as store-def
-use Rattle.trim.proofs.store.Met as store-thm
-use Rattle.elect.proofs.elected_in.Symbol as ends-def
-use Rattle.elect.proofs.elected_in.Met as ends-thm
+use Rattle.held_trim.proofs.store.Symbol as store-def
+use Rattle.held_trim.proofs.store.Met as store-thm
+use Rattle.held_elect.proofs.elected_in.Symbol as ends-def
+use Rattle.held_elect.proofs.elected_in.Met as ends-thm
 use Rattle.lent_elect.proofs.belt_elect_samples as walk
 use Rattle.lent_elect.proofs.belt_elect_samples.Key.{name as #walk}
 use Rattle.lent_elect.proofs.belt_elect_samples.Statement as stated
@@ -45,5 +45,5 @@ belt-elect-samples-spec 𝓤 H 𝓜 𝓖 𝓡 =
     𝓤 H (𝓖 .A) W (uint-makes 𝓤 H (𝓖 .A) W w8) 𝓣
     (known1 𝓤 H (𝓖 .A) W C fm taken-def.name usize usize taken (uint-makes 𝓤 H (𝓖 .A) W w64)
     (cited 𝓤 H _ 𝓜 𝓡 code.env taken-def.name taken-def.routine code.calls-fit·list-taken (taken-thm.met 𝓤 H 𝓜 𝓖 𝓡)))
-    (cited 𝓤 H _ 𝓜 𝓡 code.env store-def.name store-def.routine code.calls-trim·store (store-thm.met 𝓤 H 𝓜 𝓖 𝓡))
-    (cited 𝓤 H _ 𝓜 𝓡 code.env ends-def.name ends-def.routine code.calls-elect·elected-in (ends-thm.met 𝓤 H 𝓜 𝓖 𝓡)))
+    (cited 𝓤 H _ 𝓜 𝓡 code.env store-def.name store-def.routine code.calls-held-trim·store (store-thm.met 𝓤 H 𝓜 𝓖 𝓡))
+    (cited 𝓤 H _ 𝓜 𝓡 code.env ends-def.name ends-def.routine code.calls-held-elect·elected-in (ends-thm.met 𝓤 H 𝓜 𝓖 𝓡)))

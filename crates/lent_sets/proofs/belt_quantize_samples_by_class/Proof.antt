@@ -6,7 +6,7 @@ use Rattle.fit.specs.Sums.{itself}
 use Rattle.fit_numbers.specs.Numbers.{fittedOf}
 use Rattle.quantize.specs.Quantize.{refusedModel, quantizedFrom}
 use Rattle.quantize.specs.Inner.{refittingBegun}
-use Rattle.by_class.specs.ByClass.{noModelOrFlag}
+use Rattle.class_rows.specs.Rows.{noModelOrFlag}
 use Rattle.lent_sets.proofs.Answers.{lent-passed, lent-refused, lent-answered, model-named}
 use Rattle.lent_sets.proofs.belt_quantize_samples_by_class.Statement.{statement}
 use Rattle.lent_sets.proofs.belt_quantize_samples_by_class.Tie as tie

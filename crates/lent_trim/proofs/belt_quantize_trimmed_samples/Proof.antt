@@ -23,8 +23,8 @@ use Rattle.trim.proofs.TrimmedModel as R
 use Rattle.trim.proofs.TrimmedModel.Laws as R′
 use Rattle.fit.proofs.list_taken.Symbol as taken-def
 use Rattle.fit.proofs.list_taken.Met as taken-thm
-use Rattle.trim.proofs.store.Symbol as store-def
-use Rattle.trim.proofs.store.Met as store-thm
+use Rattle.held_trim.proofs.store.Symbol as store-def
+use Rattle.held_trim.proofs.store.Met as store-thm
 use Rattle.lent_trim.proofs.model_answer.Symbol as ends-def
 use Rattle.lent_trim.proofs.model_answer.Met as ends-thm
 use Rattle.lent_trim.proofs.belt_quantize_trimmed_samples as walk
@@ -48,5 +48,5 @@ belt-quantize-trimmed-samples-spec 𝓤 H 𝓜 𝓖 𝓡 =
     𝓤 H (𝓖 .A) W (LL.makes A.the-type A′.the-plain 𝓤 H (𝓖 .A)) 𝓣
     (known1 𝓤 H (𝓖 .A) W C fm taken-def.name usize usize taken (uint-makes 𝓤 H (𝓖 .A) W w64)
     (cited 𝓤 H _ 𝓜 𝓡 code.env taken-def.name taken-def.routine code.calls-fit·list-taken (taken-thm.met 𝓤 H 𝓜 𝓖 𝓡)))
-    (cited 𝓤 H _ 𝓜 𝓡 code.env store-def.name store-def.routine code.calls-trim·store (store-thm.met 𝓤 H 𝓜 𝓖 𝓡))
+    (cited 𝓤 H _ 𝓜 𝓡 code.env store-def.name store-def.routine code.calls-held-trim·store (store-thm.met 𝓤 H 𝓜 𝓖 𝓡))
     (cited 𝓤 H _ 𝓜 𝓡 code.env ends-def.name ends-def.routine code.calls-lent-trim·model-answer (ends-thm.met 𝓤 H 𝓜 𝓖 𝓡)))

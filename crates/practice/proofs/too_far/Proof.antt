@@ -3,7 +3,7 @@
 use borrow.Author.Needs.{needs}
 use borrow.Author.Tests.{lt-ltb, le-ltb}
 use mir.Facts.{toZ-ofZ}
-use Rattle.practice.specs.Call.{largestShift}
+use Rattle.practice_planes.specs.Shift.{largestShift}
 use Rattle.practice.proofs.too_far.Statement.{statement}
 use Rattle.practice.proofs.too_far.Tie as tie
 

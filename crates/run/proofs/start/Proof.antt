@@ -5,7 +5,7 @@ use mathlib.Core.Path.{sym, ap, _∙_}
 use borrow.Author.Needs.{needs}
 use lib.IntN.{ℤ}
 use Rattle.run.specs.Run.{runOf, moved}
-use Rattle.run.proofs.Answers.{start-refused, start-accepted}
+use Rattle.run.proofs.Moves.{start-refused, start-accepted}
 use Rattle.run.proofs.start.Statement.{statement}
 use Rattle.run.proofs.start.Tie as tie
 

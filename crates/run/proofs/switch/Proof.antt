@@ -3,7 +3,7 @@
 use mathlib.Core.Path.{ap, _∙_}
 use borrow.Author.Needs.{needs}
 use Rattle.run.specs.Run.{moved}
-use Rattle.run.proofs.Answers.{switch-refused, switch-accepted}
+use Rattle.run.proofs.Moves.{switch-refused, switch-accepted}
 use Rattle.run.proofs.switch.Statement.{statement}
 use Rattle.run.proofs.switch.Tie as tie
 

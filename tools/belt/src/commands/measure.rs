@@ -77,6 +77,7 @@ fn job(words: &Measure) -> Result<Job, Failure> {
         mask: super::mask(&words.seen)?,
         within: words.within,
         fast: words.seen.fast,
+        threads: super::threads(words.threads),
     })
 }
 

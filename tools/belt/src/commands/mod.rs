@@ -18,6 +18,7 @@ use crate::output::{Files, print};
 use belt::{IDENTITIES, Kind, StoredModel};
 use frames::Frame;
 use std::path::Path;
+use std::thread;
 
 /// Runs the command that the words name.
 pub fn run(command: Option<Command>) -> Result<(), Failure> {
@@ -53,6 +54,12 @@ fn kind(key: bool) -> Kind {
 fn flag_and_prior(header: &Header) -> Result<(u8, [StoredModel; 7]), Failure> {
     let prior = header.prior.as_ref().map_or(Ok(IDENTITIES), |place| lists::models(place).map(|list| list.models))?;
     Ok((header.precision as u8, prior))
+}
+
+/// So many threads, or as many as there are processors.
+fn threads(asked: Option<u16>) -> usize {
+    let processors = || thread::available_parallelism().map_or(1, |count| count.get());
+    asked.map_or_else(processors, usize::from)
 }
 
 /// The mask of the pictures.

@@ -14,7 +14,6 @@ use record::{Found, Recorder};
 use std::io::{self, IsTerminal};
 use std::path::{Path, PathBuf};
 use std::sync::Arc;
-use std::thread;
 use track::Planes;
 
 pub fn run(words: &Track) -> Result<(), Failure> {
@@ -27,9 +26,8 @@ pub fn run(words: &Track) -> Result<(), Failure> {
     let job = Job::electing(super::mask(&words.seen)?, words.seen.fast);
     let (rate, millimetres) = (words.fps, words.mm_per_pel);
     let work = move |two: Result<Two, Failure>| two.and_then(|two| measured(two, &job, rate, millimetres));
-    let processors = || thread::available_parallelism().map_or(1, |count| count.get());
-    let threads = words.threads.map_or_else(processors, usize::from);
-    let answers = ordered::begin(threads, pairs, work).map_err(|error| Failure::bad("--threads", error))?;
+    let answers =
+        ordered::begin(super::threads(words.threads), pairs, work).map_err(|error| Failure::bad("--threads", error))?;
     for pair in answers {
         bar.inc(1);
         bar.suspend(|| told.pair(&pair?, words, &mut files))?;

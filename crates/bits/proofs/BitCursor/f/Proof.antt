@@ -9,6 +9,7 @@ use Rattle.bits.specs.Bits.{bitAt}
 use Rattle.bits.specs.Fields.{field}
 use Rattle.bits.proofs.Buffer.{bitAt-lt}
 use Rattle.bits.proofs.Fields.{field-inside}
+use Rattle.bits.proofs.Words.{five-field}
 
 returns : tie.Need-returns
 returns c =
@@ -22,7 +23,7 @@ returns c =
     record {
       value =
           c .bits-inside .ensures
-          ∙ ap (λ (w : ℕ). w / 2 ^ s % 2 ^ a .n) (c .before .five-bytes .ensures .0)
+          ∙ ap (λ (w : ℕ). w / 2 ^ s % 2 ^ a .n) (c .before .five-bytes .ensures .0 ∙ five-field (a .bytes .now) (a .self .at / 8))
           ∙ ap (λ (m : ℕ). field g j m / 2 ^ s % 2 ^ a .n) whole
           ∙ field-inside g (bitAt-lt (a .bytes .now)) j k (a .n) s
           ∙ ap (λ (i : ℕ). field g i (a .n)) place;

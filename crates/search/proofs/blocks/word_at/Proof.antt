@@ -1,24 +1,16 @@
 -- `word_at`: the stages in a row, and the word of what the last one found.
 -- Assumes nothing.
-use mathlib.Core.Path.{sym, ap, _∙_}
 use native.Mathlib.Omega.{arith}
-use lib.ListN.{length}
 use borrow.Author.Needs.{needs}
-use Rattle.plane.proofs.Halves.{length-halfPlane}
+use Rattle.search.specs.Search.{scene}
 use Rattle.search.proofs.Word.{motion-is, sampled-is}
 use Rattle.search.proofs.blocks.word_at.Statement.{statement}
 use Rattle.search.proofs.blocks.word_at.Tie as tie
 
 coarse-requires : tie.Need-coarse-requires
 coarse-requires c κs =
-    let a = c .before .before .before .before .before .before .before .before .args in
-    let b = a .block in
     let p = c .before .before .before .before .before .before .before .before .pre .0 in (
-      record {
-        small = record { narrow = omega arith; low = omega arith };
-        input-pels = sym (ap length (p .input-halved) ∙ length-halfPlane (a .input .now) (b .width) (b .height));
-        ref-pels = sym (ap length (p .ref-halved) ∙ length-halfPlane (a .reference .now) (b .width) (b .height));
-      },
+      record { small = record { narrow = omega arith; low = omega arith }; input-pels = p .input-half-pels; ref-pels = p .ref-half-pels },
       record { rows = omega arith; columns = omega arith },
     )
 
@@ -61,13 +53,10 @@ returns : tie.Need-returns
 returns c =
     let a = c .before .before .before .before .before .before .before .before .before .before .before .before .before .before .before .before .before .before .before .before .before .args in
     let b = a .block in
-    let p = c .before .before .before .before .before .before .before .before .before .before .before .before .before .before .before .before .before .before .before .before .before .pre .0 in
-    let far = rw (p .input-halved, p .ref-halved) at (c .before .before .before .before .before .before .before .before .before .before .before .before .coarse .ensures .same) in
+    let s = scene (a .input .now) (a .reference .now) (b .width) (b .height) (a .input-half .now) (a .ref-half .now) in
     let best = c .before .before .before .before .before .before .before .fine .result in
-    sampled-is (a .input .now) (a .reference .now) (b .width) (b .height) (b .r) (b .c) best
-    (motion-is (a .input .now) (a .reference .now) (b .width) (b .height) (b .r) (b .c)
-    (c .before .before .before .before .before .before .before .before .before .before .before .before .coarse .result)
-    best far (c .before .before .before .before .before .before .before .fine .ensures .same))
+    sampled-is s (b .r) (b .c) best
+    (motion-is s (b .r) (b .c) (c .before .before .before .before .before .before .before .before .before .before .before .before .coarse .result) best (c .before .before .before .before .before .before .before .before .before .before .before .before .coarse .ensures .same) (c .before .before .before .before .before .before .before .fine .ensures .same))
     (c .before .before .word-of .ensures)
 
 pub word-at-spec : {M : Type 1} → statement M

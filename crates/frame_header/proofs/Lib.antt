@@ -1,0 +1,5 @@
+pub mod Inter
+pub mod Accepted
+pub mod RoundTrip
+pub mod Intra
+pub mod Worked

@@ -1,0 +1,4 @@
+pub mod Frame
+pub mod Recovery
+pub mod Priors
+pub mod Inner
