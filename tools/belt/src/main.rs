@@ -27,6 +27,7 @@ use std::process::ExitCode;
 static MEMORY: memory::Told = memory::Told;
 
 fn main() -> ExitCode {
+    memory::keep();
     match cli::parse(std::env::args_os().collect()).and_then(commands::run) {
         Ok(()) => ExitCode::SUCCESS,
         Err(failure) => {
