@@ -183,14 +183,16 @@ def png_is_whole(data):
 
 
 def one(belt, folder, names, number):
-    """A run; what is wrong of it, and its status."""
-    kind = None
+    """A run on a damaged file, or with any words; what is wrong of it, and its status."""
     if random.random() < 0.8:
         kind = random.choice(names)
         (folder / "damaged").write_bytes(damaged((folder / kind).read_bytes()))
-        words = words_of(kind, "damaged", "out")
-    else:
-        words = [random.choice(WORDS) for _ in range(random.randrange(0, 9))]
+        return run(belt, folder, kind, words_of(kind, "damaged", "out"), number)
+    return run(belt, folder, None, [random.choice(WORDS) for _ in range(random.randrange(0, 9))], number)
+
+
+def run(belt, folder, kind, words, number):
+    """A run with these words, of which a file of this kind is damaged; what is wrong of it, and its status."""
     before = set(os.listdir(folder))
     encoded = [os.fsencode(word) for word in words]
     said = subprocess.run([belt, *encoded], cwd=folder, capture_output=True, stdin=subprocess.DEVNULL, timeout=60)
