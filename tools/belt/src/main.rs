@@ -17,6 +17,7 @@ mod model;
 mod ordered;
 mod output;
 mod picture;
+mod plain;
 mod report;
 mod tracked;
 
