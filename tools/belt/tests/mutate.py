@@ -56,7 +56,7 @@ def seeds(belt, folder):
         "deep.png": png(width, height, 16, 0, deep),
         "header": bytes.fromhex("FF901FE1FFF849FCB900"),
         "models": b"".join(b"affine 0 0 65536 0 0 65536\n" for _ in range(7)),
-        "classes": b"unsorted fibre 2 3 film 0 " + b"4 " * 10,
+        "classes": b"unsorted fibre 2 3 film 0\n",
     }
     for name, data in files.items():
         (folder / name).write_bytes(data)
