@@ -1,5 +1,6 @@
 //! Why the tool ends without an answer: one line that says what and where, and a status.
 
+use crate::plain;
 use belt::Refusal;
 use frames::{Unread, one_line};
 use record::{Damaged, Why};
@@ -45,8 +46,10 @@ impl Failure {
     pub fn what(&self) -> String {
         match self {
             Failure::Bad { what, .. } => what.clone(),
-            Failure::Refused { refusal, advice, .. } if advice.is_empty() => format!("refused, {refusal}"),
-            Failure::Refused { refusal, advice, .. } => format!("refused, {refusal}; {advice}"),
+            Failure::Refused { refusal, advice, .. } if advice.is_empty() => {
+                format!("refused, {}", plain::told(*refusal))
+            }
+            Failure::Refused { refusal, advice, .. } => format!("refused, {}; {advice}", plain::told(*refusal)),
             Failure::Strict { what } => what.clone(),
         }
     }

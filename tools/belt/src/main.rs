@@ -17,6 +17,7 @@ mod model;
 mod ordered;
 mod output;
 mod picture;
+mod plain;
 mod report;
 mod tracked;
 
@@ -27,6 +28,7 @@ use std::process::ExitCode;
 static MEMORY: memory::Told = memory::Told;
 
 fn main() -> ExitCode {
+    memory::keep();
     match cli::parse(std::env::args_os().collect()).and_then(commands::run) {
         Ok(()) => ExitCode::SUCCESS,
         Err(failure) => {

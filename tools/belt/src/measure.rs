@@ -463,8 +463,14 @@ pub mod tests {
     fn refusals_are_the_librarys() {
         let still = frame("a", 32, 32, 0, 0);
         let said = |job: Job| measure(&job, &still, &still).unwrap_err().to_string();
-        assert_eq!(said(Job { frame: 0, ..job(1) }), "a to a: refused, 17: frame number 0: the shutter was closed");
-        assert_eq!(said(Job { start: 8, ..job(1) }), "a to a: refused, 14: start of a header to write over 7");
+        assert_eq!(
+            said(Job { frame: 0, ..job(1) }),
+            "a to a: refused, 17: the frame was taken with the shutter closed: there is nothing to see"
+        );
+        assert_eq!(
+            said(Job { start: 8, ..job(1) }),
+            "a to a: refused, 14: a header begins at one of the eight bits of its first byte"
+        );
         assert_eq!([judge_sides(1024, 1024), judge_sides(1025, 1)], [Ok(()), Err(Refusal::TooLarge)]);
     }
 }

@@ -8,6 +8,27 @@ use std::process;
 /// The system's memory; where there is none left, the tool ends.
 pub struct Told;
 
+/// Keeps what is freed for the next frame: the system's memory would give every large piece back, and have to clear it
+/// when it is asked for again.
+#[cfg(target_env = "gnu")]
+pub fn keep() {
+    /// How much is kept at the most, in bytes, and what is large (mallopt of the C library).
+    const KEPT: i32 = 64 << 20;
+    const TRIM: i32 = -1;
+    const LARGE: i32 = -3;
+    unsafe extern "C" {
+        fn mallopt(what: i32, value: i32) -> i32;
+    }
+    // SAFETY: two numbers that the C library judges itself, ahead of any thread
+    unsafe {
+        mallopt(TRIM, KEPT);
+        mallopt(LARGE, KEPT / 2);
+    }
+}
+
+#[cfg(not(target_env = "gnu"))]
+pub fn keep() {}
+
 fn told(place: *mut u8) -> *mut u8 {
     if place.is_null() {
         output::remove_parts();

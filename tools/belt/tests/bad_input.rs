@@ -156,7 +156,7 @@ fn words_that_are_not_known() {
     bad(&folder, &["practice", "a", "b", "--size", "0x9"], "--size: a picture without pels can't be measured");
 }
 
-/// What the library refuses: status 1, its number and its text.
+/// What the library refuses: status 1, its number and its plain words in docs/RULES.md.
 #[test]
 fn refusals() {
     let folder = tool::pictures("refusals");
@@ -171,7 +171,12 @@ fn refusals() {
         [&["measure", "still.pgm", "pan.pgm"], &stores[..], words].concat()
     };
     let pair = "still.pgm to pan.pgm: refused";
-    let row = |number: u32| belt::Refusal::TABLE.into_iter().find(|row| row.0 == number).unwrap().1;
+    let rules = include_str!("../../../docs/RULES.md");
+    let row = |number: u32| {
+        let condition = belt::Refusal::TABLE.into_iter().find(|row| row.0 == number).unwrap().1;
+        let line = rules.lines().find(|line| line.starts_with(&format!("| {number} | {condition} |"))).unwrap();
+        line.split(" | ").nth(3).unwrap().trim_end_matches(" |")
+    };
     refused(&measure(&["--frame", "0"]), &format!("{pair}, 17: {}", row(17)));
     refused(&measure(&["--reference", "8"]), &format!("{pair}, 5: {}", row(5)));
     refused(&measure(&["--start", "8"]), &format!("{pair}, 14: {}", row(14)));

@@ -290,11 +290,11 @@ fn a_part_is_measured_where_the_whole_is_too_large() {
     folder.write("a.pgm", plane(4));
     folder.write("b.pgm", plane(0));
     let said = folder.belt(&["measure", "a.pgm", "b.pgm", "--type", "translation", "--blocks", "blocks"]);
-    let text = "belt: a.pgm: refused, 1: side over 1,024, or over 4,096 samples; 1100×40 pels are too many: --crop X,Y,W,H \
+    let text = "belt: a.pgm: refused, 1: the picture is too large, or the samples are too many; 1100×40 pels are too many: --crop X,Y,W,H \
                 measures a part, --halve all\n";
     assert_eq!((said.status, said.out.as_str(), said.error.as_str()), (1, "", text));
     let said = folder.belt(&["measure", "a.pgm", "b.pgm", "--type", "translation", "--crop", "60,2,1025,32"]);
-    assert!(said.status == 1 && said.error.contains("refused, 1: side over 1,024"), "{said:?}");
+    assert!(said.status == 1 && said.error.contains("refused, 1: the picture is too large"), "{said:?}");
     let said = folder.belt(&["measure", "a.pgm", "b.pgm", "--type", "translation", "--crop", "60,2,1024,32"]);
     assert!(said.out.contains("1024×32 pels, 128 blocks") && said.out.contains("It moved 4 pels right."), "{said:?}");
     assert_eq!(folder.names(), ["a.pgm", "b.pgm"]);
@@ -336,11 +336,17 @@ fn blocks_are_listed_and_converted() {
     let said = folder.belt(&["list", "broken"]);
     let refused: Vec<&str> = said.out.lines().filter(|line| line.starts_with("refused")).collect();
     assert_eq!((said.status, refused), (1, vec!["refused 10", "refused 9"]));
-    assert_eq!(said.error, "belt: broken, block 1 (byte 512): refused, 10: block check wrong; and 1 more\n");
+    assert_eq!(
+        said.error,
+        "belt: broken, block 1 (byte 512): refused, 10: the block is damaged: its check doesn't go with its bytes; and 1 more\n"
+    );
     let said = folder.belt(&["convert", "broken", "out", "--to", "1"]);
     assert_eq!(
         (said.status, said.error.as_str()),
-        (1, "belt: broken, frame at byte 512: refused, 10: block check wrong\n")
+        (
+            1,
+            "belt: broken, frame at byte 512: refused, 10: the block is damaged: its check doesn't go with its bytes\n"
+        )
     );
     assert!(!folder.path("out").exists());
 }

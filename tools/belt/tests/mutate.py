@@ -56,7 +56,7 @@ def seeds(belt, folder):
         "deep.png": png(width, height, 16, 0, deep),
         "header": bytes.fromhex("FF901FE1FFF849FCB900"),
         "models": b"".join(b"affine 0 0 65536 0 0 65536\n" for _ in range(7)),
-        "classes": b"unsorted fibre 2 3 film 0 " + b"4 " * 10,
+        "classes": b"unsorted fibre 2 3 film 0\n",
     }
     for name, data in files.items():
         (folder / name).write_bytes(data)
@@ -183,14 +183,16 @@ def png_is_whole(data):
 
 
 def one(belt, folder, names, number):
-    """A run; what is wrong of it, and its status."""
-    kind = None
+    """A run on a damaged file, or with any words; what is wrong of it, and its status."""
     if random.random() < 0.8:
         kind = random.choice(names)
         (folder / "damaged").write_bytes(damaged((folder / kind).read_bytes()))
-        words = words_of(kind, "damaged", "out")
-    else:
-        words = [random.choice(WORDS) for _ in range(random.randrange(0, 9))]
+        return run(belt, folder, kind, words_of(kind, "damaged", "out"), number)
+    return run(belt, folder, None, [random.choice(WORDS) for _ in range(random.randrange(0, 9))], number)
+
+
+def run(belt, folder, kind, words, number):
+    """A run with these words, of which a file of this kind is damaged; what is wrong of it, and its status."""
     before = set(os.listdir(folder))
     encoded = [os.fsencode(word) for word in words]
     said = subprocess.run([belt, *encoded], cwd=folder, capture_output=True, stdin=subprocess.DEVNULL, timeout=60)

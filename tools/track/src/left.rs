@@ -59,25 +59,34 @@ fn by_translation(pair: Pair<'_>, block: usize, across: isize, down: isize) -> f
     let (fx, fy) = (across.rem_euclid(one) as i32, down.rem_euclid(one) as i32);
     let mut sums = Sums::default();
     for step in (0..BLOCK_SIDE).step_by(BLOCK_SIDE / ROWS) {
-        let upper = gathered(pair.second, left, top + step as isize);
-        let lower = gathered(pair.second, left, top + step as isize + 1);
-        sums.add(&blended(&upper, &lower, fx, fy), &pair.first.row(y + step)[x..][..BLOCK_SIDE]);
+        let moved = at(pair.second, left, top + step as isize, fx, fy);
+        sums.add(&moved, &pair.first.row(y + step)[x..][..BLOCK_SIDE]);
     }
     sums.variance()
 }
 
-/// The pels of a row from a place on, edges repeated.
-fn gathered(plane: &Plane, left: isize, y: isize) -> [u16; BLOCK_SIDE + 1] {
-    let row = plane.row_near(y);
-    let mut pels = [0; BLOCK_SIDE + 1];
-    match usize::try_from(left).ok().and_then(|left| row.get(left..left + pels.len())) {
-        Some(inside) => pels.copy_from_slice(inside),
-        None => {
-            let last = row.len() as isize - 1;
-            pels.iter_mut().enumerate().for_each(|(i, pel)| *pel = row[(left + i as isize).clamp(0, last) as usize]);
-        }
+/// The pels of a block's row, and the one behind it.
+type Row = [u16; BLOCK_SIDE + 1];
+
+/// What a plane shows from a place on, by the weights of what is right and below.
+#[inline]
+fn at(plane: &Plane, left: isize, top: isize, fx: i32, fy: i32) -> [i32; BLOCK_SIDE] {
+    let [upper, lower] = [top, top + 1].map(|y| plane.row_near(y));
+    match (inside(upper, left), inside(lower, left)) {
+        (Some(upper), Some(lower)) => blended(upper, lower, fx, fy),
+        _ => blended(&repeated(upper, left), &repeated(lower, left), fx, fy),
     }
-    pels
+}
+
+/// The pels of a row from a place on, if it has as many.
+fn inside(row: &[u16], left: isize) -> Option<&Row> {
+    row.get(usize::try_from(left).ok()?..)?.first_chunk()
+}
+
+/// The pels of a row from a place on, edges repeated.
+fn repeated(row: &[u16], left: isize) -> Row {
+    let last = row.len() as isize - 1;
+    std::array::from_fn(|i| row[(left + i as isize).clamp(0, last) as usize])
 }
 
 /// What a model leaves of each block that counts, 0 of the others.
@@ -109,8 +118,7 @@ pub(crate) fn moved(plane: &Plane, model: &Model, x: usize, y: usize) -> [i32; B
     let place = |i: usize| (place_x + i as i32 * step_x, place_y + i as i32 * step_y);
     if (step_x, step_y) == (1 << FRACTION, 0) {
         let (left, top) = ((place_x >> FRACTION) as isize, (place_y >> FRACTION) as isize);
-        let (upper, lower) = (gathered(plane, left, top), gathered(plane, left, top + 1));
-        return blended(&upper, &lower, fraction(place_x), fraction(place_y));
+        return at(plane, left, top, fraction(place_x), fraction(place_y));
     }
     let (last_x, last_y) = place(BLOCK_SIDE - 1);
     let inside =
@@ -126,12 +134,22 @@ fn fraction(place: i32) -> i32 {
     (place >> (FRACTION - WEIGHT)) & (ONE - 1)
 }
 
-/// Two rows between which values lie, by the weights of what is right and below.
-fn blended(upper: &[u16; BLOCK_SIDE + 1], lower: &[u16; BLOCK_SIDE + 1], fx: i32, fy: i32) -> [i32; BLOCK_SIDE] {
+/// Two rows between which values lie, by the weights of what is right and below. A pel has 13 bits: products of 16 bits
+/// are made of the differences, which take the processor a fraction of those of 32.
+#[inline]
+fn blended(upper: &Row, lower: &Row, fx: i32, fy: i32) -> [i32; BLOCK_SIDE] {
+    let product = |one: i16, other: i16| i32::from(one) * i32::from(other);
+    // the product of both weights has 16 bits, one too many: halved, and its last bit
+    let (half, odd) = ((fx * fy / 2) as i16, -((fx * fy % 2) as i16));
+    let (fx, fy) = (fx as i16, fy as i16);
     let mut blended = [0; BLOCK_SIDE];
-    for (i, blended) in blended.iter_mut().enumerate() {
-        let column = |i: usize| i32::from(upper[i]) * (ONE - fy) + i32::from(lower[i]) * fy;
-        *blended = (column(i) * (ONE - fx) + column(i + 1) * fx + HALF) >> (2 * WEIGHT);
+    for i in 0..BLOCK_SIDE {
+        let (left, right, below, beyond) = (upper[i] as i16, upper[i + 1] as i16, lower[i] as i16, lower[i + 1] as i16);
+        let (across, down) = (right - left, below - left);
+        let both = beyond - below - across;
+        let slopes = product(across, fx) + product(down, fy);
+        let twist = 2 * product(both, half) + i32::from(both & odd);
+        blended[i] = ((i32::from(left) << (2 * WEIGHT)) + (slopes << WEIGHT) + twist + HALF) >> (2 * WEIGHT);
     }
     blended
 }

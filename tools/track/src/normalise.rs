@@ -58,10 +58,19 @@ impl Detail {
 
     fn plane(&self, contrast: f64) -> Plane {
         let factor = (self.unit * contrast) as f32;
-        // the cast rounds down
-        let pel = |&value: &i32| (value as f32 * factor + (MIDDLE + 0.5) as f32).clamp(0.0, MOST) as i32 as u16;
+        let pel = |&value: &i32| down((value as f32 * factor + (MIDDLE + 0.5) as f32).clamp(0.0, MOST));
         Plane { width: self.width, height: self.height, pels: self.values.iter().map(pel).collect() }
     }
+}
+
+/// Numbers from here on have no fraction, and the pels are the last bits of a sum with it.
+const WHOLE: f32 = 8_388_608.0;
+
+/// A number from 0 to [`MOST`] rounded down. A cast would also ask whether it is one, pel by pel.
+fn down(number: f32) -> u16 {
+    let nearest = number + WHOLE;
+    let over = u32::from(nearest - WHOLE > number);
+    ((nearest.to_bits() - over) & MOST as u32) as u16
 }
 
 /// The standard deviation.
@@ -96,17 +105,17 @@ fn less_around(frame: &Frame<'_>) -> Vec<i32> {
         rows.reach(row);
         sums.iter_mut().zip(rows.across(row)).for_each(|(sum, &value)| *sum += value);
     }
-    let mut less = vec![0; width * height];
-    for (y, less) in less.chunks_exact_mut(width).enumerate() {
+    let mut less = Vec::with_capacity(width * height);
+    for y in 0..height {
         let (enters, leaves) = ((y + REACH).min(height - 1), y.saturating_sub(REACH + 1));
         rows.reach(enters);
         let changes = rows.across(enters).iter().zip(rows.across(leaves));
-        for (((less, &own), sum), (&enters, &leaves)) in less.iter_mut().zip(rows.smooth(y)).zip(&mut sums).zip(changes)
-        {
+        let row = rows.smooth(y).iter().zip(&mut sums).zip(changes).map(|((&own, sum), (&enters, &leaves))| {
             *sum = *sum + enters - leaves;
             // both at most 16 · 65,535 · 961 < 2^31
-            *less = (own * WINDOW) as i32 - *sum as i32;
-        }
+            (own * WINDOW) as i32 - *sum as i32
+        });
+        less.extend(row);
     }
     less
 }
@@ -227,6 +236,17 @@ mod tests {
                 let detail = plainly(&frame, (i % width) as isize, (i / width) as isize) * 2040.0 / f64::from(most);
                 assert!((f64::from(pel) - 4096.0 - detail).abs() < 0.52, "{width}×{height} at {i}: {pel}, {detail}");
             }
+        }
+    }
+
+    #[test]
+    fn numbers_are_rounded_down_as_a_cast_does() {
+        let near = (0..=8191).flat_map(|whole| {
+            let whole = whole as f32;
+            [whole.next_down(), whole, whole.next_up(), whole + 0.25, whole + 0.5, (whole + 0.5).next_up(), whole + 0.75]
+        });
+        for number in near.chain([1e-9, 0.1, 0.9]).filter(|number| (0.0..=MOST).contains(number)) {
+            assert_eq!(down(number), number as u16, "{number}");
         }
     }
 

@@ -27,11 +27,13 @@ impl Plane {
     }
 
     /// The pels of a row.
+    #[inline]
     pub(crate) fn row(&self, y: usize) -> &[u16] {
         &self.pels[y * self.width..][..self.width]
     }
 
     /// The row nearest to a place.
+    #[inline]
     pub(crate) fn row_near(&self, y: isize) -> &[u16] {
         self.row(y.clamp(0, self.height as isize - 1) as usize)
     }

@@ -72,29 +72,27 @@ fn sample(pair: Pair<'_>, word: u32, model: &Model) -> Option<MotionSample> {
 
 /// How far a block still is from where the model puts it: one step of Gauss and Newton, brightness left out.
 fn step(pair: Pair<'_>, x: usize, y: usize, model: &Model) -> (f64, f64) {
-    // of slopes and difference: the sums of each, and of products
-    let mut sums = [[0f32; BLOCK_SIDE]; 8];
+    // of twice the slopes and of the difference: the sums of each, and of products
+    let [mut sx, mut sy, mut sd, mut xx, mut xy, mut yy, mut xd, mut yd] = [[0f32; BLOCK_SIDE]; 8];
     for row in y..y + BLOCK_SIDE {
         let [across, down] = slopes(pair.first, x, row);
         let moved = left::moved(pair.second, model, x, row);
         let own = &pair.first.row(row)[x..][..BLOCK_SIDE];
-        let difference: [f32; BLOCK_SIDE] = std::array::from_fn(|i| (i32::from(own[i]) - moved[i]) as f32);
-        let [sx, sy, sd, xx, xy, yy, xd, yd] = &mut sums;
-        for (sum, one) in [(sx, &across), (sy, &down), (sd, &difference)] {
-            (0..BLOCK_SIDE).for_each(|i| sum[i] += one[i]);
-        }
-        let products = [
-            (xx, &across, &across),
-            (xy, &across, &down),
-            (yy, &down, &down),
-            (xd, &across, &difference),
-            (yd, &down, &difference),
-        ];
-        for (sum, one, other) in products {
-            (0..BLOCK_SIDE).for_each(|i| sum[i] += one[i] * other[i]);
+        for i in 0..BLOCK_SIDE {
+            let (across, down, difference) = (across[i], down[i], (i32::from(own[i]) - moved[i]) as f32);
+            sx[i] += across;
+            sy[i] += down;
+            sd[i] += difference;
+            xx[i] += across * across;
+            xy[i] += across * down;
+            yy[i] += down * down;
+            xd[i] += across * difference;
+            yd[i] += down * difference;
         }
     }
-    let [sx, sy, sd, xx, xy, yy, xd, yd] = sums.map(|lanes| f64::from(lanes.iter().sum::<f32>()));
+    let sum = |lanes: [f32; BLOCK_SIDE]| f64::from(lanes.iter().sum::<f32>());
+    let [sx, sy, xd, yd] = [sx, sy, xd, yd].map(|lanes| sum(lanes) / 2.0);
+    let ([xx, xy, yy], sd) = ([xx, xy, yy].map(|lanes| sum(lanes) / 4.0), sum(sd));
     let count = (BLOCK_SIDE * BLOCK_SIDE) as f64;
     let (xx, xy, yy) = (xx - sx * sx / count, xy - sx * sy / count, yy - sy * sy / count);
     let (xd, yd) = (xd - sx * sd / count, yd - sy * sd / count);

@@ -40,7 +40,8 @@ fn best(texture: &[f32]) -> f32 {
     if sorted.is_empty() { 0.0 } else { *sorted.select_nth_unstable_by(place, f32::total_cmp).1 }
 }
 
-/// The slopes of a plane over a row of a block, across and down: central differences, edges repeated.
+/// Twice the slopes of a plane over a row of a block, across and down: central differences, edges repeated.
+#[inline]
 pub(crate) fn slopes(plane: &Plane, x: usize, y: usize) -> [[f32; BLOCK_SIDE]; 2] {
     let own = plane.row(y);
     let (above, below) = (plane.row_near(y as isize - 1), plane.row_near(y as isize + 1));
@@ -49,23 +50,29 @@ pub(crate) fn slopes(plane: &Plane, x: usize, y: usize) -> [[f32; BLOCK_SIDE]; 2
     near[0] = own[x.saturating_sub(1)];
     near[1..=BLOCK_SIDE].copy_from_slice(&own[x..][..BLOCK_SIDE]);
     near[BLOCK_SIDE + 1] = own[(x + BLOCK_SIDE).min(own.len() - 1)];
-    let half = |more: u16, less: u16| (i32::from(more) - i32::from(less)) as f32 / 2.0;
-    [std::array::from_fn(|i| half(near[i + 2], near[i])), std::array::from_fn(|i| half(below[i], above[i]))]
+    let [mut across, mut down] = [[0.0; BLOCK_SIDE]; 2];
+    for i in 0..BLOCK_SIDE {
+        // pels have 13 bits
+        across[i] = f32::from(near[i + 2] as i16 - near[i] as i16);
+        down[i] = f32::from(below[i] as i16 - above[i] as i16);
+    }
+    [across, down]
 }
 
 /// The texture of a block in its weaker direction: the smaller eigenvalue of the mean gradient tensor.
 fn weaker(plane: &Plane, block: usize) -> f32 {
     let (x, y) = plane.corner(block);
-    let mut sums = [[0f32; BLOCK_SIDE]; 3];
+    let [mut across, mut both, mut down] = [[0f32; BLOCK_SIDE]; 3];
     for row in y..y + BLOCK_SIDE {
-        let [across, down] = slopes(plane, x, row);
+        let [right, below] = slopes(plane, x, row);
         for i in 0..BLOCK_SIDE {
-            sums[0][i] += across[i] * across[i];
-            sums[1][i] += across[i] * down[i];
-            sums[2][i] += down[i] * down[i];
+            across[i] += right[i] * right[i];
+            both[i] += right[i] * below[i];
+            down[i] += below[i] * below[i];
         }
     }
-    let [across, both, down] = sums.map(|lanes| lanes.iter().sum::<f32>() / PELS);
+    // products of twice the slopes
+    let [across, both, down] = [across, both, down].map(|lanes| lanes.iter().sum::<f32>() / (4.0 * PELS));
     let half = (across - down) / 2.0;
     ((across + down) / 2.0 - (half * half + both * both).sqrt()).max(0.0)
 }
