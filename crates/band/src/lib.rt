@@ -3,6 +3,8 @@
 // search can be done by many at once. In go planes, their sides and, for a band, what stands for both half
 // planes, which is read and not written, and its block rows; out comes the half plane, or words, how many
 // they are and the rows of absolute differences added for them.
+#![tactic(auto)]
+
 ghost use Rattle.std.specs.Prelude.{◌≡◌, length};
 ghost use Rattle.laws.specs.Refusal.{judge};
 ghost use Rattle.plane.specs.Inner.{Small};

@@ -1,5 +1,7 @@
 // A field put into lent bytes in two ways under one promise: a word at a time, as the header's writer does,
 // and one bit after the other. `bench` measures the one against the other; no call of the library goes here.
+#![tactic(auto)]
+
 ghost use Rattle.std.specs.Prelude.{◌≤◌, ◌<◌, ◌≡◌};
 ghost use Rattle.bits.specs.Bits.{bit_of};
 ghost use Rattle.bits.specs.Fields.{field_bits};

@@ -2,6 +2,7 @@
 // core (docs/RULES.md, 'Rust forms to recast' and 'Each place and its form': "Reading goes on from a bit
 // position in the lent header bytes"; standard 4.10.2, 5.9.24). A method takes the struct apart and calls
 // the function on the slice and the position; out come what was read and the position behind it.
+#![tactic(auto)]
 
 ghost use Rattle.std.specs.Prelude.{◌+◌, ◌^◌, ◌≤◌, ◌<◌, ◌≡◌};
 ghost use Rattle.bits.specs.Bits.{bit_at};
@@ -12,7 +13,7 @@ ghost use Rattle.header_read.specs.Called.{models};
 use bits::{BitCursor, Read};
 use header_read::Models;
 
-#[derive(Drop)]
+#[derive(Clone, Copy)]
 pub struct BitReader<'a> {
     pub bytes: &'a [u8],
     pub at: usize,

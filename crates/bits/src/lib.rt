@@ -2,6 +2,8 @@
 // read. Bits go high bit first. In go a bit, a field of 0 to 32 bits or an ns code; out come the
 // cursor behind it and the buffer with those bits and no other bit changed. docs/RULES.md, 'Header' and
 // 'Rust forms to recast'; standard 4.10.2, 4.10.7; encoder/bitwriter.rs.
+#![tactic(auto)]
+
 ghost use Rattle.std.specs.Prelude.{◌+◌, ◌-◌, ◌*◌, ◌/◌, ◌%◌, ◌^◌, ◌≤◌, ◌<◌, length, [], ◌∷◌, ◌≡◌};
 ghost use Rattle.bits.specs.Bits.{bit_at, bit_of, with_bit, put_bits};
 ghost use Rattle.bits.specs.Fields.{field, field_bits, pad_bits};
@@ -12,20 +14,20 @@ use byte_field::BYTE;
 
 pub const BITS_OF_A_BYTE: usize = 8;
 
-#[derive(Drop)]
+#[derive(Clone, Copy)]
 pub struct BitCursor {
     pub at: usize,
 }
 
 // A width, and a number of no more bits.
-#[derive(Drop)]
+#[derive(Clone, Copy)]
 pub struct Field {
     pub n: u32,
     pub value: u32,
 }
 
 // A number read, and the cursor behind it.
-#[derive(Drop)]
+#[derive(Clone, Copy)]
 pub struct Read {
     pub value: u32,
     pub next: BitCursor,
@@ -112,7 +114,7 @@ pub fn bit_length(n: u32) -> u32
 
 // What clause 4.10.7 computes of n: w, the number of its bits, and m, how many symbols have a code
 // of w - 1 bits.
-#[derive(Drop)]
+#[derive(Clone, Copy)]
 struct NsWidth {
     w: u32,
     m: u32,

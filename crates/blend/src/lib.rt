@@ -1,12 +1,14 @@
 // A blend of four pels at eighths (docs/RULES.md, 'Search'), by their bytes: a pel p is 256·h + l, and so is
 // the blend. The weights are 64 in all, so that the high bytes blend to a multiple of 4 each and only the
 // low ones are rounded. Both stay within 16 bits, where a blend of whole pels takes 22.
+#![tactic(auto)]
+
 ghost use Rattle.std.specs.Prelude.{◌≡◌, ◌+◌, ◌/◌, ◌≤◌};
 ghost use Rattle.cost.specs.Inner.{Fractions};
 ghost use Rattle.blend.specs.Inner.{weights_of, weighed, Four, Weighs};
 
 // The weights of four neighbours.
-#[derive(Drop)]
+#[derive(Clone, Copy)]
 pub struct Weights {
     pub w00: u16,
     pub w01: u16,

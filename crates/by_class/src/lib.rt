@@ -2,6 +2,8 @@
 // and a class for each go in; a fit, a model on the grid, a score, a trimmed fit or an election of the
 // named words comes out. Rows 1, 2, 4 and 19 judge the whole list, then the call judges the named
 // words. Order 14 of the change requests.
+#![tactic(auto)]
+
 ghost use Rattle.std.specs.Prelude.{◌≡◌};
 ghost use Rattle.sample.specs.Sample.{sample_of};
 ghost use Rattle.by_class.specs.ByClass.{fitted_by, quantized_by, scored_by, trimmed_by, trimmed_model_by, elected_by};

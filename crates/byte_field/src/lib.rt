@@ -1,5 +1,7 @@
 // Fields inside a byte and a word (docs/RULES.md, 'Header'; standard 4.10.2): a byte with some of its bits
 // replaced, and a byte's first bits with a field behind them.
+#![tactic(auto)]
+
 ghost use Rattle.std.specs.Prelude.{◌+◌, ◌-◌, ◌*◌, ◌/◌, ◌%◌, ◌^◌, ◌≤◌, ◌<◌, ◌≡◌};
 
 // The same, as a width.

@@ -1,6 +1,8 @@
 // The class of a sample (docs/RULES.md, 'Sample word'): which classes there are, and words that hold
 // no class because it stands beside them. A list is judged to its end, with no early return, whatever
 // was found before.
+#![tactic(auto)]
+
 ghost use Rattle.std.specs.Prelude.{◌≡◌};
 ghost use Rattle.laws.specs.Refusal.{either, both};
 ghost use Rattle.sample.specs.Storable.{storable};

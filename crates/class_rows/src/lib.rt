@@ -1,5 +1,7 @@
 // The rows of the calls over the samples of named classes (docs/RULES.md, 'Sets of classes'): rows 1, 2, 4
 // and 19 of a set, a list and its classes, and the answers of a call that is refused.
+#![tactic(auto)]
+
 ghost use Rattle.std.specs.Prelude.{◌≡◌};
 ghost use Rattle.fit.specs.Fitted.{no_type};
 ghost use Rattle.quantize.specs.Quantize.{refused_model};

@@ -1,6 +1,7 @@
 // A set of classes (docs/RULES.md, 'Sets of classes'): a byte whose bit c names class c. In go a set,
 // words and a class for each; out come the words of the named classes, in their order, at the front of
 // a buffer. Order 14 of the change requests.
+#![tactic(auto)]
 
 ghost use Rattle.std.specs.Prelude.{◌≡◌, ◌≤◌, length};
 ghost use Rattle.laws.specs.Chosen.{Front};

@@ -1,6 +1,8 @@
 // The coarse stage of the search for one block (docs/RULES.md, 'Search' and 'Rows added'): 8×8 on half
 // planes, from (0, 0), all offsets within 12. The code holds a motion as the signed one plus 12. Eight
 // candidates side by side are tried at once; where one of them is below the best, one by one.
+#![tactic(auto)]
+
 ghost use Rattle.std.specs.Prelude.{◌+◌, ◌*◌, ◌-◌, ◌≤◌, ◌<◌};
 ghost use Rattle.laws.specs.Loops.{run};
 ghost use Rattle.stage.specs.Early.{coarse_early};

@@ -4,6 +4,8 @@
 // its header reads as, in pels, zoom, degrees and slide, how many samples agree, the score and the bits;
 // then what is stored: the header's bytes and the blocks as the list program prints them; last, whether
 // all of it is right.
+#![tactic(auto)]
+
 ghost use Rattle.std.specs.Prelude.{◌<◌};
 
 use class_set::ALL_CLASSES;
@@ -241,7 +243,7 @@ fn print_type(gm_type: u8) {
 // ---- the election, in words
 
 // The type that is held, IDENTITY for none, and its error.
-#[derive(Drop)]
+#[derive(Clone, Copy)]
 struct Held {
     gm_type: u8,
     error: f64,

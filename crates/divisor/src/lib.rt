@@ -1,6 +1,8 @@
 // The division of a warp's numbers by slot 2 (clause 7.11.3.7 of the standard, resolve divisor), with the
 // rounding of section 4.7: a table of reciprocals, its factor and its shift. Answers to docs/RULES.md,
 // 'Shear'.
+#![tactic(auto)]
+
 mod table;
 
 ghost use Rattle.std.specs.Prelude.{◌≡◌, ◌+◌, ◌*◌, ◌^◌, ◌<◌, ◌≤◌, nat_abs, ◌*ℤ◌};

@@ -1,6 +1,8 @@
 // The cost between pels: 16×16, bilinear at eighths (docs/RULES.md, 'Search'; the closure `sad_subpel` of
 // the Rust's `collect_motion_samples`). In go the best cost so far, a block of the input, the high and the
 // low bytes of a window of the reference and a motion; out come the cost and the rows added.
+#![tactic(auto)]
+
 ghost use Rattle.std.specs.Prelude.{◌+◌, ◌/◌, ◌%◌};
 ghost use Rattle.cost.specs.Ended.{ended};
 ghost use Rattle.cost.specs.Inner.{bilinear_window_costs, Sums};

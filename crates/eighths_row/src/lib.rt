@@ -1,5 +1,7 @@
 // A row of 16 between pels (docs/RULES.md, 'Search'): predicted from the high and the low bytes of two rows
 // of a window, and compared with the input's.
+#![tactic(auto)]
+
 ghost use Rattle.std.specs.Prelude.{◌≡◌, ◌+◌, ◌/◌, ◌%◌, length, get_or};
 ghost use Rattle.laws.specs.Parts.{listing};
 ghost use Rattle.plane.specs.Inner.{Is};

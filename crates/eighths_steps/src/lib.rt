@@ -1,6 +1,8 @@
 // The steps of one block's search in eighths (docs/RULES.md, 'Search' and 'Rows added'): the eight
 // neighbours of the best held when a step begins, by steps 4, 2, 1. The code holds a motion as the signed
 // one plus 223.
+#![tactic(auto)]
+
 ghost use Rattle.std.specs.Prelude.{◌+◌, ◌*◌, ◌-◌, ◌≤◌, ◌<◌};
 ghost use Rattle.blend.specs.Inner.{window_from};
 ghost use Rattle.stage.specs.Inner as inner;

@@ -3,6 +3,8 @@
 // encoder/global_motion.rs; docs/RULES.md, 'Election', rows 1, 4 and 16). Who is passed over and who is
 // held, for `word_elect` too; and the election over numbers in a call's own memory, which lent samples
 // take. Who is held is an answer whose numbers are still x first.
+#![tactic(auto)]
+
 ghost use Rattle.std.specs.Prelude.{◌≡◌};
 ghost use Rattle.elect.specs.Elect.{identity_params, is_identity, invalid_shear, unfit, nobody, stopped, beats, held_after, elect_refusal, as_stored};
 
@@ -22,7 +24,7 @@ const CLASS_UPGRADE_MIN_GAIN: f64 = 0.02;
 
 // A row of the table of refusals (0: none), the elected type, its six numbers as stored, and its score.
 #[repr(C)]
-#[derive(Drop)]
+#[derive(Clone, Copy)]
 pub struct Elected {
     pub refusal: u32,
     pub gm_type: u8,

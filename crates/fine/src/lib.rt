@@ -1,6 +1,8 @@
 // The fine stages of the search for one block (docs/RULES.md, 'Search' and 'Rows added'): 16×16 on planes,
 // by full pels from a centre on, then in eighths from eight times the winner. A stage copies the block and
 // a window of the reference, and no candidate after that clamps a coordinate.
+#![tactic(auto)]
+
 ghost use Rattle.std.specs.Prelude.{◌+◌, ◌*◌, ◌-◌};
 ghost use Rattle.plane.specs.Clamp.{offset};
 ghost use Rattle.stage.specs.Early.{fine_early};

@@ -4,6 +4,7 @@
 // 'Records' (Model), 'Fits and score', rows 1, 4 and 6. Each word is made into its sample, which goes to
 // the fit's `step` by value. A walk over samples themselves takes the same `step` for each: it begins
 // with the fit's `begin` and ends with its `ends`.
+#![tactic(auto)]
 
 ghost use Rattle.std.specs.Prelude.{◌≡◌, ◌≤◌, pos, length};
 ghost use Rattle.std.specs.Float.{binary64};
@@ -38,7 +39,7 @@ pub const SINGULAR: u32 = 6;
 
 // A fitted model, its numbers by the slots of the standard. A rotation-zoom's m4 is −m3 and its m5 is
 // m2.
-#[derive(Drop)]
+#[derive(Clone, Copy)]
 pub enum Fitted {
     Refused(u32),
     Translation {
@@ -61,13 +62,13 @@ pub enum Fitted {
     },
 }
 
-#[derive(Drop)]
+#[derive(Clone, Copy)]
 pub struct TranslationSums {
     pub su: f64,
     pub sv: f64,
 }
 
-#[derive(Drop)]
+#[derive(Clone, Copy)]
 pub struct RotZoomSums {
     pub sx: f64,
     pub sy: f64,
@@ -78,7 +79,7 @@ pub struct RotZoomSums {
     pub sv: f64,
 }
 
-#[derive(Drop)]
+#[derive(Clone, Copy)]
 pub struct AffineSums {
     pub sx: f64,
     pub sy: f64,

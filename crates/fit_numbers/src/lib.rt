@@ -1,5 +1,7 @@
 // A fitted model as the numbers that pass to and from C: its refusal and six numbers, and the model of
 // a type code and six numbers.
+#![tactic(auto)]
+
 ghost use Rattle.std.specs.Prelude.{◌≡◌};
 ghost use Rattle.fit_numbers.specs.Numbers.{numbers_of, fitted_of};
 
@@ -8,7 +10,7 @@ use fit::{AFFINE, Fitted, NO_SUCH_CODE, ROTZOOM, TRANSLATION};
 // A fitted model in numbers: two of a translation, four of a rotation-zoom, six of an affine model,
 // zeros after them.
 #[repr(C)]
-#[derive(Drop)]
+#[derive(Clone, Copy)]
 pub struct FitAnswer {
     pub refusal: u32,
     pub numbers: [f64; 6],

@@ -1,6 +1,8 @@
 // Five bytes of a lent slice as one number, with zeros past the end, and the bits of a field in them
 // (docs/RULES.md, 'Reading by the standard'; standard 4.10.2): a field of 32 bits lies in five bytes,
 // wherever in the first it begins.
+#![tactic(auto)]
+
 ghost use Rattle.std.specs.Prelude.{◌+◌, ◌-◌, ◌*◌, ◌/◌, ◌%◌, ◌^◌, ◌≤◌, ◌<◌, length, ◌≡◌};
 ghost use Rattle.five_bytes.specs.Inner.{byte_of, five_of};
 

@@ -3,6 +3,8 @@
 // their bits; a key frame has none, needs no byte and no prior, and is read as seven identities.
 // Answers to docs/RULES.md, 'Key frames'; clause 5.9.24, where FrameIsIntra holds;
 // `read_global_motion_params` of uncompressed_header_tail.rs.
+#![tactic(auto)]
+
 ghost use Rattle.std.specs.Prelude.{◌≡◌, length};
 ghost use Rattle.frame_header.specs.Frame.{frame_written, frame_after, frame_models};
 ghost use Rattle.frame_header.specs.Inner.{key_models};

@@ -1,5 +1,7 @@
 // The search of one block by full pels (docs/RULES.md, 'Search' and 'Rows added'): 16×16 on planes, from a
 // centre, the others within 3 of it. The code holds a motion as the signed one plus 27.
+#![tactic(auto)]
+
 ghost use Rattle.std.specs.Prelude.{◌+◌, ◌-◌, ◌≤◌, ◌<◌};
 ghost use Rattle.stage.specs.Inner.{full_turn, full_pel_in};
 ghost use Rattle.stage.specs.Inner.{Next, Lies, Fine, Roomy};

@@ -1,5 +1,7 @@
 // The generator of noise (docs/RULES.md, 'Practice belt'): a state of 32 bits, its next one, and the pel that
 // a state gives.
+#![tactic(auto)]
+
 ghost use Rattle.std.specs.Prelude.{◌≡◌, ◌*◌, ◌/◌, ◌%◌, ◌^◌};
 ghost use Rattle.generator.specs.Generator.{stepped, next, upper_half};
 

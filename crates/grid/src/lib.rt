@@ -1,6 +1,8 @@
 // The grid of codable model numbers: a type, flag, slot and any i32 go in, the nearest number that
 // a header can carry comes out. Answers to docs/RULES.md, 'Grid', clause 5.9.25 of the standard, and
 // `global_param_bits` and `quantize_global_param` of frame_obu.rs.
+#![tactic(auto)]
+
 ghost use Rattle.std.specs.Prelude.{◌≡◌, ◌*◌, ◌^◌, ◌<◌, ◌≤◌, pos, nat_abs, ◌-ℤ◌, ◌+ℤ◌, ◌*ℤ◌};
 ghost use Rattle.grid.specs.Grid.{param_bits, abs_bits, prec_bits, centre, negative, step, nearest_ordinal, signed, quantize, quantized, Row, rejected, answer};
 ghost use Rattle.grid.specs.Symbols.{symbols, symbol_of, number_of};
@@ -29,21 +31,21 @@ const NO_SUCH_CODE: u32 = 4;
 const NO_SUCH_SLOT: u32 = 5;
 
 // absBits and precBits of a slot.
-#[derive(Drop)]
+#[derive(Clone, Copy)]
 pub struct ParamBits {
     pub abs_bits: u32,
     pub prec_bits: u32,
 }
 
 // S, and the place of the prior.
-#[derive(Drop)]
+#[derive(Clone, Copy)]
 pub struct SlotSymbols {
     pub mx: u32,
     pub r: u32,
 }
 
 // S, the place of the prior, and the symbol of the number.
-#[derive(Drop)]
+#[derive(Clone, Copy)]
 pub struct Coded {
     pub mx: u32,
     pub r: u32,
@@ -51,7 +53,7 @@ pub struct Coded {
 }
 
 // The slots that a type carries, in the order of reading: the first `count` of `order`.
-#[derive(Drop)]
+#[derive(Clone, Copy)]
 pub struct SlotOrder {
     pub count: usize,
     pub order: [u8; 6],
@@ -59,7 +61,7 @@ pub struct SlotOrder {
 
 // A row of the table of refusals (0: none), and the quantized number.
 #[repr(C)]
-#[derive(Drop)]
+#[derive(Clone, Copy)]
 pub struct Quantized {
     pub refusal: u32,
     pub value: i32,

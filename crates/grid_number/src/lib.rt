@@ -1,6 +1,8 @@
 // The grid number of a binary64: any number goes in, the i32 nearest to its product with 65536 comes
 // out, half away from zero. Answers to docs/RULES.md, 'Fits and score' (Grid number), and to the two
 // lines of `quantize_model` that round and clamp (encoder/global_motion.rs).
+#![tactic(auto)]
+
 ghost use Rattle.std.specs.Prelude.{◌≡◌, ◌≤◌, true, false, T};
 ghost use Rattle.std.specs.Float.{binary64};
 ghost use Rattle.std.specs.Float.Ieee.{fits, lt};

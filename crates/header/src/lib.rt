@@ -2,6 +2,8 @@
 // prior go in, bits come out. Answers to docs/RULES.md, 'Header' and rows 2, 4, 14, 7, 8, 3; clauses 5.9.24
 // and 5.9.25 of the standard; `encode_inter_global_motion` and `write_global_param` of
 // encoder/frame_obu.rs. `specs/Reading` also states what the standard reads.
+#![tactic(auto)]
+
 ghost use Rattle.std.specs.Prelude.{◌≡◌, ◌+◌, ◌≤◌, ◌<◌, length, take};
 ghost use Rattle.laws.specs.Buffer.{onto};
 ghost use Rattle.laws.specs.Refusal.{judge};
@@ -35,7 +37,7 @@ const PRIOR_OUT: u32 = 8;
 
 // A row of the table of refusals (0: none), and the bits written.
 #[repr(C)]
-#[derive(Drop)]
+#[derive(Clone, Copy)]
 pub struct Written {
     pub refusal: u32,
     pub bits: usize,

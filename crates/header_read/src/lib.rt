@@ -2,6 +2,8 @@
 // the types and numbers of seven models and the bits consumed come out. Answers to docs/RULES.md,
 // 'Reading by the standard' and rows 2, 4, 8, 9; clauses 5.9.24 and 5.9.25 of the
 // standard; `read_global_motion_params` and `read_global_param` of uncompressed_header_tail.rs.
+#![tactic(auto)]
+
 ghost use Rattle.std.specs.Prelude.{◌≡◌, ◌+◌, ◌*◌, ◌^◌, ◌≤◌, ◌<◌, nat_abs, neg_ℤ, length};
 ghost use Rattle.laws.specs.Placed.{placed};
 ghost use Rattle.bits.specs.Bits.{bit_at};
@@ -32,7 +34,7 @@ const ENDS_FIRST: u32 = 9;
 
 // A row of the table of refusals (0: none), the seven types and models, and the bits consumed.
 #[repr(C)]
-#[derive(Drop)]
+#[derive(Clone, Copy)]
 pub struct Models {
     pub refusal: u32,
     pub types: [u8; 7],
@@ -41,28 +43,28 @@ pub struct Models {
 }
 
 // A number read, and the cursor behind it.
-#[derive(Drop)]
+#[derive(Clone, Copy)]
 struct Param {
     value: i32,
     next: BitCursor,
 }
 
 // The numbers of a type's slots in the order of reading, and the cursor behind them.
-#[derive(Drop)]
+#[derive(Clone, Copy)]
 struct Numbers {
     values: [i32; 6],
     next: BitCursor,
 }
 
 // A type read, and the cursor behind its bits.
-#[derive(Drop)]
+#[derive(Clone, Copy)]
 struct TypeRead {
     gm_type: u8,
     next: BitCursor,
 }
 
 // A model read, and the cursor behind it.
-#[derive(Drop)]
+#[derive(Clone, Copy)]
 struct Model {
     gm_type: u8,
     six: [i32; 6],
@@ -70,7 +72,7 @@ struct Model {
 }
 
 // Seven models read, and the cursor behind them.
-#[derive(Drop)]
+#[derive(Clone, Copy)]
 struct Seven {
     types: [u8; 7],
     params: [i32; 42],

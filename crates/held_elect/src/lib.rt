@@ -1,5 +1,7 @@
 // An election over samples held as numbers in a call's own memory (docs/RULES.md, 'Election'), which lent
 // samples take: the turns of the three types, each after trimming.
+#![tactic(auto)]
+
 ghost use Rattle.std.specs.Prelude.{◌≡◌, ◌≤◌};
 ghost use Rattle.sample.specs.Word.{most_samples};
 ghost use Rattle.fit.specs.Sums.{itself};

@@ -1,6 +1,8 @@
 // A fit after trimming over samples held as numbers in a call's own memory (docs/RULES.md, 'Trimming'), which
 // lent samples take. Nothing is moved there: a sample is passed over where its squared residual is above a
 // limit. Before the first fit every square is 0.0 and so is the limit.
+#![tactic(auto)]
+
 ghost use Rattle.std.specs.Prelude.{◌≡◌, ◌≤◌, ◌<◌, length};
 ghost use Rattle.laws.specs.Buffer.{onto};
 ghost use Rattle.laws.specs.Loops.{fold};

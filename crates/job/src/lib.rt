@@ -3,6 +3,8 @@
 // its reference. In go a frame pair, the settings, a class for each sample, the six other types and
 // models, and the prior; lent are two half planes, words, blocks and header. It calls the public calls
 // alone; its rows are in the crate `job_task`. The blocks are of form 2, or of the form that a run holds.
+#![tactic(auto)]
+
 ghost use Rattle.std.specs.Prelude.{◌≡◌};
 ghost use Rattle.class_set.specs.Set.{chosen};
 ghost use Rattle.job_task.specs.Task.{task, task_in, lend};

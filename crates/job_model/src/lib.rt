@@ -2,6 +2,8 @@
 // settings, the six other types and models and the sample words go in; the seven types and models, as
 // stored, and the score of the job's own come out. Its own is fitted for the type asked for, or elected;
 // either way it is an answer of type, six numbers as stored and score.
+#![tactic(auto)]
+
 ghost use Rattle.std.specs.Prelude.{◌≡◌, true, false};
 ghost use Rattle.job_model.specs.Modelled.{modelled, not_modelled};
 ghost use Rattle.job_model.specs.Inner.{Fitting, Trimming, Asking, grid_answer, own_answer, Modelling, Assembling, modelled_with};
@@ -14,7 +16,7 @@ pub mod assemble; // assemble.rt: seven models from six others and one
 
 // A row of the table of refusals (0: none), the seven types and models in rising order of reference,
 // and the score.
-#[derive(Drop)]
+#[derive(Clone, Copy)]
 pub struct Modelled {
     pub refusal: u32,
     pub types: [u8; 7],

@@ -2,8 +2,10 @@
 // The report is declared here; the call that makes it is `job::job`.
 // A row of the table of refusals (0: none), the seven types and models in rising order of reference
 // as stored, the score of the fitted one, the bits of the header, and how many samples there are.
+#![tactic(auto)]
+
 #[repr(C)]
-#[derive(Drop)]
+#[derive(Clone, Copy)]
 pub struct Report {
     pub refusal: u32,
     pub types: [u8; 7],

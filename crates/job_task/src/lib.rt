@@ -4,6 +4,8 @@
 // of a run in form 1. In go the settings, the form of the blocks, how long planes and lent buffers are, and
 // the lists that are looked into; out comes the first row that holds, 0 for none. The rows are judged in
 // groups; a group is a function.
+#![tactic(auto)]
+
 ghost use Rattle.std.specs.Prelude.{◌≡◌, ◌*◌, ◌≤◌, length, ltb};
 ghost use Rattle.laws.specs.Refusal.{judge};
 ghost use Rattle.plane.specs.Inner.{Small};
@@ -55,7 +57,7 @@ const TOO_FEW: u32 = 15;
 // made from (class c is bit c; 31: all of them), and the bit of the header's first byte at which writing
 // begins.
 #[repr(C)]
-#[derive(Drop)]
+#[derive(Clone, Copy)]
 pub struct Settings {
     pub frame: u16,
     pub gm_type: u8,
@@ -68,7 +70,7 @@ pub struct Settings {
 }
 
 // The sides of the planes, and how long planes and lent buffers are.
-#[derive(Drop)]
+#[derive(Clone, Copy)]
 pub struct Sizes {
     pub width: usize,
     pub height: usize,

@@ -1,5 +1,7 @@
 // A key frame's global motion (docs/RULES.md, 'Key frames'; clause 5.9.24, where FrameIsIntra holds): the
 // rows of types and models that aren't all identities, and the seven identities that it is read as.
+#![tactic(auto)]
+
 ghost use Rattle.std.specs.Prelude.{◌≡◌, ◌*◌, ◌≤◌, length};
 ghost use Rattle.laws.specs.Refusal.{judge};
 ghost use Rattle.key_frame.specs.Key.{identities, key_lengths_wrong, some_type, not_identity, key_code_rows, key_model_rows, key_refusal};

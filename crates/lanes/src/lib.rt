@@ -4,6 +4,8 @@
 // the reference and where in it lane 0 is laid; out come the rows that the eight add together, each as far
 // as it goes alone, and how many of them end below the best. Where no pel is over 8,191 a row of eight
 // pels fits 16 bits, and half as many steps add it.
+#![tactic(auto)]
+
 ghost use Rattle.std.specs.Prelude.{◌≡◌, ◌*◌, ◌≤◌, ◌<◌, length, get_or};
 ghost use Rattle.laws.specs.Loops.{sum};
 ghost use Rattle.plane.specs.Difference.{difference};
@@ -26,7 +28,7 @@ const REACHED: usize = 15;
 const LOW: u16 = 8191;
 
 // Rows that eight candidates add together, and how many of the eight end below the best.
-#[derive(Drop)]
+#[derive(Clone, Copy)]
 pub struct Counted {
     pub rows: u32,
     pub below: u32,

@@ -10,7 +10,7 @@ use native.Mathlib.Nat.{mul-pos, mul-lt-mul_of_pos_right, mul-le-mul_right, lt_o
 use native.Mathlib.Omega.{arith}
 use borrow.Author.Tests.{lt-ltb, le-ltb, ne_eqb}
 use lib.Dec.{T, ltb}
-use lib.Ieee.{Float, fin, Format, low, unlike, up, down, of_bits, round, neg, sum, add, sub, mul, div, fits, to_bits}
+use lib.Ieee.{Float, fin, Format, low, unlike, up, down, of_bits, round, neg, sum, add, sub, mul, div, fits, to_bits, inf, nan}
 use lib.Ieee.Bits.{of_bits-to_bits}
 use lib.Ieee.Exact.{HasValue}
 use lib.Ieee.Fits.{up_pos, down_pos}
@@ -68,10 +68,16 @@ module _ (f : Format) where
       (widened m (up e) (down e) a c (down d) v.1)
       (widened n (up d) (down d) b c (down e) w.1 ∙ ap (λ (z : ℕ). b * z) (mul_comm (down d) (down e)))
       ∙ rw (v.0, w.0)
+  add-of-values nan y s t a b c c0 v w = elim v [ ]
+  add-of-values (inf _) y s t a b c c0 v w = elim v [ ]
+  add-of-values (fin s' m e) nan s t a b c c0 v w = elim w [ ]
+  add-of-values (fin s' m e) (inf _) s t a b c c0 v w = elim w [ ]
 
   pub sub-of-values : (x y : Float) (s t : Bool) (a b c : ℕ) → 0 < c → HasValue x s a c → HasValue y t b c → sub f x y ≡ sum f s a (not t) b c
   unfolding sub neg
   sub-of-values x (fin t' n d) s t a b c c0 v w = add-of-values x (fin (not t') n d) s (not t) a b c c0 v (ap not w.0, w.1)
+  sub-of-values x nan s t a b c c0 v w = elim w [ ]
+  sub-of-values x (inf _) s t a b c c0 v w = elim w [ ]
 
   pub mul-of-values : (x y : Float) (s t : Bool) (a b c d : ℕ) → 0 < c → 0 < d → HasValue x s a c → HasValue y t b d
       → mul f x y ≡ round f (unlike s t) (a * b) (c * d)
@@ -80,6 +86,10 @@ module _ (f : Format) where
       rw (v.0, w.0)
       (round_same f (unlike s t) (m * up e * (n * up g)) (down e * down g) (a * b) (c * d) (mul-pos (down_pos e) (down_pos g)) (mul-pos c0 d0)
       (mul-mul-mul_comm (m * up e) (n * up g) c d ∙ rw (v.1, w.1) (mul-mul-mul_comm a (down e) b (down g))))
+  mul-of-values nan y s t a b c d c0 d0 v w = elim v [ ]
+  mul-of-values (inf _) y s t a b c d c0 d0 v w = elim v [ ]
+  mul-of-values (fin s' m e) nan s t a b c d c0 d0 v w = elim w [ ]
+  mul-of-values (fin s' m e) (inf _) s t a b c d c0 d0 v w = elim w [ ]
 
   pub div-of-values : (x y : Float) (s t : Bool) (a b c d : ℕ) → 0 < b → 0 < c → 0 < d → HasValue x s a c → HasValue y t b d
       → div f x y ≡ round f (unlike s t) (a * d) (b * c)
@@ -90,6 +100,10 @@ module _ (f : Format) where
       (round_same f (unlike s t) (m * up e * down g) (n * up g * down e) (a * d) (b * c)
       (mul-pos (mul-pos (let h : 0 < n = omega arith in h) (up_pos g)) (down_pos e)) (mul-pos b0 c0)
       (divided (m * up e) (down e) (n * up g) (down g) a b c d v.1 w.1))
+  div-of-values nan y s t a b c d b0 c0 d0 v w = elim v [ ]
+  div-of-values (inf _) y s t a b c d b0 c0 d0 v w = elim v [ ]
+  div-of-values (fin s' m e) nan s t a b c d b0 c0 d0 v w = elim w [ ]
+  div-of-values (fin s' m e) (inf _) s t a b c d b0 c0 d0 v w = elim w [ ]
 
 -- ---- one value, one number
 
@@ -107,6 +121,10 @@ bits_of_value f (fin s' m e) (fin t' n d) s a c c0 v w =
       div_same (m * up e * 2 ^ low f) (down e) (n * up d * 2 ^ low f) (down d) (down_pos e) (down_pos d)
           (mul_right_comm (m * up e) (2 ^ low f) (down d) ∙ ap (λ (z : ℕ). z * 2 ^ low f) same ∙ mul_right_comm (n * up d) (down e) (2 ^ low f)),
     )
+bits_of_value f nan y s a c c0 v w = elim v [ ]
+bits_of_value f (inf _) y s a c c0 v w = elim v [ ]
+bits_of_value f (fin s' m e) nan s a c c0 v w = elim w [ ]
+bits_of_value f (fin s' m e) (inf _) s a c c0 v w = elim w [ ]
 
 pub one_number : (f : Format) (x y : Float) (s : Bool) (a c : ℕ) → 0 < c → T (fits f x) → T (fits f y) → HasValue x s a c → HasValue y s a c → x ≡ y
 one_number f x y s a c c0 p q v w = sym (of_bits-to_bits f x p) ∙ ap (of_bits f) (bits_of_value f x y s a c c0 v w) ∙ of_bits-to_bits f y q
@@ -114,3 +132,5 @@ one_number f x y s a c c0 p q v w = sym (of_bits-to_bits f x p) ∙ ap (of_bits 
 -- a fraction enlarged
 pub enlarged : (x : Float) (s : Bool) (a c k : ℕ) → HasValue x s a c → HasValue x s (a * k) (c * k)
 enlarged (fin t m e) s a c k v = (v.0, sym (mul_assoc (m * up e) c k) ∙ ap (λ (z : ℕ). z * k) v.1 ∙ mul_right_comm a (down e) k)
+enlarged nan s a c k v = elim v [ ]
+enlarged (inf _) s a c k v = elim v [ ]

@@ -2,6 +2,7 @@
 // words, each sample standing for itself (docs/RULES.md, 'Election', rows 1, 4 and 16;
 // `estimate_global_motion`, encoder/global_motion.rs). The call is one walk: it stores each sample's four
 // numbers in memory of its own, and ends with the election of those. A list that is too long isn't walked.
+#![tactic(auto)]
 
 ghost use Rattle.std.specs.Prelude.{◌≡◌};
 ghost use Rattle.fit.specs.Sums.{itself};

@@ -2,6 +2,7 @@
 // the calls over sample words, each sample standing for itself (docs/RULES.md, 'Fits and score', rows 1,
 // 4 and 6; encoder/global_motion.rs). Each call is one walk: it begins, takes a step for each sample,
 // and ends with the answer or its refusal. A list that is too long isn't walked.
+#![tactic(auto)]
 
 ghost use Rattle.std.specs.Prelude.{◌≡◌, length};
 ghost use Rattle.fit.specs.Sums.{count_as, itself};
@@ -19,14 +20,14 @@ use score::{Score, Scoring};
 
 // A model of six numbers at 16 fraction bits.
 #[repr(C)]
-#[derive(Drop)]
+#[derive(Clone, Copy)]
 pub struct Params {
     pub numbers: [i32; 6],
 }
 
 // The type code and the numbers of a fitted model, and the precision flag of its grid.
 #[repr(C)]
-#[derive(Drop)]
+#[derive(Clone, Copy)]
 pub struct ToQuantize {
     pub kind: u8,
     pub flag: u8,

@@ -3,6 +3,7 @@
 // and 19, then those of the call). A sample is lent as its four numbers, x, y, u, v. Plain fits, models
 // and scores walk the list and take the named samples; trims and the election gather the named samples'
 // numbers in memory of their own. Order 14 of the change requests.
+#![tactic(auto)]
 
 ghost use Rattle.std.specs.Prelude.{◌≡◌, ◌≤◌, length};
 ghost use Rattle.sample.specs.Word.{most_samples};
@@ -26,7 +27,7 @@ use trim::{Trimmed, TrimmedModel};
 use trim_numbers::TrimmedAnswer;
 
 // A row of the table of refusals (0: none), and how many samples were gathered.
-#[derive(Drop)]
+#[derive(Clone, Copy)]
 pub struct Judged {
     pub refusal: u32,
     pub count: usize,

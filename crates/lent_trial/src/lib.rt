@@ -1,6 +1,7 @@
 // The calls over lent samples on the first n samples of an array, for callers that have no lent slice
 // of samples: each lends that part and hands on the answer (docs/RULES.md, 'Each place and its form').
 // The array has room for one sample more than a list may have.
+#![tactic(auto)]
 
 ghost use Rattle.std.specs.Prelude.{◌≤◌, ◌≡◌, length, take};
 ghost use Rattle.fit.specs.Fitted.{fit_answer, translation_from, rot_zoom_from, affine_from};

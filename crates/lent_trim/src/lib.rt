@@ -2,6 +2,7 @@
 // over sample words, each sample standing for itself (docs/RULES.md, 'Trimming', rows 1, 4, 6, 15 and 16;
 // `candidate_for`, encoder/global_motion.rs). Each call is one walk: it stores each sample's four numbers
 // in memory of its own, and ends with the trim of those. A list that is too long isn't walked.
+#![tactic(auto)]
 
 ghost use Rattle.std.specs.Prelude.{◌≡◌};
 ghost use Rattle.fit.specs.Sums.{itself};
@@ -15,7 +16,7 @@ use trim_numbers::TrimmedAnswer;
 
 // The type code of a fit, and the precision flag of its grid.
 #[repr(C)]
-#[derive(Drop)]
+#[derive(Clone, Copy)]
 pub struct ToTrim {
     pub kind: u8,
     pub flag: u8,

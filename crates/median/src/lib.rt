@@ -1,6 +1,7 @@
 // The median of a list of numbers without sign, and whether each number of a list is finite
 // (docs/RULES.md, 'Trimming'). The list isn't moved: numbers without sign stand in the order of their
 // bit patterns, so the median's pattern is bisected by counting how many numbers lie below.
+#![tactic(auto)]
 
 ghost use Rattle.std.specs.Prelude.{◌≡◌, ◌+◌, ◌<◌};
 ghost use Rattle.std.specs.Float.Ieee.Scale.{finite};

@@ -2,6 +2,8 @@
 // holds comes out; so for the bit at which a header begins. Answers to docs/RULES.md, 'Header' (the
 // slots of a type, the pair, the start) and rows 4, 14, 7 and 8; clause 5.9.24; the assertions of
 // `write_global_param` and `encode_inter_global_motion`.
+#![tactic(auto)]
+
 ghost use Rattle.std.specs.Prelude.{◌≡◌, ◌+◌, ◌*◌, ◌^◌, ◌≤◌, ◌<◌, ltb, nat_abs, neg_ℤ, length};
 ghost use Rattle.models.specs.Integers.{equal};
 ghost use Rattle.laws.specs.Below.{any_below};

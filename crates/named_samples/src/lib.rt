@@ -2,6 +2,7 @@
 // each and a class for each go in; out come the sums of the fits, of the refit and of the score over
 // the named samples, one loop each, or the named samples' numbers in memory of the call's own. Order 14
 // of the change requests.
+#![tactic(auto)]
 
 ghost use Rattle.std.specs.Prelude.{◌≡◌, ◌≤◌, length};
 ghost use Rattle.laws.specs.Binary64.{nought};

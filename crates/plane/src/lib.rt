@@ -3,6 +3,8 @@
 // half plane, written from the front of a lent buffer, or a window: a square of pels about a place, the
 // coordinates of each clamped to the plane. An offset is a natural number, the signed one plus a bias,
 // so that a coordinate clamps at 0 by one test.
+#![tactic(auto)]
+
 ghost use Rattle.std.specs.Prelude.{◌≡◌, ◌+◌, ◌*◌, ◌-◌, ◌/◌, ◌<◌, min, length, get_or};
 ghost use Rattle.laws.specs.Buffer.{onto};
 ghost use Rattle.laws.specs.Placed.{placed};
@@ -19,14 +21,14 @@ pub const BLOCK: usize = 16;
 pub const HALF_BLOCK: usize = 8;
 
 // The sides of a plane.
-#[derive(Drop)]
+#[derive(Clone, Copy)]
 pub struct Sides {
     pub width: usize,
     pub height: usize,
 }
 
 // A place in a plane of these sides: a pel, or the first pel of a row or of a block.
-#[derive(Drop)]
+#[derive(Clone, Copy)]
 pub struct Place {
     pub width: usize,
     pub height: usize,
@@ -35,7 +37,7 @@ pub struct Place {
 }
 
 // An offset as the code holds it: each number is the signed one plus a bias.
-#[derive(Drop)]
+#[derive(Clone, Copy)]
 pub struct Offset {
     pub y: usize,
     pub x: usize,

@@ -1,6 +1,8 @@
 // A belt to practise on (docs/RULES.md, 'Practice belt'; rows 1, 18 and 3). In go a seed, the sides of
 // a plane and a motion in whole pels; out come, in two lent buffers, a reference plane of noise and an
 // input plane, whose pels are the reference pels that lie so far away, clamped as the search clamps.
+#![tactic(auto)]
+
 ghost use Rattle.std.specs.Prelude.{◌≡◌, ◌*◌, ◌≤◌, nat_abs, length};
 ghost use Rattle.plane.specs.Inner.{Small};
 ghost use Rattle.practice.specs.Call.{too_far, too_short, refusal, made, input_left, reference_left};
@@ -19,7 +21,7 @@ const TOO_SHORT: u32 = 3;
 
 // The refusal's number, 0 for none, and how many pels each plane has.
 #[repr(C)]
-#[derive(Drop)]
+#[derive(Clone, Copy)]
 pub struct Made {
     pub refusal: u32,
     pub pels: usize,

@@ -1,6 +1,8 @@
 // What the search finds on a practice belt (docs/RULES.md, 'Practice belt'): seed 1, 64 × 64 pels, 3 pels
 // down and 5 to the left. A line for each sample, as the list program prints it: row, column, v and u
 // found, then v and u made, in eighths. The belt is noise, so that not every motion made is found.
+#![tactic(auto)]
+
 use libc::STDOUT_FILENO;
 
 const SEED: u32 = 1;

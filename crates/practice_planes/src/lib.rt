@@ -1,5 +1,7 @@
 // The two planes of a practice belt (docs/RULES.md, 'Practice belt'): a reference plane of noise, and an
 // input plane, whose pels are the reference pels that lie so far away, clamped as the search clamps.
+#![tactic(auto)]
+
 ghost use Rattle.std.specs.Prelude.{◌≡◌, ◌*◌, ◌≤◌, length};
 ghost use Rattle.laws.specs.Buffer.{onto};
 ghost use Rattle.laws.specs.Placed.{placed};

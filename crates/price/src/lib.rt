@@ -2,6 +2,8 @@
 // of the slot's ordinals have a code of 4 bits, of 5 and so on comes out. Of a frame: what its writer
 // takes goes in, without start and buffer; how many bits it would write comes out. Answers to
 // docs/RULES.md, 'Prices', and rows 2, 4, 5, 7 and 8; clauses 5.9.24 to 5.9.28.
+#![tactic(auto)]
+
 ghost use Rattle.std.specs.Prelude.{◌≡◌, false, ◌+◌, ◌≤◌};
 ghost use Rattle.laws.specs.Buffer.{onto};
 ghost use Rattle.laws.specs.Parts.{listing};
@@ -37,7 +39,7 @@ const PRIOR_OUT: u32 = 8;
 // A row of the table of refusals (0: none); how many lengths are listed; the ordinals whose code has 4
 // bits, 5 and so on, and zeros behind the last length.
 #[repr(C)]
-#[derive(Drop)]
+#[derive(Clone, Copy)]
 pub struct PriceList {
     pub refusal: u32,
     pub lengths: usize,
@@ -46,7 +48,7 @@ pub struct PriceList {
 
 // A row of the table of refusals (0: none), and the bits that a frame's header takes.
 #[repr(C)]
-#[derive(Drop)]
+#[derive(Clone, Copy)]
 pub struct Price {
     pub refusal: u32,
     pub bits: usize,

@@ -1,6 +1,8 @@
 // A fitted model on the grid of codable numbers: a fitted model, a flag and sample words go in, six
 // numbers at 16 fraction bits come out, x first. Answers to docs/RULES.md, 'Fits and score' and
 // 'Header' (the row-first exchange), rows 1 and 4, and to `quantize_model` (encoder/global_motion.rs).
+#![tactic(auto)]
+
 ghost use Rattle.std.specs.Prelude.{◌≡◌, ◌≤◌, nat_abs, length};
 ghost use Rattle.sample.specs.Word.{most_samples};
 ghost use Rattle.quantize.specs.Quantize.{slot_of, rot_zoom_linear, identity_linear, linear_of, continuous_linear, mean_motion, refitted, params_of, params};
@@ -12,7 +14,7 @@ use sample::MotionSample;
 use score::ContinuousModel;
 
 // Slots 2 to 5 of a model.
-#[derive(Drop)]
+#[derive(Clone, Copy)]
 pub struct Linear {
     pub p2: i32,
     pub p3: i32,
@@ -21,7 +23,7 @@ pub struct Linear {
 }
 
 // A motion in pels.
-#[derive(Drop)]
+#[derive(Clone, Copy)]
 pub struct Motion {
     pub u: f64,
     pub v: f64,
@@ -29,7 +31,7 @@ pub struct Motion {
 
 // A walk over samples: the fitted model and the flag, the quantized linear part, the same as binary64
 // numbers, and the two sums of the refit so far.
-#[derive(Drop)]
+#[derive(Clone, Copy)]
 pub struct Refitting {
     pub fitted: Fitted,
     pub flag: u8,
@@ -40,7 +42,7 @@ pub struct Refitting {
 
 // A row of the table of refusals (0: none), and the quantized model, x first.
 #[repr(C)]
-#[derive(Drop)]
+#[derive(Clone, Copy)]
 pub struct Quantized {
     pub refusal: u32,
     pub params: [i32; 6],

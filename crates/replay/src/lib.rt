@@ -1,6 +1,8 @@
 // What the programs that replay a stored list of questions and answers share: a list opened and
 // ended, its big-endian words, floats, samples and models, guarded buffers of pels, what a call is
 // handed, and the lines that they print.
+#![tactic(auto)]
+
 ghost use Rattle.std.specs.Prelude.{◌≡◌, ◌+◌, ◌*◌, ◌≤◌};
 ghost use Rattle.std.specs.Int.{w32};
 ghost use Rattle.std.proofs.Common.{to_z};

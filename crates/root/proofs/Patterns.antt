@@ -183,6 +183,8 @@ signed-value : (x : Float) (a c : ℕ) → HasValue x true a c → lt zero-point
 unfolding lt
 signed-value (fin true m e) a c v p = subst T (sym p) tt
 signed-value (fin false m e) a c v p = subst T (sym v.0) tt
+signed-value nan a c v p = elim v [ ]
+signed-value (inf _) a c v p = elim v [ ]
 
 signed-field : (x t : ℕ) (a b : Bool) → lt zero-point (cond a (cond b (inf true) nan) (odd 53 true (leading + t) x 1074)) ≡ true → ⊥
 unfolding lt

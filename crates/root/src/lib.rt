@@ -3,6 +3,8 @@
 // docs/RULES.md, 'Fits and score' (Root). The language has no root of its own: a guess by binary64
 // arithmetic is mended by comparing whole-number squares, so any guess gives the root and a good one
 // gives it in two turns.
+#![tactic(auto)]
+
 ghost use Rattle.std.specs.Prelude.{◌≡◌, ◌+◌, ◌*◌, ◌≤◌, ◌<◌};
 ghost use Rattle.std.specs.Float.{binary64};
 ghost use Rattle.std.specs.Float.Ieee.{of_bits};

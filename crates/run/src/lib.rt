@@ -1,6 +1,8 @@
 // A run of frames (docs/RULES.md, 'A run of frames'): it holds the prior that the next inter frame is
 // written and read with, and the flag and the form given at its start; a switch between two frames changes
 // these. It is handed in by value and comes back with each answer, as it was where the call is refused.
+#![tactic(auto)]
+
 ghost use Rattle.std.specs.Prelude.{◌≡◌};
 ghost use Rattle.run.specs.Run.{run_of, codes_wrong, run_refusal, no_run, started, switch_refusal, switched_to, switched};
 
@@ -17,7 +19,7 @@ const NO_SUCH_CODE: u32 = 4;
 const PRIOR_OUT: u32 = 8;
 
 #[repr(C)]
-#[derive(Drop)]
+#[derive(Clone, Copy)]
 pub struct Run {
     pub prior: [i32; 42],
     pub flag: u8,
@@ -26,7 +28,7 @@ pub struct Run {
 
 // What `start` and `switch` answer: the refusal, 0 for none, and the run.
 #[repr(C)]
-#[derive(Drop)]
+#[derive(Clone, Copy)]
 pub struct Moved {
     pub refusal: u32,
     pub run: Run,

@@ -1,6 +1,8 @@
 // The frames of a run (docs/RULES.md, 'A run of frames'): an inter frame is written and read with the
 // models of the frame before it as its prior, identities after a key frame. The run is handed in by value
 // and comes back with each answer, as it was where the call is refused.
+#![tactic(auto)]
+
 ghost use Rattle.std.specs.Prelude.{◌≡◌, length};
 ghost use Rattle.laws.specs.Refusal.{judge};
 ghost use Rattle.run_frame.specs.Inner.{reader_rows};
@@ -19,14 +21,14 @@ const NO_SUCH_CODE: u32 = 4;
 const PRIOR_OUT: u32 = 8;
 
 #[repr(C)]
-#[derive(Drop)]
+#[derive(Clone, Copy)]
 pub struct Framed {
     pub written: Written,
     pub run: Run,
 }
 
 #[repr(C)]
-#[derive(Drop)]
+#[derive(Clone, Copy)]
 pub struct FrameModels {
     pub models: Models,
     pub run: Run,

@@ -1,6 +1,8 @@
 // What stores in a run (docs/RULES.md, 'A run of frames'): a frame of words and classes, a job, and a job
 // of words. All take the form that the run holds; a job is an inter frame, so it takes the run's flag and prior too,
 // and its seven models are the next prior. A refused call gives the run back as it was.
+#![tactic(auto)]
+
 ghost use Rattle.std.specs.Prelude.{◌≡◌, length};
 ghost use Rattle.job_task.specs.Task.{lend};
 ghost use Rattle.job_outcome.specs.Outcome.{ended};
@@ -14,7 +16,7 @@ use job::{Report, Settings};
 use run::Run;
 
 #[repr(C)]
-#[derive(Drop)]
+#[derive(Clone, Copy)]
 pub struct JobDone {
     pub report: Report,
     pub run: Run,

@@ -2,6 +2,8 @@
 // A word's five fields are taken apart and put together; a list of words is tested for what a frame
 // may store; a word becomes a `MotionSample`, the four binary64 numbers that the fits take
 // (`MotionSample` of the Rust's global_motion.rs).
+#![tactic(auto)]
+
 ghost use Rattle.std.specs.Prelude.{◌≡◌, ◌<◌, length};
 ghost use Rattle.sample.specs.Word.{row_of, col_of, v_of, u_of, class_of, word_of, in_range, place_of, sides, motions};
 ghost use Rattle.sample.specs.Sample.{sample_of, centre_of, pels_of};
@@ -34,7 +36,7 @@ const BLOCK_SIDE: u32 = 16;
 
 // In C the same four numbers, in this order.
 #[repr(C)]
-#[derive(Drop)]
+#[derive(Clone, Copy)]
 pub struct MotionSample {
     pub x: f64,
     pub y: f64,

@@ -1,6 +1,8 @@
 // The score of a model: six numbers at 16 fraction bits and sample words go in, the mean squared
 // residual in square pels comes out. Answers to docs/RULES.md, 'Fits and score', row 1, and to
 // `continuous_of_params` and `mean_sq_residual` (encoder/global_motion.rs).
+#![tactic(auto)]
+
 ghost use Rattle.std.specs.Prelude.{◌≡◌};
 ghost use Rattle.score.specs.Score.{continuous_of, continuous_model, residual_of, score_step, score_of, mean_sq_residual};
 ghost use Rattle.score.specs.Inner.{residual_sum, scoring_begun, scoring_step};
@@ -9,7 +11,7 @@ use grid_number::SCALE;
 use sample::MotionSample;
 
 // A model of six numbers at 16 fraction bits, as binary64 numbers.
-#[derive(Drop)]
+#[derive(Clone, Copy)]
 pub struct ContinuousModel {
     pub m0: f64,
     pub m1: f64,
@@ -20,7 +22,7 @@ pub struct ContinuousModel {
 }
 
 // A model, and the squared residuals added so far.
-#[derive(Drop)]
+#[derive(Clone, Copy)]
 pub struct Scoring {
     pub m: ContinuousModel,
     pub acc: f64,
@@ -28,7 +30,7 @@ pub struct Scoring {
 
 // A row of the table of refusals (0: none), and the mean squared residual.
 #[repr(C)]
-#[derive(Drop)]
+#[derive(Clone, Copy)]
 pub struct Score {
     pub refusal: u32,
     pub score: f64,

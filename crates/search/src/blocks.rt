@@ -9,7 +9,7 @@ use plane::{BLOCK, HALF_BLOCK, Offset, Place, Sides};
 use stage::FULL_REACH;
 
 // A block's word, and the rows added to find it.
-#[derive(Drop)]
+#[derive(Clone, Copy)]
 pub struct Sampled {
     pub word: u32,
     pub rows: u32,

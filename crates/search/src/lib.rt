@@ -2,6 +2,8 @@
 // `collect_motion_samples` of the Rust's global_motion.rs). In go two planes, their sides and one
 // class for each sample, which is judged; out come half planes and sample words with class bits zero
 // in lent buffers, the count, and how many rows of absolute differences were added.
+#![tactic(auto)]
+
 ghost use Rattle.std.specs.Prelude.{◌≡◌};
 ghost use Rattle.laws.specs.Buffer.{onto};
 ghost use Rattle.plane.specs.Plane.{half_plane};
@@ -16,7 +18,7 @@ pub mod refusals; // refusals.rt: the rows of the table
 
 // The refusal's number, 0 for none, how many samples were found, and how many rows were added.
 #[repr(C)]
-#[derive(Drop)]
+#[derive(Clone, Copy)]
 pub struct Searched {
     pub refusal: u32,
     pub samples: usize,

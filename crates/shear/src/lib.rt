@@ -1,6 +1,8 @@
 // The shear check: a type and six numbers of a model go in, the four shear numbers of its warp and
 // whether a decoder keeps the warp come out. Answers to docs/RULES.md, 'Shear', rows 2, 4 and 7 of
 // docs/RULES.md, and clauses 7.11.3.6 and 7.11.3.7 of the standard, whose names it has.
+#![tactic(auto)]
+
 ghost use Rattle.std.specs.Prelude.{◌≡◌, ◌<◌, ◌≤◌, pos, length, get_or};
 ghost use Rattle.shear.specs.Call.{judged, shear_of, not_warped, shear_refusal, rejected, shear};
 ghost use Rattle.warp.specs.Inner.{Linear, Clamped};
@@ -19,7 +21,7 @@ const OFF_THE_GRID: u32 = 7;
 // A row of the table of refusals (0: none); whether a decoder keeps the warp; the shear numbers,
 // whether it does or not.
 #[repr(C)]
-#[derive(Drop)]
+#[derive(Clone, Copy)]
 pub struct Shear {
     pub refusal: u32,
     pub valid: u32,

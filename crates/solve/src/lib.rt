@@ -2,6 +2,7 @@
 // in, its solution or a refusal comes out. Each operation rounds once, in the written order of
 // `solve_linear` (encoder/global_motion.rs); docs/RULES.md, 'Fits and score' and 'Rust forms to recast'.
 // Matrix and right side are lent and change in place.
+#![tactic(auto)]
 
 ghost use Rattle.std.specs.Prelude.{◌≡◌, ◌<◌, ◌≤◌};
 ghost use Rattle.solve.specs.Elimination.{abs_of, too_small, system, pivot_step, pivot_of};
@@ -13,7 +14,7 @@ ghost use Rattle.solve.specs.Solution.{residue_of, unknown_step, unknowns_from, 
 // docs/RULES.md, 'Fits and score': the binary64 nearest 1e-9, below which a pivot is refused.
 const LEAST_PIVOT: f64 = 1e-9;
 
-#[derive(Drop)]
+#[derive(Clone, Copy)]
 pub enum Outcome {
     Solved,
     Singular,

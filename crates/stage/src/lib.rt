@@ -2,6 +2,8 @@
 // over offsets in the Rust's `collect_motion_samples`): the best candidate so far, what replaces it, and an
 // offset's cost. The code holds a motion as a natural number, the signed one plus a bias: 12 in the coarse
 // stage, 27 by full pels, 223 in eighths.
+#![tactic(auto)]
+
 ghost use Rattle.std.specs.Prelude.{◌≡◌, ◌+◌, ◌-◌, ◌≤◌, ◌<◌};
 ghost use Rattle.plane.specs.Difference.{difference};
 ghost use Rattle.plane.specs.Inner.{Is};
@@ -21,7 +23,7 @@ pub const STEP_SQUARE: usize = 9;
 pub const NO_BEST: u32 = 4294967295;
 
 // The best candidate so far: its cost, its motion plus the stage's bias, and the rows added so far.
-#[derive(Drop)]
+#[derive(Clone, Copy)]
 pub struct Best {
     pub cost: u32,
     pub y: usize,

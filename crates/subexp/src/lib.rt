@@ -3,6 +3,8 @@
 // 5.9.26 to 5.9.29 of the standard; `recenter` to `encode_unsigned_subexp_with_ref` of
 // encoder/frame_obu.rs, `inverse_recenter` to `decode_unsigned_subexp_with_ref` of
 // uncompressed_header_tail.rs. Symbols are counted from 0: low is 0, and mx is S.
+#![tactic(auto)]
+
 ghost use Rattle.std.specs.Prelude.{◌≡◌, ◌+◌, ◌*◌, ◌^◌, ◌≤◌, ◌<◌, length};
 ghost use Rattle.bits.specs.Bits.{bit_at};
 ghost use Rattle.bits.specs.Inner.{Room, Wrote, ReadIs};
@@ -168,7 +170,7 @@ pub fn encode_subexp(cursor: BitCursor, buffer: &mut [u8], num_syms: u32, v: u32
 
 // The rung on which a code ends, whether that is the last one, and the cursor behind what was read
 // to come there.
-#[derive(Drop)]
+#[derive(Clone, Copy)]
 struct RungRead {
     i: u32,
     last: bool,

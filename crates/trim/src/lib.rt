@@ -3,6 +3,8 @@
 // rises, so the residuals' median is the root of their squares' median, and a residual is at most the
 // cutoff where its square is at most the greatest number whose root is: a call takes four roots, however
 // many samples there are.
+#![tactic(auto)]
+
 ghost use Rattle.std.specs.Prelude.{◌≡◌, map, ◌≤◌, ◌<◌, length, take};
 ghost use Rattle.median.specs.Inner.{Findable};
 ghost use Rattle.root.specs.Root.{root};
@@ -35,7 +37,7 @@ const BESIDE: u64 = 2;
 const FAR: u64 = 0x7fef_ffff_ffff_fffe;
 
 // The last fit made, or a refusal, and how many samples it used.
-#[derive(Drop)]
+#[derive(Clone, Copy)]
 pub struct Trimmed {
     pub fitted: Fitted,
     pub used: u32,
@@ -44,7 +46,7 @@ pub struct Trimmed {
 // A row of the table of refusals (0: none), how many samples the last fit used, and its model on the
 // grid, x first.
 #[repr(C)]
-#[derive(Drop)]
+#[derive(Clone, Copy)]
 pub struct TrimmedModel {
     pub refusal: u32,
     pub used: u32,
@@ -52,7 +54,7 @@ pub struct TrimmedModel {
 }
 
 // The same as `Trimmed`, and the limit that the used samples' squared residuals are under.
-#[derive(Drop)]
+#[derive(Clone, Copy)]
 pub struct Cut {
     pub fitted: Fitted,
     pub used: u32,

@@ -1,5 +1,7 @@
 // A fit after trimming as the numbers that pass to C: its refusal, how many samples it used, and six
 // numbers (docs/RULES.md, 'Trimming').
+#![tactic(auto)]
+
 ghost use Rattle.std.specs.Prelude.{◌≡◌};
 ghost use Rattle.trim_numbers.specs.Answer.{answer_of};
 
@@ -7,7 +9,7 @@ use trim::Trimmed;
 
 // Two numbers of a translation, four of a rotation-zoom, six of an affine model, zeros after them.
 #[repr(C)]
-#[derive(Drop)]
+#[derive(Clone, Copy)]
 pub struct TrimmedAnswer {
     pub refusal: u32,
     pub used: u32,

@@ -1,6 +1,8 @@
 // The four shear numbers of a warp and whether a decoder keeps it (clause 7.11.3.6 of the standard, whose
 // names it has): each clamped to 16 bits and reduced, and two weighed sums under 1. Answers to
 // docs/RULES.md, 'Shear'.
+#![tactic(auto)]
+
 ghost use Rattle.std.specs.Prelude.{◌≡◌, ◌+◌, ◌*◌, ◌<◌, ◌≤◌, nat_abs};
 ghost use Rattle.warp.specs.Shear.{clamped, reduced, alpha0, gamma0, delta0, warp_valid};
 ghost use Rattle.warp.specs.Inner.{Linear, Weighed, Clamped};

@@ -1,6 +1,7 @@
 // The election of a model over sample words (`estimate_global_motion`, encoder/global_motion.rs;
 // docs/RULES.md, 'Election', rows 1, 4 and 16): each type's candidate is a fit after trimming over the
 // words. Who is passed over and who is held is decided in `elect`.
+#![tactic(auto)]
 
 ghost use Rattle.std.specs.Prelude.{◌≡◌};
 ghost use Rattle.sample.specs.Sample.{sample_of};

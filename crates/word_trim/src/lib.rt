@@ -2,6 +2,7 @@
 // 'Trimming', rows 1, 4, 6, 15 and 16): the fit of all words, each word's squared residual, the words
 // that stay moved to the front of a list of the call's own, and the fit and the grid numbers of those.
 // The cutoff, its limit and the refusals are those of `trim`.
+#![tactic(auto)]
 
 ghost use Rattle.std.specs.Prelude.{◌≡◌, ◌≤◌, length};
 ghost use Rattle.laws.specs.Buffer.{onto};

@@ -3,6 +3,8 @@
 // reference. In go words that a frame can store, the search's or others, the settings, a class for each
 // word, the six other types and models, and the prior; lent are blocks and a header. Its rows are in the
 // crate `words_task`. The blocks are of form 2, or of the form that a run holds.
+#![tactic(auto)]
+
 ghost use Rattle.job_task.specs.Task.{sheet, sheet_in};
 ghost use Rattle.job_outcome.specs.Words.{finish};
 ghost use Rattle.words_job.specs.Outcome.{Done};

@@ -3,6 +3,8 @@
 // They are the job's, with the words in the place of planes: 1 over 4,096 words, 2 not as many classes as
 // words, 12 words that a frame can't store. In go the words, the settings, the form of the blocks, the lists
 // and how long blocks and header are; out comes the first row that holds, 0 for none.
+#![tactic(auto)]
+
 ghost use Rattle.std.specs.Prelude.{◌≡◌, ◌*◌, ◌≤◌, length};
 ghost use Rattle.laws.specs.Refusal.{judge};
 ghost use Rattle.sample.specs.Word.{most_samples};

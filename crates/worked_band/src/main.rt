@@ -1,6 +1,8 @@
 // Practice belts searched whole and in bands by random cuts: the bands' words, appended, are the search's,
 // and their rows add up to its count. A job, and a job of the words that the search found: the report, the
 // blocks and the header are the same. And what is refused, by hand.
+#![tactic(auto)]
+
 ghost use Rattle.std.specs.Prelude.{◌≤◌};
 
 use job::{Report, Settings};
@@ -10,7 +12,7 @@ const UNTOUCHED: u32 = 2779096485;
 const CASES: u64 = 120;
 
 // The sides of both planes, their pels, the values of a half plane, the block rows and the samples.
-#[derive(Drop)]
+#[derive(Clone, Copy)]
 struct Shape {
     width: usize,
     height: usize,
@@ -125,7 +127,7 @@ fn untouched(words: &[u32]) -> bool {
 }
 
 // What a band found: whether its words are those of the whole from a place on, its rows, and where it ends.
-#[derive(Drop)]
+#[derive(Clone, Copy)]
 struct Part {
     right: bool,
     rows: u32,

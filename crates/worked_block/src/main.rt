@@ -2,6 +2,8 @@
 // and carried over to form 1; the blocks of one form are changed, read by both readers and converted each
 // way; answers and lent buffers are compared with those of the list's maker, which knows docs/RULES.md
 // alone.
+#![tactic(auto)]
+
 ghost use Rattle.std.specs.Prelude.{◌≡◌, ◌<◌, ◌≤◌, length};
 
 use block::Stored;
@@ -16,7 +18,7 @@ const PLACES: u32 = 4096;
 // What a case asks: the samples, listed where the seed is 0, and how they are changed; the form whose
 // blocks are then changed and read, and whether its second block is the other form's; how much is handed
 // over and lent.
-#[derive(Drop)]
+#[derive(Clone, Copy)]
 struct Case {
     frame: u16,
     samples: usize,

@@ -1,6 +1,8 @@
 // Replays the oracle's list of the six calls over the samples of named classes: each case has words, a
 // class for each, a set, a type, a flag and a model to score. Then once more with the words' samples,
 // lent.
+#![tactic(auto)]
+
 use elect::Elected;
 use fit::Fitted;
 use fit_numbers::FitAnswer;

@@ -1,4 +1,6 @@
 // Replays the oracle's lists of elections, of sample words and of samples of any numbers.
+#![tactic(auto)]
+
 use elect::Elected;
 
 // The lists.

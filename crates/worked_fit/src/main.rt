@@ -1,5 +1,7 @@
 // Replays the oracle's lists of fits, systems, grid numbers, words in several orders, samples of any
 // numbers and fits after trimming, then tries the refusals.
+#![tactic(auto)]
+
 ghost use Rattle.std.specs.Prelude.{◌≤◌};
 
 use fit::Fitted;
@@ -23,7 +25,7 @@ const SAMPLES: u8 = 3;
 const TRIMMED: u8 = 5;
 
 // The bits of the values that a fitted model carries, 0 for those that its type doesn't.
-#[derive(Drop)]
+#[derive(Clone, Copy)]
 struct Values {
     m0: u64,
     m1: u64,
@@ -348,7 +350,7 @@ fn replay_samples(list: i32, flag: u8) -> bool {
     translation && rotzoom && affine
 }
 
-#[derive(Drop)]
+#[derive(Clone, Copy)]
 struct Entries {
     a: [f64; 16],
     b: [f64; 4],

@@ -1,5 +1,7 @@
 // Replays the list of key frames: each is written into guarded bytes, of which none may change, with
 // the list's answer, and read, whatever the bytes, the position and the prior.
+#![tactic(auto)]
+
 ghost use Rattle.std.specs.Prelude.{◌≤◌, ◌≡◌, length};
 
 use header::Written;
@@ -15,7 +17,7 @@ const START_OVER: u32 = 14;
 
 // Seven types of which the first is listed, seven identities of which slot 0 of the first is listed, a
 // prior of equal numbers; how many of each are lent, and bytes; then the answers of writing and reading.
-#[derive(Drop)]
+#[derive(Clone, Copy)]
 struct Case {
     flag: u8,
     first_type: u8,

@@ -1,5 +1,7 @@
 // Replays the oracle's list of quantizations, then tries the worked values of docs/RULES.md that
 // aren't proved and the refusals.
+#![tactic(auto)]
+
 ghost use Rattle.std.specs.Prelude.{◌≤◌};
 
 use libc::STDOUT_FILENO;

@@ -2,6 +2,8 @@
 // at its place, cut short, and written again from every bit of a byte on, among ones and among zeros,
 // and read there. Then tries the worked headers of docs/RULES.md, and each row of the table by which
 // the two calls say no, alone and with a later row beside it.
+#![tactic(auto)]
+
 ghost use Rattle.std.specs.Prelude.{◌≡◌, ◌≤◌, length};
 
 use header::Written;
@@ -39,7 +41,7 @@ const WORKED: usize = 11;
 const LISTED: usize = 12;
 
 // A header at its place among bytes, and what it holds.
-#[derive(Drop)]
+#[derive(Clone, Copy)]
 struct Case {
     types: [u8; 7],
     params: [i32; 42],
@@ -54,7 +56,7 @@ struct Case {
 // What a call is asked: lists with one entry to spare and the lengths lent, numbers as words of 32
 // bits; the bit at which the writer begins and the bytes lent to it; the bytes of the worked header and
 // the position for the reader.
-#[derive(Drop)]
+#[derive(Clone, Copy)]
 struct Ask {
     types: [u8; 8],
     params: [u32; 43],

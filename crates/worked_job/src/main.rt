@@ -3,6 +3,8 @@
 // or name a set of classes too. What lies behind the parts used must be as it was. Then a list of
 // refusals, each also with a second fault: nothing but its number is reported, and every buffer is as it
 // was, but for the half planes and words of a job that is refused with 6.
+#![tactic(auto)]
+
 ghost use Rattle.std.specs.Prelude.{◌≤◌, ◌<◌, ◌≡◌, length};
 
 use job::{Report, Settings};
@@ -14,7 +16,7 @@ const UNTOUCHED_BYTE: u8 = 165;
 // The picture of a case: the input plane is on its own (0), the reference mapped (1), the planes are
 // exchanged (2), the mapped reference stands in the list (3), or both planes do (4). A mapped pel comes
 // from row r * (64 + zoom) / 64 + shift, and so for its column.
-#[derive(Drop)]
+#[derive(Clone, Copy)]
 struct Picture {
     seed: u32,
     mask: u32,
@@ -28,7 +30,7 @@ struct Picture {
 }
 
 // How many pels, classes, types and numbers go in.
-#[derive(Drop)]
+#[derive(Clone, Copy)]
 struct Handed {
     input: usize,
     reference: usize,

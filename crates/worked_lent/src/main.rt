@@ -1,5 +1,7 @@
 // Tries the reader that is walked by hand against the core it stands over, on inputs from the generator:
 // seven models by a reader against slice and position.
+#![tactic(auto)]
+
 ghost use Rattle.std.specs.Prelude.{◌≤◌, ◌<◌};
 
 use header_read::Models;

@@ -1,6 +1,8 @@
 // Replays the list of practice belts: each is made in two guarded buffers and compared with the plain
 // writing of the rule that the oracle has. What lies behind the part used, and everything where a call
 // is refused, must be as it was.
+#![tactic(auto)]
+
 ghost use Rattle.std.specs.Prelude.{◌≡◌, ◌≤◌, length};
 
 // The largest plane, and what lies behind it.

@@ -1,5 +1,7 @@
 // Replays the price lists: the codes that the Rust writes for every ordinal of a slot, counted by
 // length, for each type, flag and slot about seven priors; then the refusals of docs/RULES.md, 'Prices'.
+#![tactic(auto)]
+
 ghost use Rattle.std.specs.Prelude.{◌≤◌};
 
 use price::{MOST_LENGTHS, PriceList};

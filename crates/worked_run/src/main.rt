@@ -3,6 +3,8 @@
 // and lent buffer is held to the list. A reader begun alike is handed what was accepted, switches and each
 // frame's kind, start and header: it must give the frame's models, and after every event hold the same
 // run. What was refused must leave the run as it was. A job's planes must have texture.
+#![tactic(auto)]
+
 ghost use Rattle.std.specs.Prelude.{◌≤◌, ◌<◌, ◌≡◌, length};
 
 use header_read::Models;
@@ -37,7 +39,7 @@ const PRACTISED: u32 = 1;
 const LISTED: u32 = 2;
 
 // The run that is written with, the reader's, the list's, and whether all was right so far.
-#[derive(Drop)]
+#[derive(Clone, Copy)]
 struct State {
     writer: Run,
     reader: Run,
@@ -46,7 +48,7 @@ struct State {
 }
 
 // The sides of a job's planes and how many pels of each are handed in.
-#[derive(Drop)]
+#[derive(Clone, Copy)]
 struct Sides {
     width: usize,
     height: usize,
@@ -55,7 +57,7 @@ struct Sides {
 }
 
 // How much of each buffer is lent to a job.
-#[derive(Drop)]
+#[derive(Clone, Copy)]
 struct Rooms {
     input_half: usize,
     ref_half: usize,

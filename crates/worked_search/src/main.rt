@@ -2,6 +2,8 @@
 // the answer, the half planes and the sample words are compared with the Rust's, and the rows added with
 // a plain count. What lies behind the part used, and everything where a call is refused, must be as it
 // was. The second has the pels of its planes: the worked counts of docs/RULES.md.
+#![tactic(auto)]
+
 ghost use Rattle.std.specs.Prelude.{◌≡◌, ◌≤◌, length};
 
 use search::Searched;
@@ -10,7 +12,7 @@ const UNTOUCHED_WORD: u32 = 2779096485;
 
 // What a texture looks like. It repeats in both directions, and each place has a number below 65536:
 // one under the threshold gives `low`, any other those of its bits that are in `mask`, `high` flipped.
-#[derive(Drop)]
+#[derive(Clone, Copy)]
 struct Texture {
     period: u32,
     threshold: u32,
@@ -21,7 +23,7 @@ struct Texture {
 
 // A plane as a window on a texture: where its first pel lies, and the rows and columns that it is
 // held to.
-#[derive(Drop)]
+#[derive(Clone, Copy)]
 struct Window {
     seed: u32,
     row: u32,
@@ -33,7 +35,7 @@ struct Window {
 }
 
 // What a case asks.
-#[derive(Drop)]
+#[derive(Clone, Copy)]
 struct Case {
     width: usize,
     height: usize,

@@ -1,5 +1,7 @@
 // Replays the list of shear checks: 2,000 answers of libaom, then the worked values and refusals of
 // docs/RULES.md, 'Shear'.
+#![tactic(auto)]
+
 ghost use Rattle.std.specs.Prelude.{◌≤◌};
 
 use shear::Shear;

@@ -1,0 +1,18 @@
+-- `median::count_below`: what is counted, with what is left to count, is the whole count.
+-- Assumes nothing.
+use borrow.Author.Rules.{rules}
+use Prim.Native.Nat.{◌+◌, ◌-◌, ◌≤◌}
+use mathlib.Core.Logic.{⊎_elim}
+use mathlib.Core.Path.{◌≡◌}
+use native.Mathlib.Nat.{zero-add}
+use native.Mathlib.Omega.{arith}
+use lib.ListN.{length, drop}
+use Rattle.median.specs.Inner.{below}
+use Rattle.median.proofs.Counting.{counts-one, counts-none, counted}
+use Rattle.median.proofs.count_below.Given as goal
+
+abbrev pub invariant-loop-i : goal.invariant-loop-i
+invariant-loop-i l = (l.i ≤ length l.values) × (l.count ≤ l.i) × (l.count + below l.key (drop l.i l.values) ≡ below l.key l.values)
+
+abbrev pub decreases-loop-i : goal.decreases-loop-i
+decreases-loop-i l = length l.values - l.i

@@ -1,0 +1,17 @@
+-- `copy`: each turn writes the next pel after those before it.
+-- Assumes nothing.
+use Prim.Native.Nat.{◌≤◌, ◌-◌}
+use mathlib.Core.Path.{◌≡◌, refl}
+use native.Mathlib.Omega.{arith}
+use lib.ListN.{length, get_or, length-set}
+use borrow.Author.Rules.{rules}
+use Rattle.laws.specs.Buffer.{onto}
+use Rattle.laws.specs.Parts.{listing}
+use Rattle.plane.proofs.Listing.{listing-more, listing-all}
+use Rattle.plane.proofs.copy.Given as goal
+
+abbrev pub invariant-loop-b : goal.invariant-loop-b
+invariant-loop-b l = (l.b ≤ length l.initial.out) × (l.out ≡ onto (listing (λ i. get_or l.row i 0) l.b) l.initial.out) × (length l.out ≡ length l.initial.out)
+
+abbrev pub decreases-loop-b : goal.decreases-loop-b
+decreases-loop-b l = length l.initial.out - l.b

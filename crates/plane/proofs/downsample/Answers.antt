@@ -1,0 +1,41 @@
+use Prim.Native.Nat.{ℕ, ◌/◌, ◌≤◌, ◌-◌}
+use mathlib.Core.Path.{◌≡◌, refl, ap, ◌∙◌}
+use native.Mathlib.Omega.{arith}
+use lib.ListN.{length}
+use borrow.Author.Rules.{rules}
+use Rattle.laws.specs.Buffer.{onto}
+use Rattle.plane.specs.Plane.{row_by_row, half_pel, half_plane}
+use Rattle.plane.proofs.Listing.{row_by_row-more}
+use Rattle.plane.proofs.Halves.{rows_inside, room-inside}
+use Rattle.plane.proofs.downsample.Goals as goal
+
+pub loop-r-init : goal.loop-r-init
+loop-r-init c = (omega arith, refl, refl)
+
+pub halve_row-requires : goal.halve_row-requires
+halve_row-requires c = let a = c.args in
+    let h = c.requires in
+    let r = c.loop-r.r in
+    record {
+      narrow = h.narrow;
+      row_small = omega arith;
+      rows = rows_inside a.width a.height r (length a.p.now) h.pels (omega arith);
+      room = room-inside a.width a.height r h.room c.loop-r.invariant.2 (omega arith);
+    }
+
+pub loop-r-preserved : goal.loop-r-preserved
+loop-r-preserved c = let a = c.args in
+    let w = a.width in (
+      omega arith,
+      c.halve_row.ensures
+          ∙ row_by_row-more (half_pel a.p.now w) (w / 2) c.loop-r.r
+          a.out.now c.loop-r.invariant.1,
+      c.halve_row.auto.1.1.1.0 ∙ c.loop-r.invariant.2,
+    )
+
+pub returns : goal.returns
+unfolding half_plane
+returns c = let a = c.args in
+    let w = a.width in
+    c.loop-r.invariant.1
+    ∙ ap (λ (k : ℕ). onto (row_by_row (half_pel a.p.now w) (w / 2) k) a.out.now) (let e : c.loop-r.r ≡ a.height / 2 = omega arith in e)

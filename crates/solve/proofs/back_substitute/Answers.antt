@@ -1,0 +1,30 @@
+use native.Mathlib.Omega.{arith}
+use Prim.Native.Nat.{◌-◌}
+use Rattle.laws.proofs.Loops.{again, done}
+use Rattle.laws.specs.Loops.{run}
+use mathlib.Core.Path.{◌≡◌, refl}
+use Rattle.solve.specs.Elimination.{system}
+use Rattle.solve.specs.Solution.{unknown_step, unknowns_from}
+use borrow.Author.Rules.{rules}
+use Rattle.solve.proofs.back_substitute.Goals as goal
+
+pub loop-i-init : goal.loop-i-init
+loop-i-init c = refl
+
+pub unknown_step-requires : goal.unknown_step-requires
+unknown_step-requires c = omega arith
+
+pub overflow_add-i : goal.overflow_add-i
+overflow_add-i c = omega arith
+
+pub loop-i-smaller : goal.loop-i-smaller
+loop-i-smaller c = omega arith
+
+pub loop-i-preserved : goal.loop-i-preserved
+loop-i-preserved c = let e = c.args in
+    again (unknown_step e.size (system e.a.now e.b.now)) c.loop-i-test.true c.unknown_step.ensures c.loop-i.invariant
+
+pub returns : goal.returns
+unfolding unknowns_from
+returns c = let e = c.args in
+    done (unknown_step e.size (system e.a.now e.b.now)) c.loop-i-test.false c.loop-i.invariant

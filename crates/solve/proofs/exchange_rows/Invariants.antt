@@ -1,0 +1,16 @@
+-- `solve::exchange_rows`: what is left to exchange, from here as from the first column.
+-- Assumes nothing.
+use native.Mathlib.Omega.{arith}
+use Prim.Native.Nat.{◌-◌}
+use Rattle.laws.proofs.Loops.{again, done}
+use Rattle.laws.specs.Loops.{run}
+use mathlib.Core.Path.{◌≡◌, refl}
+use Rattle.solve.specs.Elimination.{exchange_at, exchanged_rows}
+use borrow.Author.Rules.{rules}
+use Rattle.solve.proofs.exchange_rows.Given as goal
+
+abbrev pub invariant-loop-k : goal.invariant-loop-k
+invariant-loop-k l = run (exchange_at l.first l.second) l.k l.size l.a ≡ run (exchange_at l.first l.second) l.initial.k l.size l.initial.a
+
+abbrev pub decreases-loop-k : goal.decreases-loop-k
+decreases-loop-k l = l.size - l.k
