@@ -1,10 +1,6 @@
-use Prim.Native.Nat.{◌≤◌, ◌-◌}
-use mathlib.Core.Path.{◌≡◌, refl}
+use mathlib.Core.Path.{refl}
 use native.Mathlib.Omega.{arith}
-use lib.ListN.{length, length-set}
-use borrow.Author.Rules.{rules}
-use Rattle.laws.specs.Buffer.{onto}
-use Rattle.laws.specs.Parts.{listing}
+use lib.ListN.{length-set}
 use Rattle.plane.specs.Inner.{row_pel}
 use Rattle.plane.proofs.Listing.{listing-more, listing-all}
 use Rattle.plane.proofs.clamped_row.Goals as goal
@@ -14,11 +10,11 @@ loop-b-init c = (omega arith, refl, refl)
 
 pub loop-b-preserved : goal.loop-b-preserved
 loop-b-preserved c = let a = c.args in (
-      omega arith,
-      listing-more (row_pel a.plane.now a.place a.by a.bias) a.out.now c.loop-b.b
-          (omega arith) c.loop-b.invariant.1 c.displaced.ensures,
-      simp length-set c.loop-b.invariant.2,
-    )
+  omega arith,
+  listing-more (row_pel a.plane.now a.place a.by a.bias) a.out.now c.loop-b.b
+      (omega arith) c.loop-b.invariant.1 c.displaced.ensures,
+  simp length-set c.loop-b.invariant.2,
+)
 
 pub returns : goal.returns
 returns c = let a = c.args in

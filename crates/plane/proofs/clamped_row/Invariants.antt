@@ -1,14 +1,11 @@
 -- `clamped_row`: each turn writes the next displaced pel after those before it.
 -- Assumes nothing.
 use Prim.Native.Nat.{◌≤◌, ◌-◌}
-use mathlib.Core.Path.{◌≡◌, refl}
-use native.Mathlib.Omega.{arith}
-use lib.ListN.{length, length-set}
-use borrow.Author.Rules.{rules}
+use mathlib.Core.Path.{◌≡◌}
+use lib.ListN.{length}
 use Rattle.laws.specs.Buffer.{onto}
 use Rattle.laws.specs.Parts.{listing}
 use Rattle.plane.specs.Inner.{row_pel}
-use Rattle.plane.proofs.Listing.{listing-more, listing-all}
 use Rattle.plane.proofs.clamped_row.Given as goal
 
 abbrev pub invariant-loop-b : goal.invariant-loop-b

@@ -1,13 +1,10 @@
 -- `copy`: each turn writes the next pel after those before it.
 -- Assumes nothing.
 use Prim.Native.Nat.{◌≤◌, ◌-◌}
-use mathlib.Core.Path.{◌≡◌, refl}
-use native.Mathlib.Omega.{arith}
-use lib.ListN.{length, get_or, length-set}
-use borrow.Author.Rules.{rules}
+use mathlib.Core.Path.{◌≡◌}
+use lib.ListN.{length, get_or}
 use Rattle.laws.specs.Buffer.{onto}
 use Rattle.laws.specs.Parts.{listing}
-use Rattle.plane.proofs.Listing.{listing-more, listing-all}
 use Rattle.plane.proofs.copy.Given as goal
 
 abbrev pub invariant-loop-b : goal.invariant-loop-b

@@ -1,6 +1,5 @@
 -- `displaced`: both coordinates are clamped.
 -- Assumes nothing.
-use borrow.Author.Rules.{rules}
 use Rattle.plane.proofs.Clamped.{displaced-is}
 use Rattle.plane.proofs.displaced.Goals as goal
 

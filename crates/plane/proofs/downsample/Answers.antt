@@ -1,8 +1,7 @@
-use Prim.Native.Nat.{ℕ, ◌/◌, ◌≤◌, ◌-◌}
+use Prim.Native.Nat.{ℕ, ◌/◌}
 use mathlib.Core.Path.{◌≡◌, refl, ap, ◌∙◌}
 use native.Mathlib.Omega.{arith}
 use lib.ListN.{length}
-use borrow.Author.Rules.{rules}
 use Rattle.laws.specs.Buffer.{onto}
 use Rattle.plane.specs.Plane.{row_by_row, half_pel, half_plane}
 use Rattle.plane.proofs.Listing.{row_by_row-more}
@@ -30,7 +29,7 @@ loop-r-preserved c = let a = c.args in
       c.halve_row.ensures
           ∙ row_by_row-more (half_pel a.p.now w) (w / 2) c.loop-r.r
           a.out.now c.loop-r.invariant.1,
-      c.halve_row.auto.1.1.1.0 ∙ c.loop-r.invariant.2,
+      c.halve_row.auto.out ∙ c.loop-r.invariant.2,
     )
 
 pub returns : goal.returns

@@ -1,14 +1,10 @@
 -- `downsample`: each turn places the next row after the rows before it.
 -- Assumes nothing.
-use Prim.Native.Nat.{ℕ, ◌/◌, ◌≤◌, ◌-◌}
-use mathlib.Core.Path.{◌≡◌, refl, ap, ◌∙◌}
-use native.Mathlib.Omega.{arith}
+use Prim.Native.Nat.{◌/◌, ◌≤◌, ◌-◌}
+use mathlib.Core.Path.{◌≡◌}
 use lib.ListN.{length}
-use borrow.Author.Rules.{rules}
 use Rattle.laws.specs.Buffer.{onto}
-use Rattle.plane.specs.Plane.{row_by_row, half_pel, half_plane}
-use Rattle.plane.proofs.Listing.{row_by_row-more}
-use Rattle.plane.proofs.Halves.{rows_inside, room-inside}
+use Rattle.plane.specs.Plane.{row_by_row, half_pel}
 use Rattle.plane.proofs.downsample.Given as goal
 
 abbrev pub invariant-loop-r : goal.invariant-loop-r

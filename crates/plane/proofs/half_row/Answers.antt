@@ -1,10 +1,6 @@
-use Prim.Native.Nat.{◌≤◌, ◌-◌}
-use mathlib.Core.Path.{◌≡◌, refl}
+use mathlib.Core.Path.{refl}
 use native.Mathlib.Omega.{arith}
-use lib.ListN.{length, length-set}
-use borrow.Author.Rules.{rules}
-use Rattle.laws.specs.Buffer.{onto}
-use Rattle.laws.specs.Parts.{listing}
+use lib.ListN.{length-set}
 use Rattle.plane.specs.Inner.{half_of_rows}
 use Rattle.plane.proofs.Listing.{listing-more, listing-all}
 use Rattle.plane.proofs.half_row.Goals as goal
@@ -14,12 +10,12 @@ loop-c-init c = (omega arith, refl, refl)
 
 pub loop-c-preserved : goal.loop-c-preserved
 loop-c-preserved c = let a = c.args in (
-      omega arith,
-      listing-more (half_of_rows a.top.now a.bottom.now) a.out.now
-          c.loop-c.c (omega arith)
-          c.loop-c.invariant.1 c.half_pel.ensures,
-      simp length-set c.loop-c.invariant.2,
-    )
+  omega arith,
+  listing-more (half_of_rows a.top.now a.bottom.now) a.out.now
+      c.loop-c.c (omega arith)
+      c.loop-c.invariant.1 c.half_pel.ensures,
+  simp length-set c.loop-c.invariant.2,
+)
 
 pub returns : goal.returns
 returns c = let a = c.args in

@@ -1,14 +1,11 @@
 -- `half_row`: each turn writes the next mean of four after those before it.
 -- Assumes nothing.
 use Prim.Native.Nat.{◌≤◌, ◌-◌}
-use mathlib.Core.Path.{◌≡◌, refl}
-use native.Mathlib.Omega.{arith}
-use lib.ListN.{length, length-set}
-use borrow.Author.Rules.{rules}
+use mathlib.Core.Path.{◌≡◌}
+use lib.ListN.{length}
 use Rattle.laws.specs.Buffer.{onto}
 use Rattle.laws.specs.Parts.{listing}
 use Rattle.plane.specs.Inner.{half_of_rows}
-use Rattle.plane.proofs.Listing.{listing-more, listing-all}
 use Rattle.plane.proofs.half_row.Given as goal
 
 abbrev pub invariant-loop-c : goal.invariant-loop-c

@@ -3,7 +3,6 @@
 use Prim.Native.Nat.{◌+◌, ◌*◌, ◌/◌, ◌-◌}
 use mathlib.Core.Path.{◌∙◌}
 use lib.ListN.{length, take, drop}
-use borrow.Author.Rules.{rules}
 use Rattle.laws.proofs.Filling.{length-listing}
 use Rattle.plane.specs.Plane.{half_pel}
 use Rattle.plane.proofs.Listing.{part-back, part_length}

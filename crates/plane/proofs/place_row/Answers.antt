@@ -2,7 +2,6 @@
 -- Assumes nothing.
 use Prim.Native.Nat.{ℕ, ◌*◌}
 use mathlib.Core.Path.{ap, ◌∙◌}
-use borrow.Author.Rules.{rules}
 use Rattle.laws.specs.Parts.{listing}
 use Rattle.laws.proofs.Filling.{length-listing}
 use Rattle.plane.specs.Inner.{window_pel}

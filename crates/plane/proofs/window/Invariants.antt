@@ -1,15 +1,11 @@
 -- `window`: each turn places the next row after the rows before it.
 -- Assumes nothing.
-use Prim.Native.Nat.{◌+◌, ◌*◌, ◌-◌, ◌≤◌}
-use mathlib.Core.Path.{◌≡◌, refl, ◌∙◌}
-use native.Mathlib.Omega.{arith}
+use Prim.Native.Nat.{◌-◌, ◌≤◌}
+use mathlib.Core.Path.{◌≡◌}
 use lib.ListN.{length}
-use borrow.Author.Rules.{rules}
 use Rattle.laws.specs.Buffer.{onto}
-use Rattle.plane.specs.Plane.{row_by_row, largest_side}
+use Rattle.plane.specs.Plane.{row_by_row}
 use Rattle.plane.specs.Inner.{window_pel}
-use Rattle.plane.proofs.Listing.{row_by_row-more}
-use Rattle.plane.proofs.Windows.{row-of-window, window-whole}
 use Rattle.plane.proofs.window.Given as goal
 
 abbrev pub invariant-loop-a : goal.invariant-loop-a

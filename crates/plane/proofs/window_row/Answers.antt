@@ -2,7 +2,6 @@
 -- Assumes nothing.
 use mathlib.Core.Path.{◌∙◌}
 use lib.ListN.{length}
-use borrow.Author.Rules.{rules}
 use Rattle.plane.proofs.Windows.{row_inside}
 use Rattle.plane.proofs.window_row.Goals as goal
 
