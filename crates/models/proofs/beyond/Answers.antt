@@ -10,8 +10,7 @@ use mir.Val.{Fits, SFits}
 use mir.Facts.{to_z-of_z, to_z_pos}
 use Rattle.laws.proofs.Signed.{nat_abs-add-le, nat_abs-sub-le, sfits-nat_abs}
 use Rattle.models.proofs.Sides.{below, above}
-use Rattle.models.proofs.beyond.Statement.{statement}
-use Rattle.models.proofs.beyond.Tie as tie
+use Rattle.models.proofs.beyond.Goals as goal
 
 sum_fits : (z : ℤ) (r : ℕ) → nat_abs z < 2 ^ 62 → Fits w32 r → SFits w64 (z +ℤ pos r)
 sum_fits z r h f = sfits-nat_abs w64 (z +ℤ pos r) (omega (arith, nat_abs-add-le z (pos r)))
@@ -19,36 +18,29 @@ sum_fits z r h f = sfits-nat_abs w64 (z +ℤ pos r) (omega (arith, nat_abs-add-l
 difference-fits : (z : ℤ) (r : ℕ) → nat_abs z < 2 ^ 62 → Fits w32 r → SFits w64 (pos r -ℤ z)
 difference-fits z r h f = sfits-nat_abs w64 (pos r -ℤ z) (omega (arith, nat_abs-sub-le (pos r) z))
 
-add-is-negative : tie.Need-overflow-add-is-negative
-add-is-negative c =
-    rw (to_z-of_z c.ranges.num, to_z_pos w64 {n = c.args.reach} (omega arith))
+pub overflow_add-num : goal.overflow_add-num
+overflow_add-num c = rw (to_z-of_z c.ranges.num, to_z_pos w64 {n = c.args.reach} (omega arith))
     (sum_fits c.args.num c.args.reach c.requires c.ranges.reach)
 
-returns : tie.Need-returns
-returns c =
-    let e = c.before.before in
+pub returns-then-is_negative : goal.returns-then-is_negative
+returns-then-is_negative c = let e = c.before in
     below e.args.num e.args.reach
     (sym
     (rw (to_z-of_z e.ranges.num, to_z_pos w64 {n = e.args.reach} (omega (arith, e.ranges.reach)), to_z-of_z (sum_fits e.args.num e.args.reach e.requires e.ranges.reach))
-    at c.before.is_negative.ensures)
-    ∙ c.if1.true)
+    at c.is_negative.ensures)
+    ∙ c.if-is_negative.true)
 
-sub-is-negative : tie.Need-overflow-sub-is-negative
-sub-is-negative c =
-    let e = c.before.before in
+pub overflow_sub-reach : goal.overflow_sub-reach
+overflow_sub-reach c = let e = c.before in
     rw (to_z-of_z e.ranges.num, to_z_pos w64 {n = e.args.reach} (omega (arith, e.ranges.reach)))
     (difference-fits e.args.num e.args.reach e.requires e.ranges.reach)
 
-returns-2 : tie.Need-returns-2
-returns-2 c =
-    let e = c.before.before.before in
+pub returns : goal.returns
+returns c = let e = c.before in
     (rw (to_z-of_z e.ranges.num, to_z_pos w64 {n = e.args.reach} (omega (arith, e.ranges.reach)), to_z-of_z (difference-fits e.args.num e.args.reach e.requires e.ranges.reach))
-    at c.is-negative2.ensures)
+    at c.is_negative-2.ensures)
     ∙ above e.args.num e.args.reach
     (sym
     (rw (to_z-of_z e.ranges.num, to_z_pos w64 {n = e.args.reach} (omega (arith, e.ranges.reach)), to_z-of_z (sum_fits e.args.num e.args.reach e.requires e.ranges.reach))
-    at c.before.before.is_negative.ensures)
-    ∙ c.before.if1.false)
-
-pub beyond-spec : {M : Type 1} → statement M
-beyond-spec = tie.close (tie.spec (search rules) add-is-negative (search rules) returns (search rules) sub-is-negative (search rules) returns-2)
+    at c.is_negative.ensures)
+    ∙ c.if-is_negative.false)
