@@ -11,26 +11,21 @@ use Rattle.laws.proofs.Signed.{result-reads, sfits-nat_abs}
 use Rattle.warp.specs.Shear.{alpha0}
 use Rattle.divisor.specs.Inner.{Reach}
 use Rattle.warp.proofs.Clamped.{clamped-small}
-use Rattle.warp.proofs.alpha0.Statement.{statement}
-use Rattle.warp.proofs.alpha0.Tie as tie
+use Rattle.warp.proofs.alpha0.Goals as goal
 
 difference-fits : (p : ℤ) → Reach p → SFits w64 (p -ℤ pos 65536)
 difference-fits p h = sfits-nat_abs w64 (p -ℤ pos 65536) (omega (arith, h.within))
 
-sub-clamp : tie.Need-overflow-sub-clamp
-sub-clamp c = rw (to_z-of_z c.ranges.p2) (difference-fits c.args.p2 c.requires)
+pub overflow_sub-p2 : goal.overflow_sub-p2
+overflow_sub-p2 c = rw (to_z-of_z c.ranges.p2) (difference-fits c.args.p2 c.requires)
 
-returns : tie.Need-returns
+pub returns : goal.returns
 unfolding alpha0
-returns c =
-    let e = c.before in
+returns c = let e = c.before in
     rw (
-      result-reads w64 c.clamp.result c.clamp.type-inv,
-      c.clamp.ensures.0,
+      result-reads w64 c.clamp.result c.clamp.type_inv,
+      c.clamp.ensures.is,
       to_z-of_z e.ranges.p2,
       to_z-of_z (difference-fits e.args.p2 e.requires),
     )
-    (refl, clamped-small (e.args.p2 -ℤ pos 65536))
-
-pub alpha0-spec : {M : Type 1} → statement M
-alpha0-spec = tie.close (tie.spec sub-clamp (search rules) returns)
+    (record { is = refl; small = clamped-small (e.args.p2 -ℤ pos 65536) })
