@@ -3,12 +3,13 @@
 // handed, and the lines that they print.
 #![tactic(auto)]
 
-ghost use Rattle.std.specs.Prelude.{◌≡◌, ◌+◌, ◌*◌, ◌≤◌};
+ghost use Rattle.std.specs.Prelude.{◌≡◌, ◌+◌, ◌*◌, ◌≤◌, IfOk};
 ghost use Rattle.std.specs.Int.{w32};
 ghost use Rattle.std.proofs.Common.{to_z};
 
-use libc::STDOUT_FILENO;
 use sample::MotionSample;
+use std::rt::Files;
+use std::{fs, io};
 
 pub const UNTOUCHED_PEL: u16 = 42405;
 
@@ -22,11 +23,39 @@ const SIGN: u64 = 0x8000_0000_0000_0000;
 // One sample more than a call may be handed.
 pub const OVER: usize = 4097;
 
+// A list's bytes, and how many of them have been read.
+#[derive(Drop)]
+pub struct List {
+    bytes: Vec<u8>,
+    read: usize,
+}
+
+// The next byte of a list; 0 where the list has ended.
+fn next_byte(list: &mut List) -> u8 {
+    if list.read < list.bytes.len() {
+        let byte = list.bytes[list.read];
+        list.read += 1;
+        return byte;
+    }
+    0
+}
+
+// Bytes as the list has them.
+pub fn next_bytes(list: &mut List, bytes: &mut [u8]) {
+    let mut i = 0;
+    while i < bytes.len() {
+        bytes[i] = next_byte(list);
+        i += 1;
+    }
+}
+
 // The next four bytes of a list, high byte first; 0 where the list has ended.
-pub fn next_word(list: i32) -> u32 {
-    let mut bytes = [0u8; 4];
-    io::read_full(list, &mut bytes);
-    joined(bytes[0], bytes[1], bytes[2], bytes[3])
+pub fn next_word(list: &mut List) -> u32 {
+    let a = next_byte(list);
+    let b = next_byte(list);
+    let c = next_byte(list);
+    let d = next_byte(list);
+    joined(a, b, c, d)
 }
 
 fn joined(a: u8, b: u8, c: u8, d: u8) -> u32
@@ -47,7 +76,7 @@ pub fn signed(word: u32) -> i32
 }
 
 // Words as the list has them.
-pub fn next_words(list: i32, words: &mut [u32]) {
+pub fn next_words(list: &mut List, words: &mut [u32]) {
     let mut i = 0;
     while i < words.len() {
         words[i] = next_word(list);
@@ -56,12 +85,12 @@ pub fn next_words(list: i32, words: &mut [u32]) {
 }
 
 // A code, which a word of the list holds.
-pub fn next_code(list: i32) -> u8 {
+pub fn next_code(list: &mut List) -> u8 {
     (next_word(list) % 256) as u8
 }
 
 // The six numbers of a model.
-pub fn next_params(list: i32) -> [i32; 6] {
+pub fn next_params(list: &mut List) -> [i32; 6] {
     let p0 = signed(next_word(list));
     let p1 = signed(next_word(list));
     let p2 = signed(next_word(list));
@@ -76,13 +105,13 @@ pub fn same_params(p: [i32; 6], w: [i32; 6]) -> bool {
 }
 
 // The bits of a float, two words of the list.
-pub fn next_bits(list: i32) -> u64 {
+pub fn next_bits(list: &mut List) -> u64 {
     let high = next_word(list) as u64;
     let low = next_word(list) as u64;
     high * 0x1_0000_0000 + low
 }
 
-pub fn next_float(list: i32) -> f64 {
+pub fn next_float(list: &mut List) -> f64 {
     let bits = next_bits(list);
     if bits % SIGN > INFINITY {
         return 0.0 / 0.0;
@@ -97,7 +126,7 @@ pub fn same_float(x: f64, wanted: u64) -> bool {
     f64::to_bits(x) == wanted
 }
 
-fn next_sample(list: i32) -> MotionSample {
+fn next_sample(list: &mut List) -> MotionSample {
     let x = next_float(list);
     let y = next_float(list);
     let u = next_float(list);
@@ -106,7 +135,7 @@ fn next_sample(list: i32) -> MotionSample {
 }
 
 // So many samples are written out, and come round again.
-pub fn next_samples(list: i32, written: usize) -> [MotionSample; 4097] {
+pub fn next_samples(list: &mut List, written: usize) -> [MotionSample; 4097] {
     let still = MotionSample {
         x: 0.0,
         y: 0.0,
@@ -178,7 +207,7 @@ pub fn plane_holds(pels: &[u16], written: usize, sum: u32) -> bool {
 // ---- what a call is handed
 
 // Pels as the list has them.
-pub fn next_pels(list: i32, plane: &mut [u16]) {
+pub fn next_pels(list: &mut List, plane: &mut [u16]) {
     let mut i = 0;
     while i < plane.len() {
         plane[i] = (next_word(list) % 65536) as u16;
@@ -210,54 +239,62 @@ pub fn fill_identity(numbers: &mut [i32]) {
 
 // ---- lines
 
-// Opens a list; says so where it can't, and answers a number below 0.
-pub fn open_list(file: &[u8]) -> i32 {
-    let list = os::open_read(file);
-    if list < 0 {
-        os::fail(file);
+// A list with nothing in it.
+pub fn empty_list(rt: &impl AllocGlobal) -> List {
+    List {
+        bytes: Vec::new(rt.alloc()),
+        read: 0,
     }
-    list
+}
+
+// Opens a list; says so where it can't, and answers none.
+pub fn open_list<R: Files + Eprint + AllocGlobal>(rt: &R, file: &str) -> io::Result<Option<List>> {
+    match fs::read(rt, file) {
+        Ok(bytes) => Ok(Some(List { bytes, read: 0 })),
+        Err(error) => {
+            eprintln!(rt; "{file}: {error}")?;
+            Ok(None)
+        }
+    }
 }
 
 // 1 for a case that failed, which gets a line.
-pub fn failed(name: &[u8], case: u64, holds: bool) -> u64
-    ensures { result ≤ 1 }
+pub fn failed(rt: &impl Print, name: &str, case: u64, holds: bool) -> io::Result<u64>
+    ensures { IfOk result (λ n. n ≤ 1) }
 {
     if holds {
-        return 0;
+        return Ok(0);
     }
-    print_failure(name, case);
-    1
+    print_failure(rt, name, case)?;
+    Ok(1)
 }
 
 // Ends a list with its last line.
-pub fn end_list(list: i32, name: &[u8], tried: u64, failed: u64) {
-    print_count(name, tried, failed);
-    libc::close(list);
+pub fn end_list(
+    rt: &impl Print,
+    list: List,
+    name: &str,
+    tried: u64,
+    failed: u64,
+) -> io::Result<()> {
+    drop(list);
+    print_count(rt, name, tried, failed)
 }
 
 // A line for a case that failed: the list's name and the case's number.
-pub fn print_failure(name: &[u8], case: u64) {
-    io::write_all(STDOUT_FILENO, name);
-    io::write_all(STDOUT_FILENO, b": wrong at ");
-    io::print_decimal(STDOUT_FILENO, case);
-    io::write_all(STDOUT_FILENO, b"\n");
+pub fn print_failure(rt: &impl Print, name: &str, case: u64) -> io::Result<()> {
+    println!(rt; "{name}: wrong at {case}")
 }
 
 // The last line: how many cases were tried, and how many failed.
-pub fn print_count(name: &[u8], tried: u64, failed: u64) {
-    io::write_all(STDOUT_FILENO, name);
-    io::write_all(STDOUT_FILENO, b": ");
-    io::print_decimal(STDOUT_FILENO, tried);
-    io::write_all(STDOUT_FILENO, b" tried, ");
-    io::print_decimal(STDOUT_FILENO, failed);
-    io::write_all(STDOUT_FILENO, b" failed\n");
+pub fn print_count(rt: &impl Print, name: &str, tried: u64, failed: u64) -> io::Result<()> {
+    println!(rt; "{name}: {tried} tried, {failed} failed")
 }
 
 // ---- numbers of a list, and answers that hold none
 
 // Signed numbers as the list has them.
-pub fn next_numbers(list: i32, numbers: &mut [i32]) {
+pub fn next_numbers(list: &mut List, numbers: &mut [i32]) {
     let mut i = 0;
     while i < numbers.len() {
         numbers[i] = signed(next_word(list));
