@@ -13,7 +13,7 @@ use Rattle.laws.proofs.Filling.{length-listing, listing-same, listing-take}
 use Rattle.plane.specs.Difference.{difference}
 use Rattle.plane.proofs.Halves.{part_at}
 use Rattle.plane.proofs.Listing.{get_d-listing}
-use Rattle.cost.specs.Cost.{weighted, bilinear}
+use Rattle.cost.specs.Cost.{bilinear}
 use Rattle.cost.specs.Inner.{row_difference, bilinear_window_cost}
 use Rattle.blend.specs.declared.Weights.{Weights}
 use Rattle.blend.specs.Inner.{pel_of, window_from, weights_of, weighed, predicted_from}

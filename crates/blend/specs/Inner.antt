@@ -1,6 +1,6 @@
 -- What the functions below the public calls ask and answer; no public contract cites it.
 -- Assumes nothing.
-use Rattle.std.specs.Prelude.{ℕ, ◌+◌, ◌*◌, ◌-◌, ◌/◌, ◌≤◌, ◌<◌, List, ◌≡◌, length, get_or}
+use Rattle.std.specs.Prelude.{ℕ, ◌+◌, ◌*◌, ◌-◌, ◌≤◌, List, ◌≡◌, length, get_or}
 use Rattle.laws.specs.Parts.{listing}
 use Rattle.plane.specs.declared.Offset.{Offset}
 use Rattle.cost.specs.Cost.{bilinear}
