@@ -1,7 +1,3 @@
-use borrow.Author.Rules.{rules}
-use Prim.Native.Nat.{◌-◌, ◌≤◌}
-use native.Mathlib.Omega.{arith}
-use lib.ListN.{length}
 use Rattle.median.proofs.Patterns.{above-is-no-nan}
 use Rattle.median.proofs.between.Goals as goal
 

@@ -1,8 +1,5 @@
-use borrow.Author.Rules.{rules}
 use Prim.Native.Nat.{◌-◌, ◌≤◌}
-use native.Mathlib.Omega.{arith}
 use lib.ListN.{length}
-use Rattle.median.proofs.Patterns.{above-is-no-nan}
 use Rattle.median.proofs.between.Given as goal
 
 abbrev pub invariant-loop-i : goal.invariant-loop-i

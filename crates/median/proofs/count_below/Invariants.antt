@@ -1,14 +1,9 @@
 -- `median::count_below`: what is counted, with what is left to count, is the whole count.
 -- Assumes nothing.
-use borrow.Author.Rules.{rules}
 use Prim.Native.Nat.{◌+◌, ◌-◌, ◌≤◌}
-use mathlib.Core.Logic.{⊎_elim}
 use mathlib.Core.Path.{◌≡◌}
-use native.Mathlib.Nat.{zero-add}
-use native.Mathlib.Omega.{arith}
 use lib.ListN.{length, drop}
 use Rattle.median.specs.Inner.{below}
-use Rattle.median.proofs.Counting.{counts-one, counts-none, counted}
 use Rattle.median.proofs.count_below.Given as goal
 
 abbrev pub invariant-loop-i : goal.invariant-loop-i

@@ -1,12 +1,12 @@
 use borrow.Author.Rules.{rules}
-use Prim.Native.Nat.{ℕ, ◌+◌, ◌-◌, ◌/◌, ◌<◌}
+use Prim.Native.Nat.{ℕ, ◌<◌}
 use mathlib.Core.Bool.{Bool, not}
 use mathlib.Core.Path.{sym, subst}
 use native.Mathlib.Omega.{arith}
 use lib.Dec.{T}
 use lib.Ieee.{binary64, nan_bits}
 use Rattle.median.proofs.Patterns.{infinite, no_nan}
-use Rattle.median.proofs.Search.{Between, starts, goes-up, goes_down, ends}
+use Rattle.median.proofs.Search.{starts, goes-up, goes_down, ends}
 use Rattle.median.proofs.median.Goals as goal
 
 -- `from_bits` is defined

@@ -2,7 +2,6 @@
 -- Assumes nothing.
 use Prim.Native.Nat.{◌+◌, ◌-◌, ◌*◌, ◌/◌}
 use native.Mathlib.Omega.{arith}
-use borrow.Author.Rules.{rules}
 use Rattle.root.proofs.Patterns.{not-nan}
 use Rattle.root.proofs.Ends.{less-is-no-nan}
 use Rattle.root.proofs.guess.Goals as goal

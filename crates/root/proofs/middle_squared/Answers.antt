@@ -1,7 +1,6 @@
 -- `root::middle_squared`: the square by halves is the square divided.
 -- Assumes nothing.
 use native.Mathlib.Omega.{arith}
-use borrow.Author.Rules.{rules}
 use Rattle.root.proofs.Halves.{middle-by-halves, small_halves}
 use Rattle.root.proofs.middle_squared.Goals as goal
 

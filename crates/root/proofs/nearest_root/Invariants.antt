@@ -1,12 +1,7 @@
 -- `root::nearest_root`: the bounds close around the root, whatever the guess.
 -- Assumes nothing.
-use Prim.Native.Nat.{ℕ, ◌+◌, ◌-◌, ◌≤◌}
-use mathlib.Core.Logic.{⊎_elim}
-use mathlib.Core.Path.{◌≡◌, sym, ◌∙◌, subst}
-use native.Mathlib.Omega.{arith}
-use borrow.Author.Rules.{rules}
-use Rattle.root.specs.Inner.{middle}
-use Rattle.root.proofs.Halves.{Bracket, low_end, high_end, found, raised, lowered}
+use Prim.Native.Nat.{◌-◌}
+use Rattle.root.proofs.Halves.{Bracket}
 use Rattle.root.proofs.nearest_root.Given as goal
 
 abbrev pub invariant-loop-high : goal.invariant-loop-high

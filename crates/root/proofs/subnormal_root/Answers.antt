@@ -1,10 +1,9 @@
 use Prim.Native.Nat.{◌≤◌, ◌<◌}
 use mathlib.Core.Path.{refl, sym, ◌∙◌}
 use native.Mathlib.Omega.{arith}
-use borrow.Author.Rules.{rules}
 use lib.Ieee.{binary64, of_bits}
 use Rattle.root.specs.Inner.{leading}
-use Rattle.root.proofs.Scaling.{Doubled, power-left, doubled-again, doubled-up}
+use Rattle.root.proofs.Scaling.{power-left, doubled-again, doubled-up}
 use Rattle.root.proofs.Patterns.{subnormal-value, root-of-normal}
 use Rattle.root.proofs.subnormal_root.Goals as goal
 

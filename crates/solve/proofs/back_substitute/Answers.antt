@@ -1,11 +1,8 @@
 use native.Mathlib.Omega.{arith}
-use Prim.Native.Nat.{◌-◌}
 use Rattle.laws.proofs.Loops.{again, done}
-use Rattle.laws.specs.Loops.{run}
-use mathlib.Core.Path.{◌≡◌, refl}
+use mathlib.Core.Path.{refl}
 use Rattle.solve.specs.Elimination.{system}
 use Rattle.solve.specs.Solution.{unknown_step, unknowns_from}
-use borrow.Author.Rules.{rules}
 use Rattle.solve.proofs.back_substitute.Goals as goal
 
 pub loop-i-init : goal.loop-i-init

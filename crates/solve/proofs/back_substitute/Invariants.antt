@@ -1,13 +1,10 @@
 -- `solve::back_substitute`: what is left to find, from here as from the last row.
 -- Assumes nothing.
-use native.Mathlib.Omega.{arith}
 use Prim.Native.Nat.{◌-◌}
-use Rattle.laws.proofs.Loops.{again, done}
 use Rattle.laws.specs.Loops.{run}
-use mathlib.Core.Path.{◌≡◌, refl}
+use mathlib.Core.Path.{◌≡◌}
 use Rattle.solve.specs.Elimination.{system}
-use Rattle.solve.specs.Solution.{unknown_step, unknowns_from}
-use borrow.Author.Rules.{rules}
+use Rattle.solve.specs.Solution.{unknown_step}
 use Rattle.solve.proofs.back_substitute.Given as goal
 
 abbrev pub invariant-loop-i : goal.invariant-loop-i

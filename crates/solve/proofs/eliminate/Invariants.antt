@@ -1,13 +1,10 @@
 -- `solve::eliminate`: what is left to eliminate, from here as from the first column; a refused column is the last.
 -- Assumes nothing.
 use Prim.Native.Nat.{◌-◌}
-use Rattle.laws.proofs.Loops.{done}
 use Rattle.laws.specs.Loops.{run}
-use mathlib.Core.Path.{◌≡◌, refl}
+use mathlib.Core.Path.{◌≡◌}
 use Rattle.solve.specs.declared.Outcome.TheVariants.{Solved}
-use Rattle.solve.specs.Elimination.{system, eliminating, column_step, eliminated}
-use Rattle.solve.proofs.Rows.{column-next, column-last}
-use borrow.Author.Rules.{rules}
+use Rattle.solve.specs.Elimination.{system, eliminating, column_step}
 use Rattle.solve.proofs.eliminate.Given as goal
 
 abbrev pub invariant-loop-col : goal.invariant-loop-col

@@ -3,7 +3,6 @@
 use native.Mathlib.Omega.{arith}
 use Rattle.solve.proofs.Rows.{column-refused, column-passed}
 use Rattle.solve.specs.Elimination.{system}
-use borrow.Author.Rules.{rules}
 use Rattle.solve.proofs.eliminate_column.Goals as goal
 
 pub pivot_of-pivot-requires : goal.pivot_of-pivot-requires

@@ -3,7 +3,6 @@
 use native.Mathlib.Omega.{arith}
 use Rattle.solve.proofs.Rows.{stands, both-exchanged}
 use Rattle.solve.specs.Elimination.{system}
-use borrow.Author.Rules.{rules}
 use Rattle.solve.proofs.exchange.Goals as goal
 
 pub returns-then-pivot-col : goal.returns-then-pivot-col

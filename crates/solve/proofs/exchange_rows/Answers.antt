@@ -1,10 +1,7 @@
 use native.Mathlib.Omega.{arith}
-use Prim.Native.Nat.{◌-◌}
 use Rattle.laws.proofs.Loops.{again, done}
-use Rattle.laws.specs.Loops.{run}
-use mathlib.Core.Path.{◌≡◌, refl}
+use mathlib.Core.Path.{refl}
 use Rattle.solve.specs.Elimination.{exchange_at, exchanged_rows}
-use borrow.Author.Rules.{rules}
 use Rattle.solve.proofs.exchange_rows.Goals as goal
 
 pub loop-k-init : goal.loop-k-init

@@ -1,12 +1,9 @@
 -- `solve::exchange_rows`: what is left to exchange, from here as from the first column.
 -- Assumes nothing.
-use native.Mathlib.Omega.{arith}
 use Prim.Native.Nat.{◌-◌}
-use Rattle.laws.proofs.Loops.{again, done}
 use Rattle.laws.specs.Loops.{run}
-use mathlib.Core.Path.{◌≡◌, refl}
-use Rattle.solve.specs.Elimination.{exchange_at, exchanged_rows}
-use borrow.Author.Rules.{rules}
+use mathlib.Core.Path.{◌≡◌}
+use Rattle.solve.specs.Elimination.{exchange_at}
 use Rattle.solve.proofs.exchange_rows.Given as goal
 
 abbrev pub invariant-loop-k : goal.invariant-loop-k

@@ -1,8 +1,6 @@
 use native.Mathlib.Omega.{arith}
-use Prim.Native.Nat.{◌-◌, ◌<◌}
 use Rattle.laws.proofs.Loops.{again, done}
-use Rattle.laws.specs.Loops.{run}
-use mathlib.Core.Path.{◌≡◌, refl}
+use mathlib.Core.Path.{refl}
 use Rattle.solve.specs.Elimination.{pivot_step}
 use borrow.Author.Rules.{rules}
 use Rattle.solve.proofs.pivot_of.Goals as goal

@@ -1,12 +1,9 @@
 -- `solve::pivot_of`: what is left to compare, from here as from the diagonal.
 -- Assumes nothing.
-use native.Mathlib.Omega.{arith}
 use Prim.Native.Nat.{◌-◌, ◌<◌}
-use Rattle.laws.proofs.Loops.{again, done}
 use Rattle.laws.specs.Loops.{run}
-use mathlib.Core.Path.{◌≡◌, refl}
+use mathlib.Core.Path.{◌≡◌}
 use Rattle.solve.specs.Elimination.{pivot_step}
-use borrow.Author.Rules.{rules}
 use Rattle.solve.proofs.pivot_of.Given as goal
 
 abbrev pub invariant-loop-row : goal.invariant-loop-row

@@ -1,11 +1,8 @@
 use native.Mathlib.Omega.{arith}
 use Rattle.solve.proofs.Rows.{row-reduced}
-use Prim.Native.Nat.{◌-◌}
 use Rattle.laws.proofs.Loops.{again, done}
-use Rattle.laws.specs.Loops.{run}
-use mathlib.Core.Path.{◌≡◌, refl}
-use Rattle.solve.specs.Elimination.{system, reduce_row, reduced}
-use borrow.Author.Rules.{rules}
+use mathlib.Core.Path.{refl}
+use Rattle.solve.specs.Elimination.{reduce_row, reduced}
 use Rattle.solve.proofs.reduce_below.Goals as goal
 
 pub overflow_add-row : goal.overflow_add-row

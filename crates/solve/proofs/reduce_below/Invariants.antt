@@ -1,13 +1,9 @@
 -- `solve::reduce_below`: what is left to reduce, from here as from the row below the diagonal.
 -- Assumes nothing.
-use native.Mathlib.Omega.{arith}
-use Rattle.solve.proofs.Rows.{row-reduced}
 use Prim.Native.Nat.{◌-◌}
-use Rattle.laws.proofs.Loops.{again, done}
 use Rattle.laws.specs.Loops.{run}
-use mathlib.Core.Path.{◌≡◌, refl}
-use Rattle.solve.specs.Elimination.{system, reduce_row, reduced}
-use borrow.Author.Rules.{rules}
+use mathlib.Core.Path.{◌≡◌}
+use Rattle.solve.specs.Elimination.{system, reduce_row}
 use Rattle.solve.proofs.reduce_below.Given as goal
 
 abbrev pub invariant-loop-row : goal.invariant-loop-row

@@ -1,10 +1,7 @@
 use native.Mathlib.Omega.{arith}
-use Prim.Native.Nat.{◌-◌}
 use Rattle.laws.proofs.Loops.{again, done}
-use Rattle.laws.specs.Loops.{run}
-use mathlib.Core.Path.{◌≡◌, refl}
+use mathlib.Core.Path.{refl}
 use Rattle.solve.specs.Elimination.{factor_of, reduce_at, reduced_row}
-use borrow.Author.Rules.{rules}
 use Rattle.solve.proofs.reduce_row.Goals as goal
 
 pub overflow_mul-factor : goal.overflow_mul-factor

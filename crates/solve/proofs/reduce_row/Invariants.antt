@@ -1,12 +1,9 @@
 -- `solve::reduce_row`: what is left to reduce, from here as from the pivot's column.
 -- Assumes nothing.
-use native.Mathlib.Omega.{arith}
 use Prim.Native.Nat.{◌-◌}
-use Rattle.laws.proofs.Loops.{again, done}
 use Rattle.laws.specs.Loops.{run}
-use mathlib.Core.Path.{◌≡◌, refl}
-use Rattle.solve.specs.Elimination.{factor_of, reduce_at, reduced_row}
-use borrow.Author.Rules.{rules}
+use mathlib.Core.Path.{◌≡◌}
+use Rattle.solve.specs.Elimination.{reduce_at}
 use Rattle.solve.proofs.reduce_row.Given as goal
 
 abbrev pub invariant-loop-k : goal.invariant-loop-k

@@ -1,10 +1,7 @@
 use native.Mathlib.Omega.{arith}
-use Prim.Native.Nat.{◌-◌}
 use Rattle.laws.proofs.Loops.{again, done}
-use Rattle.laws.specs.Loops.{run}
-use mathlib.Core.Path.{◌≡◌, refl}
+use mathlib.Core.Path.{refl}
 use Rattle.solve.specs.Solution.{residue_step, residue_of}
-use borrow.Author.Rules.{rules}
 use Rattle.solve.proofs.residue_of.Goals as goal
 
 pub offset_bounds-b-row : goal.offset_bounds-b-row

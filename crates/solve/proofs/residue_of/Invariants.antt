@@ -1,12 +1,9 @@
 -- `solve::residue_of`: what is left to subtract, from here as from the diagonal.
 -- Assumes nothing.
-use native.Mathlib.Omega.{arith}
 use Prim.Native.Nat.{◌-◌}
-use Rattle.laws.proofs.Loops.{again, done}
 use Rattle.laws.specs.Loops.{run}
-use mathlib.Core.Path.{◌≡◌, refl}
-use Rattle.solve.specs.Solution.{residue_step, residue_of}
-use borrow.Author.Rules.{rules}
+use mathlib.Core.Path.{◌≡◌}
+use Rattle.solve.specs.Solution.{residue_step}
 use Rattle.solve.proofs.residue_of.Given as goal
 
 abbrev pub invariant-loop-k : goal.invariant-loop-k

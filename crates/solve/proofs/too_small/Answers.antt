@@ -1,6 +1,5 @@
 -- `solve::too_small`: the magnitude is that of the pivot.
 -- Assumes nothing.
-use borrow.Author.Rules.{rules}
 use Rattle.solve.proofs.too_small.Goals as goal
 
 pub returns : goal.returns

@@ -1,7 +1,6 @@
 -- `solve::unknown_step`: the row's residue divided by its diagonal entry.
 -- Assumes nothing.
 use native.Mathlib.Omega.{arith}
-use borrow.Author.Rules.{rules}
 use Rattle.solve.proofs.unknown_step.Goals as goal
 
 pub overflow_sub-row : goal.overflow_sub-row
