@@ -1,5 +1,5 @@
 //! Hands the compiler's name and flags to the program that prints them, and links the two writers of a field and the search by
-//! hand, which `run` makes by `rt staticlib bench_placing` and of `hand/search.c`.
+//! hand, which `run` makes by `rt lib` of the crate bench_placing and of `hand/search.c`.
 
 use std::env;
 use std::process::Command;
@@ -12,8 +12,8 @@ fn main() {
     let flags = env::var("CARGO_ENCODED_RUSTFLAGS").unwrap_or_default().replace('\u{1f}', " ");
     println!("cargo:rustc-env=BENCH_RUSTFLAGS={flags}");
     let package = env::var("CARGO_MANIFEST_DIR").expect("cargo names the package's folder");
-    for (folder, library) in [("staticlib", "bench_placing"), ("hand", "hand")] {
-        let folder = format!("{package}/../target/{folder}");
+    for (folder, library) in [("crates/bench_placing/out", "bench_placing"), ("target/hand", "hand")] {
+        let folder = format!("{package}/../{folder}");
         println!("cargo:rerun-if-changed={folder}/lib{library}.a");
         println!("cargo:rustc-link-search=native={folder}");
         println!("cargo:rustc-link-lib=static={library}");

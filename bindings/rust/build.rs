@@ -1,6 +1,6 @@
 // SPDX-License-Identifier: MIT
 //! Finds the library, and links it: in the folder that BELT_LIB names; else where pkg-config says that it is installed;
-//! else in the repository that this package stands in, where `bindings/library` makes it by `rt staticlib` if it isn't
+//! else in the repository that this package stands in, where `bindings/library` makes it by `rt lib` if it isn't
 //! there or any file under `crates/` is newer. The static library is linked where the folder has one, else the shared.
 //! One of another major version, or of an older minor one than this package, is refused here, in one line.
 
