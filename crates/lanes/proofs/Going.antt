@@ -1,21 +1,18 @@
 -- How many rows a sum adds that ends early: the first, and one for each row before which it is below the best.
 -- Assumes nothing.
-use Prim.Native.Nat.{ℕ, zero, suc, ◌+◌, ◌*◌, ◌-◌, ◌≤◌, ◌<◌}
+use Prim.Native.Nat.{ℕ, zero, suc, ◌+◌, ◌-◌, ◌≤◌, ◌<◌}
 use mathlib.Core.Bool.{Bool, true, false}
-use mathlib.Core.List.{List}
-use mathlib.Core.Path.{◌≡◌, refl, sym, ap, subst, ◌∙◌}
+use mathlib.Core.Path.{◌≡◌, refl, ap, subst, ◌∙◌}
 use native.Mathlib.Numerals.{add-one}
 use native.Mathlib.Omega.{arith}
 use lib.Dec.{ltb}
-use lib.ListN.{length, drop, drop_of_length-le}
+use lib.ListN.{drop, drop_of_length-le}
 use borrow.Author.Tests.{ltb-true, ltb-false, lt-ltb, le-ltb}
 use Rattle.laws.specs.Loops.{sum}
 use Rattle.laws.specs.Parts.{listing}
 use Rattle.laws.specs.Refusal.{choose}
-use Rattle.laws.proofs.Loops.{sum_step}
 use Rattle.laws.proofs.Filling.{length-listing}
-use Rattle.cost.specs.declared.Added.{Added}
-use Rattle.cost.specs.Ended.{total, ended}
+use Rattle.cost.specs.Ended.{ended}
 use Rattle.cost.proofs.Ended.{early-test, total-listing, row_next}
 use Rattle.lanes.specs.Inner.{live}
 
