@@ -1,0 +1,12 @@
+-- `fit::rotzoom_sums`: a short list looks up no motion, and a long one finds them all.
+-- Assumes nothing.
+use mathlib.Core.List.{[], ◌∷◌}
+use Rattle.laws.specs.Binary64.{nought}
+use Rattle.fit.proofs.Tables.{none-looked-up, all-looked-up}
+use Rattle.fit.proofs.rotzoom_sums.Goals as goal
+
+pub rotzoom_over-requires : goal.rotzoom_over-requires
+rotzoom_over-requires c = none-looked-up (nought ∷ [])
+
+pub rotzoom_over-requires-2 : goal.rotzoom_over-requires-2
+rotzoom_over-requires-2 c = all-looked-up c.motions-motions.result c.motions-motions.ensures.1 c.motions-motions.ensures.0

@@ -1,0 +1,15 @@
+-- `fit::translation_ends`: a list that is too long answers its number, any other the fit of its sums.
+-- Assumes nothing.
+use Rattle.fit.proofs.Accepted.{list-few}
+use mathlib.Core.Path.{sym, ◌∙◌}
+use borrow.Author.Tests.{ne_eqb}
+use Rattle.fit.proofs.translation_ends.Goals as goal
+
+pub returns-then-refusal-ne0 : goal.returns-then-refusal-ne0
+returns-then-refusal-ne0 c = rw (← c.list_refusal-refusal.ensures, ne_eqb _ 0 c.if-refusal-ne0.true)
+
+pub translation_of-requires : goal.translation_of-requires
+translation_of-requires c = list-few c.args.samples (sym c.list_refusal-refusal.ensures ∙ c.if-refusal-ne0.false)
+
+pub returns : goal.returns
+returns c = rw (← c.list_refusal-refusal.ensures, c.if-refusal-ne0.false) c.translation_of.ensures
