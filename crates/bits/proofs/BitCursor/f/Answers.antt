@@ -1,7 +1,5 @@
 -- `bits::BitCursor::f`: the field lies in the five bytes from that of its first bit on. Assumes nothing.
 use borrow.Author.Rules.{rules}
-use Rattle.bits.proofs.BitCursor.f.Statement.{statement}
-use Rattle.bits.proofs.BitCursor.f.Tie as tie
 use Prim.Native.Nat.{ℕ, ◌+◌, ◌-◌, ◌*◌, ◌/◌, ◌%◌, ◌^◌}
 use mathlib.Core.Path.{◌≡◌, ap, ◌∙◌}
 use native.Mathlib.Omega.{arith}
@@ -10,10 +8,22 @@ use Rattle.bits.specs.Fields.{field}
 use Rattle.bits.proofs.Buffer.{bit_at_lt}
 use Rattle.bits.proofs.Fields.{field-inside}
 use Rattle.bits.proofs.Words.{five-field}
+use Rattle.bits.proofs.BitCursor.f.Goals as goal
 
-returns : tie.Need-returns
-returns c =
-    let a = c.before.before.before.args in
+pub overflow_cast-used : goal.overflow_cast-used
+overflow_cast-used c = omega arith
+
+pub five_bytes-word-requires : goal.five_bytes-word-requires
+five_bytes-word-requires c = omega arith
+
+pub bits_inside-requires : goal.bits_inside-requires
+bits_inside-requires c = omega arith
+
+pub overflow_add-result : goal.overflow_add-result
+overflow_add-result c = omega arith
+
+pub returns : goal.returns
+returns c = let a = c.args in
     let g = bit_at a.bytes.now in
     let j : ℕ = 8 * (a.self.at / 8) in
     let k : ℕ = a.self.at % 8 in
@@ -23,12 +33,9 @@ returns c =
     record {
       value =
           c.bits_inside.ensures
-          ∙ ap (λ (w : ℕ). w / 2 ^ s % 2 ^ a.n) (c.before.five-bytes.ensures.0 ∙ five-field a.bytes.now (a.self.at / 8))
+          ∙ ap (λ (w : ℕ). w / 2 ^ s % 2 ^ a.n) (c.five_bytes-word.ensures.0 ∙ five-field a.bytes.now (a.self.at / 8))
           ∙ ap (λ (m : ℕ). field g j m / 2 ^ s % 2 ^ a.n) whole
           ∙ field-inside g (bit_at_lt a.bytes.now) j k a.n s
           ∙ ap (λ (i : ℕ). field g i a.n) place;
       next = omega arith;
     }
-
-pub f_spec : {M : Type 1} → statement M
-f_spec = tie.close (tie.spec (λ c. omega arith) (λ c. omega arith) (λ c. omega arith) (λ c. omega arith) returns)
