@@ -1,6 +1,6 @@
 -- At whole pels a blend is the pel itself, so the eighths' start is a sum by whole pels.
 -- Assumes nothing.
-use Prim.Native.Nat.{ℕ, ◌+◌, ◌*◌, ◌-◌, ◌/◌, ◌%◌, ◌≤◌}
+use Prim.Native.Nat.{ℕ, ◌+◌, ◌*◌, ◌-◌, ◌/◌, ◌%◌}
 use mathlib.Core.List.{List}
 use mathlib.Core.Path.{◌≡◌, refl, sym, ap, ◌∙◌}
 use native.Mathlib.Omega.{arith}
@@ -14,7 +14,6 @@ use Rattle.cost.specs.declared.Added.{Added}
 use Rattle.cost.specs.Cost.{bilinear}
 use Rattle.cost.specs.Ended.{ended}
 use Rattle.cost.specs.Inner.{window_cost, window_costs, bilinear_window_cost, bilinear_window_costs, AtMost, Sums}
-use Rattle.stage.specs.declared.Best.{Best}
 use Rattle.stage.specs.Inner.{start_of, eightfold, Fine, FineBytes}
 use Rattle.stage.proofs.Turns.{start-whole}
 
