@@ -10,7 +10,7 @@ ghost use Rattle.std.specs.Prelude.{◌<◌};
 
 use class_set::ALL_CLASSES;
 use job::{Report, Settings};
-use libc::STDOUT_FILENO;
+use std::io;
 
 const SIDE: usize = 64;
 
@@ -161,32 +161,27 @@ fn true_motion(gm_type: u8) -> [i32; 6] {
 
 // ---- what is printed
 
-fn print(text: &[u8]) {
-    io::write_all(STDOUT_FILENO, text);
-}
-
 fn magnitude_of(n: i32) -> u64 {
     grid::magnitude(grid::from_centre(n, 0))
 }
 
-fn print_digit(n: u64) {
-    io::print_decimal(STDOUT_FILENO, n % 10);
+fn print_digit(rt: &impl Print, n: u64) -> io::Result<()> {
+    rt.print(n % 10)
 }
 
 // A number at 16 fraction bits, with four decimals.
-fn print_decimals(n: i32) {
+fn print_decimals(rt: &impl Print, n: i32) -> io::Result<()> {
     if n < 0 {
-        print(b" -");
+        rt.print(" -")?;
     } else {
-        print(b" ");
+        rt.print(" ")?;
     }
     let parts = (magnitude_of(n) % 0x1_0000_0000 * 10000 + 32768) / 65536;
-    io::print_decimal(STDOUT_FILENO, parts / 10000);
-    print(b".");
-    print_digit(parts / 1000);
-    print_digit(parts / 100);
-    print_digit(parts / 10);
-    print_digit(parts);
+    print!(rt; "{}.", parts / 10000)?;
+    print_digit(rt, parts / 1000)?;
+    print_digit(rt, parts / 100)?;
+    print_digit(rt, parts / 10)?;
+    print_digit(rt, parts)
 }
 
 // The zoom and the turn in degrees of a model, by the first terms of their series in the tangent of the
@@ -211,33 +206,34 @@ fn slide_of(model: [i32; 6]) -> i32 {
     grid_number::grid_number((model[3] as f64 + model[4] as f64) / 65536.0)
 }
 
-fn print_motion(name: &[u8], model: [i32; 6]) {
-    print(name);
-    print_decimals(model[0]);
-    print(b" right,");
-    print_decimals(model[1]);
-    print(b" down, zoom");
-    print_decimals(zoom_of(model));
-    print(b", turn");
-    print_decimals(degrees_of(model));
-    print(b" degrees, slide");
-    print_decimals(slide_of(model));
-    print(b"\n");
+fn print_motion(rt: &impl Print, name: &str, model: [i32; 6]) -> io::Result<()> {
+    rt.print(name)?;
+    print_decimals(rt, model[0])?;
+    rt.print(" right,")?;
+    print_decimals(rt, model[1])?;
+    rt.print(" down, zoom")?;
+    print_decimals(rt, zoom_of(model))?;
+    rt.print(", turn")?;
+    print_decimals(rt, degrees_of(model))?;
+    rt.print(" degrees, slide")?;
+    print_decimals(rt, slide_of(model))?;
+    rt.println("")
 }
 
-fn print_type(gm_type: u8) {
+fn print_type(rt: &impl Print, gm_type: u8) -> io::Result<()> {
     if gm_type == IDENTITY {
-        print(b"IDENTITY");
+        rt.print("IDENTITY")?;
     }
     if gm_type == TRANSLATION {
-        print(b"TRANSLATION");
+        rt.print("TRANSLATION")?;
     }
     if gm_type == ROTZOOM {
-        print(b"ROTZOOM");
+        rt.print("ROTZOOM")?;
     }
     if gm_type == AFFINE {
-        print(b"AFFINE");
+        rt.print("AFFINE")?;
     }
+    Ok(())
 }
 
 // ---- the election, in words
@@ -250,105 +246,110 @@ struct Held {
 }
 
 // Which of two types with errors under the gate: the one held, unless the later is clearly better.
-fn compare(held: Held, gm_type: u8, error: f64) -> Held {
+fn compare(rt: &impl Print, held: Held, gm_type: u8, error: f64) -> io::Result<Held> {
     if error > 0.8 * held.error {
-        print(b": more than 0.8 of what the one held leaves, passed over\n");
-        return held;
+        rt.println(": more than 0.8 of what the one held leaves, passed over")?;
+        return Ok(held);
     }
     if held.error - error <= 0.02 {
-        print(b": not more than 0.02 less than the one held, passed over\n");
-        return held;
+        rt.println(": not more than 0.02 less than the one held, passed over")?;
+        return Ok(held);
     }
-    print(
-        b": at most 0.8 of what the one held leaves and more than 0.02 less, held in its place\n",
-    );
-    Held { gm_type, error }
+    rt.println(
+        ": at most 0.8 of what the one held leaves and more than 0.02 less, held in its place",
+    )?;
+    Ok(Held { gm_type, error })
 }
 
 // A type's trimmed fit on the grid, and what it leaves.
-fn explain_type(held: Held, gate: f64, gm_type: u8, words: &[u32]) -> Held {
+fn explain_type(
+    rt: &impl Print,
+    held: Held,
+    gate: f64,
+    gm_type: u8,
+    words: &[u32],
+) -> io::Result<Held> {
     let candidate = word_trim::quantize_trimmed(gm_type, HIGH_PRECISION, words);
-    print_type(gm_type);
+    print_type(rt, gm_type)?;
     if candidate.refusal != 0 {
         print_count(
-            b" is refused, passed over: row ",
+            rt,
+            " is refused, passed over: row ",
             candidate.refusal as usize,
-        );
-        return held;
+        )?;
+        return Ok(held);
     }
     let own = candidate.params;
     let left = score::mean_sq_residual(own, words);
-    print(b" leaves");
-    print_decimals(grid_number::grid_number(left.score));
+    rt.print(" leaves")?;
+    print_decimals(rt, grid_number::grid_number(left.score))?;
     if gate < left.score {
-        print(b": more than that, passed over\n");
-        return held;
+        rt.println(": more than that, passed over")?;
+        return Ok(held);
     }
     if held.gm_type == IDENTITY {
-        print(b": the first that doesn't leave more, held\n");
-        return Held {
+        rt.println(": the first that doesn't leave more, held")?;
+        return Ok(Held {
             gm_type,
             error: left.score,
-        };
+        });
     }
-    compare(held, gm_type, left.score)
+    compare(rt, held, gm_type, left.score)
 }
 
-fn explain(words: &[u32]) -> u8 {
+fn explain(rt: &impl Print, words: &[u32]) -> io::Result<u8> {
     let energy = score::mean_sq_residual(true_motion(IDENTITY), words);
     let gate = 0.25 * energy.score;
-    print(b"motion energy:");
-    print_decimals(grid_number::grid_number(energy.score));
+    rt.print("motion energy:")?;
+    print_decimals(rt, grid_number::grid_number(energy.score))?;
     if energy.score < 0.25 {
-        print(b" square pels, under 0.25: no type is asked\n");
-        return IDENTITY;
+        rt.println(" square pels, under 0.25: no type is asked")?;
+        return Ok(IDENTITY);
     }
-    print(b" square pels; a model may leave");
-    print_decimals(grid_number::grid_number(gate));
-    print(b"\n");
+    rt.print(" square pels; a model may leave")?;
+    print_decimals(rt, grid_number::grid_number(gate))?;
+    rt.println("")?;
     let none = Held {
         gm_type: IDENTITY,
         error: energy.score,
     };
-    let first = explain_type(none, gate, TRANSLATION, words);
-    let second = explain_type(first, gate, ROTZOOM, words);
-    let third = explain_type(second, gate, AFFINE, words);
-    third.gm_type
+    let first = explain_type(rt, none, gate, TRANSLATION, words)?;
+    let second = explain_type(rt, first, gate, ROTZOOM, words)?;
+    let third = explain_type(rt, second, gate, AFFINE, words)?;
+    Ok(third.gm_type)
 }
 
-fn print_byte(byte: u8) {
-    io::print_hex(STDOUT_FILENO, byte as u64, 2);
+fn print_byte(rt: &impl Print, byte: u8) -> io::Result<()> {
+    print!(rt; "{byte:02x}")
 }
 
-fn print_bytes(bytes: &[u8]) {
-    print(b"header: ");
+fn print_bytes(rt: &impl Print, bytes: &[u8]) -> io::Result<()> {
+    rt.print("header: ")?;
     let mut i = 0;
     while i < bytes.len() {
-        print_byte(bytes[i]);
+        print_byte(rt, bytes[i])?;
         i += 1;
     }
-    print(b"\n");
+    rt.println("")
 }
 
-fn print_count(name: &[u8], n: usize) {
-    print(name);
-    io::print_decimal(STDOUT_FILENO, n as u64);
-    print(b"\n");
+fn print_count(rt: &impl Print, name: &str, n: usize) -> io::Result<()> {
+    println!(rt; "{name}{n}")
 }
 
-fn print_report(r: Report, agree: usize) {
-    print_count(b"samples that agree within an eighth: ", agree);
-    print_count(b"of samples: ", r.samples);
-    print(b"score:");
-    print_decimals(grid_number::grid_number(r.score));
-    print(b" square pels\n");
-    print_count(b"header bits: ", r.bits);
+fn print_report(rt: &impl Print, r: Report, agree: usize) -> io::Result<()> {
+    print_count(rt, "samples that agree within an eighth: ", agree)?;
+    print_count(rt, "of samples: ", r.samples)?;
+    rt.print("score:")?;
+    print_decimals(rt, grid_number::grid_number(r.score))?;
+    rt.println(" square pels")?;
+    print_count(rt, "header bits: ", r.bits)
 }
 
-fn print_block(block: &[u8]) {
+fn print_block(rt: &impl Print, block: &[u8]) -> io::Result<()> {
     let mut text = [0u8; 4096];
     let n = listing::list_block(block, &mut text);
-    print(&text[..n]);
+    rt.write_all(&text[..n])
 }
 
 // ---- read back
@@ -429,17 +430,17 @@ fn blocks_agree(blocks: &[u8], words: &[u32], classes: &[u8]) -> bool {
     same_words(words, &again) && same_classes(classes, &sorted)
 }
 
-fn verdict(is_right: bool) {
+fn verdict(rt: &impl Print, is_right: bool) -> io::Result<()> {
     if is_right {
-        print(
-            b"verdict: the true motion was elected and measured, and what is stored reads back as it\n\n",
+        return rt.println(
+            "verdict: the true motion was elected and measured, and what is stored reads back as it\n",
         );
-        return;
     }
-    print(b"verdict: WRONG\n\n");
+    rt.println("verdict: WRONG\n")
 }
 
 fn finish(
+    rt: &impl Print,
     gm_type: u8,
     r: Report,
     words: &[u32],
@@ -447,7 +448,7 @@ fn finish(
     blocks: &[u8],
     header: &[u8],
     prior: &[i32],
-) {
+) -> io::Result<()> {
     let truth = true_motion(gm_type);
     let types = r.types;
     let models = r.models;
@@ -457,28 +458,36 @@ fn finish(
     let kinds = read.types;
     let params = read.params;
     let stored = own_model(kinds[2], params);
-    let explained = explain(words);
-    print(b"elected: ");
-    print_type(elected);
-    print(b"\n");
-    print_motion(b"true:", truth);
-    print_motion(b"measured:", measured);
-    print_motion(b"header read:", stored);
-    print_report(r, agreeing(measured, words));
+    let explained = explain(rt, words)?;
+    rt.print("elected: ")?;
+    print_type(rt, elected)?;
+    rt.println("")?;
+    print_motion(rt, "true:", truth)?;
+    print_motion(rt, "measured:", measured)?;
+    print_motion(rt, "header read:", stored)?;
+    print_report(rt, r, agreeing(measured, words))?;
     let used = replay::least((replay::least(r.bits, MOST_BITS) + 7) / 8, header.len());
-    print_bytes(&header[0..used]);
-    print_block(blocks);
+    print_bytes(rt, &header[0..used])?;
+    print_block(rt, blocks)?;
     verdict(
+        rt,
         elected == gm_type
             && explained == elected
             && kinds[2] == elected
             && same_model(truth, measured)
             && same_model(measured, stored)
             && blocks_agree(blocks, words, classes),
-    );
+    )
 }
 
-fn run(gm_type: u8, input: &[u16], reference: &[u16], prior: &[i32], models: &[i32]) {
+fn run(
+    rt: &impl Print,
+    gm_type: u8,
+    input: &[u16],
+    reference: &[u16],
+    prior: &[i32],
+    models: &[i32],
+) -> io::Result<()> {
     let settings = Settings {
         frame: FRAME,
         gm_type: 0,
@@ -513,13 +522,12 @@ fn run(gm_type: u8, input: &[u16], reference: &[u16], prior: &[i32], models: &[i
         &mut header,
     );
     if r.refusal != 0 {
-        print_count(b"refused ", r.refusal as usize);
-        return;
+        return print_count(rt, "refused ", r.refusal as usize);
     }
-    finish(gm_type, r, &words, &classes, &blocks, &header, prior);
+    finish(rt, gm_type, r, &words, &classes, &blocks, &header, prior)
 }
 
-fn show(gm_type: u8) {
+fn show(rt: &impl Print, gm_type: u8) -> io::Result<()> {
     let mut input = [0u16; PELS];
     let mut reference = [0u16; PELS];
     let mut prior = [0i32; 42];
@@ -527,15 +535,15 @@ fn show(gm_type: u8) {
     fill_frames(gm_type, &mut input, &mut reference);
     replay::fill_identity(&mut prior);
     replay::fill_identity(&mut models);
-    print(b"a belt of ");
-    print_type(gm_type);
-    print(b"\n");
-    run(gm_type, &input, &reference, &prior, &models);
+    rt.print("a belt of ")?;
+    print_type(rt, gm_type)?;
+    rt.println("")?;
+    run(rt, gm_type, &input, &reference, &prior, &models)
 }
 
-fn main() {
-    show(IDENTITY);
-    show(TRANSLATION);
-    show(ROTZOOM);
-    show(AFFINE);
+fn main(rt: HostRuntime) -> io::Result<()> {
+    show(&rt, IDENTITY)?;
+    show(&rt, TRANSLATION)?;
+    show(&rt, ROTZOOM)?;
+    show(&rt, AFFINE)
 }

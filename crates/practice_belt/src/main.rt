@@ -3,7 +3,7 @@
 // found, then v and u made, in eighths. The belt is noise, so that not every motion made is found.
 #![tactic(auto)]
 
-use libc::STDOUT_FILENO;
+use std::io;
 
 const SEED: u32 = 1;
 
@@ -28,48 +28,42 @@ const V_MADE: u32 = (8 * DY + MOTION_BIAS as i32) as u32;
 
 const U_MADE: u32 = (8 * DX + MOTION_BIAS as i32) as u32;
 
-fn print(text: &[u8]) {
-    io::write_all(STDOUT_FILENO, text);
-}
-
-fn print_number(n: u32, after: &[u8]) {
-    io::print_decimal(STDOUT_FILENO, n as u64);
-    print(after);
+fn print_number(rt: &impl Print, n: u32, after: &str) -> io::Result<()> {
+    print!(rt; "{n}{after}")
 }
 
 // A stored motion, in signed eighths.
-fn print_motion(stored: u32, after: &[u8]) {
+fn print_motion(rt: &impl Print, stored: u32, after: &str) -> io::Result<()> {
     if stored < MOTION_BIAS {
-        print(b"-");
-        print_number(MOTION_BIAS - stored, after);
-        return;
+        rt.print("-")?;
+        return print_number(rt, MOTION_BIAS - stored, after);
     }
-    print_number(stored - MOTION_BIAS, after);
+    print_number(rt, stored - MOTION_BIAS, after)
 }
 
-fn print_line(word: u32) {
-    print_number(sample::row_of(word), b" ");
-    print_number(sample::col_of(word), b" ");
-    print_motion(sample::v_of(word), b" ");
-    print_motion(sample::u_of(word), b" ");
-    print_motion(V_MADE, b" ");
-    print_motion(U_MADE, b"\n");
+fn print_line(rt: &impl Print, word: u32) -> io::Result<()> {
+    print_number(rt, sample::row_of(word), " ")?;
+    print_number(rt, sample::col_of(word), " ")?;
+    print_motion(rt, sample::v_of(word), " ")?;
+    print_motion(rt, sample::u_of(word), " ")?;
+    print_motion(rt, V_MADE, " ")?;
+    print_motion(rt, U_MADE, "\n")
 }
 
-fn print_lines(words: &[u32]) {
+fn print_lines(rt: &impl Print, words: &[u32]) -> io::Result<()> {
     let mut i = 0;
     while i < words.len() {
-        print_line(words[i]);
+        print_line(rt, words[i])?;
         i += 1;
     }
+    Ok(())
 }
 
-fn print_refusal(refusal: u32) {
-    print(b"refused ");
-    print_number(refusal, b"\n");
+fn print_refusal(rt: &impl Print, refusal: u32) -> io::Result<()> {
+    println!(rt; "refused {refusal}")
 }
 
-fn search(input: &[u16], reference: &[u16]) {
+fn search(rt: &impl Print, input: &[u16], reference: &[u16]) -> io::Result<()> {
     let classes = [0u8; SAMPLES];
     let mut input_half = [0u16; HALF];
     let mut ref_half = [0u16; HALF];
@@ -85,19 +79,17 @@ fn search(input: &[u16], reference: &[u16]) {
         &mut words,
     );
     if found.refusal != 0 {
-        print_refusal(found.refusal);
-        return;
+        return print_refusal(rt, found.refusal);
     }
-    print_lines(&words);
+    print_lines(rt, &words)
 }
 
-fn main() {
+fn main(rt: HostRuntime) -> io::Result<()> {
     let mut input = [0u16; PELS];
     let mut reference = [0u16; PELS];
     let made = practice::make_practice_planes(SEED, SIDE, SIDE, DY, DX, &mut input, &mut reference);
     if made.refusal != 0 {
-        print_refusal(made.refusal);
-        return;
+        return print_refusal(&rt, made.refusal);
     }
-    search(&input, &reference);
+    search(&rt, &input, &reference)
 }

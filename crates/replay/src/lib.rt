@@ -239,14 +239,6 @@ pub fn fill_identity(numbers: &mut [i32]) {
 
 // ---- lines
 
-// A list with nothing in it.
-pub fn empty_list(rt: &impl AllocGlobal) -> List {
-    List {
-        bytes: Vec::new(rt.alloc()),
-        read: 0,
-    }
-}
-
 // Opens a list; says so where it can't, and answers none.
 pub fn open_list<R: Files + Eprint + AllocGlobal>(rt: &R, file: &str) -> io::Result<Option<List>> {
     match fs::read(rt, file) {

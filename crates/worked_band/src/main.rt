@@ -3,9 +3,10 @@
 // blocks and the header are the same. And what is refused, by hand.
 #![tactic(auto)]
 
-ghost use Rattle.std.specs.Prelude.{◌≤◌};
+ghost use Rattle.std.specs.Prelude.{◌≤◌, IfOk};
 
 use job::{Report, Settings};
+use std::io;
 
 const UNTOUCHED: u32 = 2779096485;
 
@@ -437,8 +438,8 @@ fn refusals_hold() -> bool {
 }
 
 // 1 for a case that failed, which gets a line.
-fn failures_at(case: u64) -> u64
-    ensures { result ≤ 1 }
+fn failures_at(rt: &impl Print, case: u64) -> io::Result<u64>
+    ensures { IfOk result (λ n. n ≤ 1) }
 {
     let right = if case == 0 {
         refusals_hold()
@@ -446,22 +447,23 @@ fn failures_at(case: u64) -> u64
         holds(generator::next_state((case % 65536) as u32))
     };
     if right {
-        return 0;
+        return Ok(0);
     }
-    replay::print_failure(b"band", case);
-    1
+    replay::print_failure(rt, "band", case)?;
+    Ok(1)
 }
 
-fn failures(count: u64) -> u64 {
+fn failures(rt: &impl Print, count: u64) -> io::Result<u64> {
     let mut failed = 0u64;
     let mut case = 0u64;
     while case < count {
-        failed += failures_at(case);
+        failed += failures_at(rt, case)?;
         case += 1;
     }
-    failed
+    Ok(failed)
 }
 
-fn main() {
-    replay::print_count(b"band", CASES, failures(CASES));
+fn main(rt: HostRuntime) -> io::Result<()> {
+    let failed = failures(&rt, CASES)?;
+    replay::print_count(&rt, "band", CASES, failed)
 }

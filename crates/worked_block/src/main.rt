@@ -4,10 +4,12 @@
 // alone.
 #![tactic(auto)]
 
-ghost use Rattle.std.specs.Prelude.{◌≡◌, ◌<◌, ◌≤◌, length};
+ghost use Rattle.std.specs.Prelude.{◌≡◌, ◌<◌, ◌≤◌, length, IfOk};
 
 use block::Stored;
 use frame_read::FrameRead;
+use replay::List;
+use std::io;
 
 const UNTOUCHED_BYTE: u8 = 165;
 
@@ -136,7 +138,7 @@ fn make_samples(seed: u32, step: u32, kinds: u32, words: &mut [u32], classes: &m
 }
 
 // Takes words and classes from the list.
-fn take_samples(list: i32, words: &mut [u32], classes: &mut [u8]) {
+fn take_samples(list: &mut List, words: &mut [u32], classes: &mut [u8]) {
     let mut i = 0;
     while i < words.len() {
         words[i] = replay::next_word(list);
@@ -210,15 +212,15 @@ fn mend(asked: u32, bytes: &mut [u8], at: usize) {
     layout::words::write_words(&check, &mut bytes[place..]);
 }
 
-fn size(list: i32) -> usize {
+fn size(list: &mut List) -> usize {
     replay::next_word(list) as usize
 }
 
-fn byte(list: i32) -> u8 {
+fn byte(list: &mut List) -> u8 {
     (replay::next_word(list) % 256) as u8
 }
 
-fn next_case(list: i32) -> Case {
+fn next_case(list: &mut List) -> Case {
     Case {
         frame: (replay::next_word(list) % 65536) as u16,
         samples: size(list),
@@ -242,7 +244,7 @@ fn next_case(list: i32) -> Case {
 }
 
 // An answer about blocks written, and the bytes that they were written to.
-fn wrote(list: i32, stored: Stored, bytes: &[u8]) -> bool {
+fn wrote(list: &mut List, stored: Stored, bytes: &[u8]) -> bool {
     let refusal = replay::next_word(list);
     let count = size(list);
     let sum = replay::next_word(list);
@@ -250,7 +252,7 @@ fn wrote(list: i32, stored: Stored, bytes: &[u8]) -> bool {
 }
 
 // Stores the samples.
-fn stores(list: i32, a: Case, words: &[u32], classes: &[u8], blocks: &mut [u8]) -> bool {
+fn stores(list: &mut List, a: Case, words: &[u32], classes: &[u8], blocks: &mut [u8]) -> bool {
     fill_bytes(UNTOUCHED_BYTE, blocks);
     let each = replay::least(a.classes, classes.len());
     let end = replay::least(a.block_room, blocks.len());
@@ -259,7 +261,14 @@ fn stores(list: i32, a: Case, words: &[u32], classes: &[u8], blocks: &mut [u8]) 
 }
 
 // Converts blocks to a form.
-fn converts(list: i32, form: u32, given: usize, room: usize, from: &[u8], to: &mut [u8]) -> bool {
+fn converts(
+    list: &mut List,
+    form: u32,
+    given: usize,
+    room: usize,
+    from: &[u8],
+    to: &mut [u8],
+) -> bool {
     fill_bytes(UNTOUCHED_BYTE, to);
     let some = replay::least(given, from.len());
     let end = replay::least(room, to.len());
@@ -272,7 +281,7 @@ fn converts(list: i32, form: u32, given: usize, room: usize, from: &[u8], to: &m
 }
 
 // An answer about a frame read, and the words that it was read to.
-fn gave(list: i32, read: FrameRead, words: &[u32]) -> bool {
+fn gave(list: &mut List, read: FrameRead, words: &[u32]) -> bool {
     let refusal = replay::next_word(list);
     let frame = replay::next_word(list);
     let samples = size(list);
@@ -284,7 +293,13 @@ fn gave(list: i32, read: FrameRead, words: &[u32]) -> bool {
 }
 
 // Reads blocks by the reader of both forms.
-fn reads_both(list: i32, a: Case, blocks: &[u8], words: &mut [u32], classes: &mut [u8]) -> bool {
+fn reads_both(
+    list: &mut List,
+    a: Case,
+    blocks: &[u8],
+    words: &mut [u32],
+    classes: &mut [u8],
+) -> bool {
     fill_words(words);
     fill_bytes(UNTOUCHED_BYTE, classes);
     let some = replay::least(a.given, blocks.len());
@@ -300,7 +315,7 @@ fn reads_both(list: i32, a: Case, blocks: &[u8], words: &mut [u32], classes: &mu
 }
 
 // Reads blocks by the reader of form 1.
-fn reads_form1(list: i32, a: Case, blocks: &[u8], words: &mut [u32]) -> bool {
+fn reads_form1(list: &mut List, a: Case, blocks: &[u8], words: &mut [u32]) -> bool {
     fill_words(words);
     let some = replay::least(a.given, blocks.len());
     let end = replay::least(a.word_room, words.len());
@@ -316,7 +331,7 @@ fn damage(a: Case, blocks: &mut [u8]) {
 
 // Changes blocks, and reads and converts them.
 fn reads(
-    list: i32,
+    list: &mut List,
     a: Case,
     blocks: &mut [u8],
     other: &mut [u8],
@@ -334,7 +349,7 @@ fn reads(
 
 // Reads the blocks of the form that is asked for.
 fn reads_form(
-    list: i32,
+    list: &mut List,
     a: Case,
     blocks: &mut [u8],
     old: &mut [u8],
@@ -348,7 +363,7 @@ fn reads_form(
 }
 
 // Takes the samples of a case from the list, or makes them.
-fn fill_samples(list: i32, a: Case, words: &mut [u32], classes: &mut [u8]) {
+fn fill_samples(list: &mut List, a: Case, words: &mut [u32], classes: &mut [u8]) {
     fill_bytes(0, classes);
     if a.seed == 0 {
         take_samples(list, words, classes);
@@ -358,14 +373,14 @@ fn fill_samples(list: i32, a: Case, words: &mut [u32], classes: &mut [u8]) {
 }
 
 // The samples of a case, one of them changed.
-fn samples_of(list: i32, a: Case, words: &mut [u32], classes: &mut [u8]) {
+fn samples_of(list: &mut List, a: Case, words: &mut [u32], classes: &mut [u8]) {
     fill_samples(list, a, words, classes);
     change_word(words, a.changed_sample, a.word_bits);
     change_byte(classes, a.changed_sample, a.class_bits);
 }
 
 fn replay_one(
-    list: i32,
+    list: &mut List,
     words: &mut [u32],
     classes: &mut [u8],
     blocks: &mut [u8],
@@ -381,37 +396,35 @@ fn replay_one(
 }
 
 // 1 for a case that failed, which gets a line.
-fn failures_at(list: i32, case: u64) -> u64
-    ensures { result ≤ 1 }
+fn failures_at(rt: &impl Print, list: &mut List, case: u64) -> io::Result<u64>
+    ensures { IfOk result (λ n. n ≤ 1) }
 {
     let mut words = no_words();
     let mut classes = no_classes();
     let mut blocks = no_bytes();
     let mut old = no_bytes();
     if replay_one(list, &mut words, &mut classes, &mut blocks, &mut old) {
-        return 0;
+        return Ok(0);
     }
-    replay::print_failure(b"block", case);
-    1
+    replay::print_failure(rt, "block", case)?;
+    Ok(1)
 }
 
-fn failures(list: i32, count: u64) -> u64 {
+fn failures(rt: &impl Print, list: &mut List, count: u64) -> io::Result<u64> {
     let mut failed = 0u64;
     let mut case = 0u64;
     while case < count {
-        failed += failures_at(list, case);
+        failed += failures_at(rt, list, case)?;
         case += 1;
     }
-    failed
+    Ok(failed)
 }
 
-fn main() {
-    let list = os::open_read(b"block.bin");
-    if list < 0 {
-        os::fail(b"block.bin");
-        return;
-    }
-    let count = replay::next_word(list) as u64;
-    replay::print_count(b"block", count, failures(list, count));
-    libc::close(list);
+fn main(rt: HostRuntime) -> io::Result<()> {
+    let Some(mut list) = replay::open_list(&rt, "block.bin")? else {
+        return Ok(());
+    };
+    let count = replay::next_word(&mut list) as u64;
+    let failed = failures(&rt, &mut list, count)?;
+    replay::end_list(&rt, list, "block", count, failed)
 }

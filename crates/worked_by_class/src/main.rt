@@ -9,11 +9,14 @@ use fit_numbers::FitAnswer;
 use lent_fit::{Params, ToQuantize};
 use lent_trim::ToTrim;
 use quantize::Quantized;
+use replay::List;
 use score::Score;
+use std::io;
+use std::rt::Files;
 use trim::TrimmedModel;
 use trim_numbers::TrimmedAnswer;
 
-fn next_classes(list: i32, classes: &mut [u8]) {
+fn next_classes(list: &mut List, classes: &mut [u8]) {
     let mut i = 0usize;
     while i < classes.len() {
         classes[i] = replay::next_code(list);
@@ -22,7 +25,7 @@ fn next_classes(list: i32, classes: &mut [u8]) {
 }
 
 // Six numbers follow.
-fn same_numbers(list: i32, n: [f64; 6]) -> bool {
+fn same_numbers(list: &mut List, n: [f64; 6]) -> bool {
     let mut same = true;
     let mut i = 0usize;
     while i < 6 {
@@ -32,33 +35,33 @@ fn same_numbers(list: i32, n: [f64; 6]) -> bool {
     same
 }
 
-fn fit_holds(list: i32, answer: FitAnswer) -> bool {
+fn fit_holds(list: &mut List, answer: FitAnswer) -> bool {
     let refusal = replay::next_word(list);
     let numbers = answer.numbers;
     same_numbers(list, numbers) && answer.refusal == refusal
 }
 
-fn model_holds(list: i32, model: Quantized) -> bool {
+fn model_holds(list: &mut List, model: Quantized) -> bool {
     let refusal = replay::next_word(list);
     let wanted = replay::next_params(list);
     let params = model.params;
     model.refusal == refusal && replay::same_params(params, wanted)
 }
 
-fn score_holds(list: i32, s: Score) -> bool {
+fn score_holds(list: &mut List, s: Score) -> bool {
     let refusal = replay::next_word(list);
     let score = replay::next_bits(list);
     s.refusal == refusal && replay::same_float(s.score, score)
 }
 
-fn trimmed_holds(list: i32, answer: TrimmedAnswer) -> bool {
+fn trimmed_holds(list: &mut List, answer: TrimmedAnswer) -> bool {
     let refusal = replay::next_word(list);
     let used = replay::next_word(list);
     let numbers = answer.numbers;
     same_numbers(list, numbers) && answer.refusal == refusal && answer.used == used
 }
 
-fn trimmed_model_holds(list: i32, model: TrimmedModel) -> bool {
+fn trimmed_model_holds(list: &mut List, model: TrimmedModel) -> bool {
     let refusal = replay::next_word(list);
     let used = replay::next_word(list);
     let wanted = replay::next_params(list);
@@ -66,7 +69,7 @@ fn trimmed_model_holds(list: i32, model: TrimmedModel) -> bool {
     model.refusal == refusal && model.used == used && replay::same_params(params, wanted)
 }
 
-fn elected_holds(list: i32, e: Elected) -> bool {
+fn elected_holds(list: &mut List, e: Elected) -> bool {
     let refusal = replay::next_word(list);
     let gm_type = replay::next_word(list);
     let wanted = replay::next_params(list);
@@ -86,7 +89,7 @@ fn model_of(fitted: Fitted, kind: u8, words: &[u32]) -> Fitted {
     fit::fit_model(kind, words)
 }
 
-fn plain_hold(list: i32, set: u8, kind: u8, flag: u8, words: &[u32], classes: &[u8]) -> bool {
+fn plain_hold(list: &mut List, set: u8, kind: u8, flag: u8, words: &[u32], classes: &[u8]) -> bool {
     let params = replay::next_params(list);
     let fitted = by_class::fit_by_class(set, kind, words, classes);
     let own = model_of(fitted, kind, words);
@@ -97,14 +100,14 @@ fn plain_hold(list: i32, set: u8, kind: u8, flag: u8, words: &[u32], classes: &[
     score_holds(list, score) && fit_same && model_same
 }
 
-fn trims_hold(list: i32, set: u8, kind: u8, flag: u8, words: &[u32], classes: &[u8]) -> bool {
+fn trims_hold(list: &mut List, set: u8, kind: u8, flag: u8, words: &[u32], classes: &[u8]) -> bool {
     let fitted = by_class::fit_trimmed_by_class(set, kind, words, classes);
     let model = by_class::quantize_trimmed_by_class(set, kind, flag, words, classes);
     let fit_same = trimmed_holds(list, trim_numbers::answer_of(fitted));
     trimmed_model_holds(list, model) && fit_same
 }
 
-fn word_calls_hold(list: i32, words: &[u32], classes: &[u8]) -> bool {
+fn word_calls_hold(list: &mut List, words: &[u32], classes: &[u8]) -> bool {
     let set = replay::next_code(list);
     let kind = replay::next_code(list);
     let flag = replay::next_code(list);
@@ -127,7 +130,7 @@ fn to_quantize(own: Fitted, flag: u8) -> ToQuantize {
 }
 
 fn lent_plain_hold(
-    list: i32,
+    list: &mut List,
     set: u8,
     kind: u8,
     own: ToQuantize,
@@ -145,7 +148,7 @@ fn lent_plain_hold(
 }
 
 fn lent_trims_hold(
-    list: i32,
+    list: &mut List,
     set: u8,
     codes: ToTrim,
     samples: &[[f64; 4]],
@@ -157,7 +160,7 @@ fn lent_trims_hold(
     trimmed_model_holds(list, model) && fit_same
 }
 
-fn lent_calls_hold(list: i32, words: &[u32], samples: &[[f64; 4]], classes: &[u8]) -> bool {
+fn lent_calls_hold(list: &mut List, words: &[u32], samples: &[[f64; 4]], classes: &[u8]) -> bool {
     let set = replay::next_code(list);
     let kind = replay::next_code(list);
     let flag = replay::next_code(list);
@@ -172,7 +175,7 @@ fn lent_calls_hold(list: i32, words: &[u32], samples: &[[f64; 4]], classes: &[u8
     elected_holds(list, elected) && plain && trims
 }
 
-fn replay_lent(list: i32, words: &[u32], classes: &[u8]) -> bool {
+fn replay_lent(list: &mut List, words: &[u32], classes: &[u8]) -> bool {
     if words.len() > replay::OVER {
         return false;
     }
@@ -188,7 +191,7 @@ fn replay_lent(list: i32, words: &[u32], classes: &[u8]) -> bool {
 
 // ---- the cases
 
-fn calls_hold(list: i32, lent: bool, words: &[u32], classes: &[u8]) -> bool {
+fn calls_hold(list: &mut List, lent: bool, words: &[u32], classes: &[u8]) -> bool {
     if lent {
         return replay_lent(list, words, classes);
     }
@@ -196,7 +199,7 @@ fn calls_hold(list: i32, lent: bool, words: &[u32], classes: &[u8]) -> bool {
 }
 
 // The words of a case, up to one more than a list may have, and their classes.
-fn replay_case(list: i32, lent: bool, words: &mut [u32], classes: &mut [u8]) -> bool {
+fn replay_case(list: &mut List, lent: bool, words: &mut [u32], classes: &mut [u8]) -> bool {
     let count = replay::next_word(list) as usize;
     let listed = replay::next_word(list) as usize;
     if count > words.len() {
@@ -210,32 +213,42 @@ fn replay_case(list: i32, lent: bool, words: &mut [u32], classes: &mut [u8]) -> 
     calls_hold(list, lent, &words[..count], &classes[..listed])
 }
 
-fn replay_one(list: i32, lent: bool) -> bool {
+fn replay_one(list: &mut List, lent: bool) -> bool {
     let mut words = [0u32; replay::OVER];
     let mut classes = [0u8; replay::OVER];
     replay_case(list, lent, &mut words, &mut classes)
 }
 
-fn failures(list: i32, lent: bool, name: &[u8], count: u64) -> u64 {
+fn failures(
+    rt: &impl Print,
+    list: &mut List,
+    lent: bool,
+    name: &str,
+    count: u64,
+) -> io::Result<u64> {
     let mut failed = 0u64;
     let mut case = 0u64;
     while case < count {
-        failed += replay::failed(name, case, replay_one(list, lent));
+        failed += replay::failed(rt, name, case, replay_one(list, lent))?;
         case += 1;
     }
-    failed
+    Ok(failed)
 }
 
-fn replay_list(lent: bool, name: &[u8]) {
-    let list = replay::open_list(b"by_class.bin");
-    if list < 0 {
-        return;
-    }
-    let count = replay::next_word(list) as u64;
-    replay::end_list(list, name, count, failures(list, lent, name, count));
+fn replay_list<R: Files + Print + Eprint + AllocGlobal>(
+    rt: &R,
+    lent: bool,
+    name: &str,
+) -> io::Result<()> {
+    let Some(mut list) = replay::open_list(rt, "by_class.bin")? else {
+        return Ok(());
+    };
+    let count = replay::next_word(&mut list) as u64;
+    let failed = failures(rt, &mut list, lent, name, count)?;
+    replay::end_list(rt, list, name, count, failed)
 }
 
-fn main() {
-    replay_list(false, b"calls by class");
-    replay_list(true, b"calls by class over lent samples");
+fn main(rt: HostRuntime) -> io::Result<()> {
+    replay_list(&rt, false, "calls by class")?;
+    replay_list(&rt, true, "calls by class over lent samples")
 }

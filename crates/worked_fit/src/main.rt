@@ -8,9 +8,11 @@ use fit::Fitted;
 use fit_numbers::FitAnswer;
 use lent_fit::{Params, ToQuantize};
 use lent_trim::ToTrim;
-use libc::STDOUT_FILENO;
+use replay::List;
 use sample::MotionSample;
 use solve::Outcome;
+use std::io;
+use std::rt::Files;
 use trim::Trimmed;
 
 // The lists.
@@ -35,11 +37,11 @@ struct Values {
     m5: u64,
 }
 
-fn next_if(list: i32, carried: bool) -> u64 {
+fn next_if(list: &mut List, carried: bool) -> u64 {
     if carried { replay::next_bits(list) } else { 0 }
 }
 
-fn next_values(list: i32, gm_type: u8) -> Values {
+fn next_values(list: &mut List, gm_type: u8) -> Values {
     let m0 = replay::next_bits(list);
     let m1 = replay::next_bits(list);
     let m2 = next_if(list, fit::TRANSLATION < gm_type);
@@ -111,7 +113,7 @@ fn same_quantized(fitted: Fitted, flag: u8, words: &[u32], params: [i32; 6], sco
 }
 
 // One type of a case: a refusal or 0, the values, the quantized model, its score.
-fn replay_type(list: i32, gm_type: u8, flag: u8, words: &[u32]) -> bool {
+fn replay_type(list: &mut List, gm_type: u8, flag: u8, words: &[u32]) -> bool {
     let refusal = replay::next_word(list);
     let values = next_values(list, gm_type);
     let params = replay::next_params(list);
@@ -135,7 +137,7 @@ fn fill(words: &mut [u32], seed: u32, mask: u32, fixed: u32) {
     }
 }
 
-fn replay_words(list: i32, flag: u8, words: &[u32]) -> bool {
+fn replay_words(list: &mut List, flag: u8, words: &[u32]) -> bool {
     let translation = replay_type(list, fit::TRANSLATION, flag, words);
     let rotzoom = replay_type(list, fit::ROTZOOM, flag, words);
     let affine = replay_type(list, fit::AFFINE, flag, words);
@@ -143,7 +145,7 @@ fn replay_words(list: i32, flag: u8, words: &[u32]) -> bool {
 }
 
 // One case of the fits, its words in a lent buffer.
-fn replay_case(list: i32, flag: u8, words: &mut [u32]) -> bool {
+fn replay_case(list: &mut List, flag: u8, words: &mut [u32]) -> bool {
     let seed = replay::next_word(list);
     let count = replay::next_word(list) as usize;
     let mask = replay::next_word(list);
@@ -155,13 +157,13 @@ fn replay_case(list: i32, flag: u8, words: &mut [u32]) -> bool {
     replay_words(list, flag, &words[..count])
 }
 
-fn replay_fits(list: i32, flag: u8) -> bool {
+fn replay_fits(list: &mut List, flag: u8) -> bool {
     let mut words = [0u32; sample::MOST_SAMPLES];
     replay_case(list, flag, &mut words)
 }
 
 // One order of a list of words.
-fn replay_order(list: i32, flag: u8, words: &mut [u32]) -> bool {
+fn replay_order(list: &mut List, flag: u8, words: &mut [u32]) -> bool {
     let count = replay::next_word(list) as usize;
     if count > words.len() {
         return false;
@@ -170,7 +172,7 @@ fn replay_order(list: i32, flag: u8, words: &mut [u32]) -> bool {
     replay_words(list, flag, &words[..count])
 }
 
-fn replay_orders(list: i32, flag: u8) -> bool {
+fn replay_orders(list: &mut List, flag: u8) -> bool {
     let mut words = [0u32; sample::MOST_SAMPLES];
     replay_order(list, flag, &mut words)
 }
@@ -187,7 +189,7 @@ fn same_trimmed(t: Trimmed, refusal: u32, used: u32, w: Values) -> bool {
     same_model(fitted, w)
 }
 
-fn trimmed_holds(list: i32, words: &[u32]) -> bool {
+fn trimmed_holds(list: &mut List, words: &[u32]) -> bool {
     let gm_type = replay::next_code(list);
     let flag = replay::next_code(list);
     let fit_refusal = replay::next_word(list);
@@ -206,7 +208,7 @@ fn trimmed_holds(list: i32, words: &[u32]) -> bool {
 }
 
 // The words of a case, up to one more than a list may have.
-fn replay_trimmed_words(list: i32, words: &mut [u32]) -> bool {
+fn replay_trimmed_words(list: &mut List, words: &mut [u32]) -> bool {
     let count = replay::next_word(list) as usize;
     if count > words.len() {
         return false;
@@ -215,7 +217,7 @@ fn replay_trimmed_words(list: i32, words: &mut [u32]) -> bool {
     trimmed_holds(list, &words[..count])
 }
 
-fn replay_trimmed(list: i32) -> bool {
+fn replay_trimmed(list: &mut List) -> bool {
     let mut words = [0u32; replay::OVER];
     replay_trimmed_words(list, &mut words)
 }
@@ -263,7 +265,7 @@ fn same_quantized_first(
 
 // One type of a case of samples, as `replay_type`.
 fn replay_first(
-    list: i32,
+    list: &mut List,
     gm_type: u8,
     flag: u8,
     samples: [MotionSample; 4097],
@@ -293,7 +295,7 @@ fn replay_first(
 // The same after trimming: a refusal, the samples used and zeros or the values; then of the quantized
 // model.
 fn replay_trimmed_first(
-    list: i32,
+    list: &mut List,
     gm_type: u8,
     flag: u8,
     samples: [MotionSample; 4097],
@@ -324,7 +326,7 @@ fn replay_trimmed_first(
 }
 
 fn replay_both(
-    list: i32,
+    list: &mut List,
     gm_type: u8,
     flag: u8,
     samples: [MotionSample; 4097],
@@ -337,7 +339,7 @@ fn replay_both(
     plain && trimmed
 }
 
-fn replay_samples(list: i32, flag: u8) -> bool {
+fn replay_samples(list: &mut List, flag: u8) -> bool {
     let count = replay::next_word(list) as usize;
     let written = replay::next_word(list) as usize;
     let samples = replay::next_samples(list, written);
@@ -356,7 +358,7 @@ struct Entries {
     b: [f64; 4],
 }
 
-fn next_entries(list: i32) -> Entries {
+fn next_entries(list: &mut List) -> Entries {
     let mut a = [0.0f64; 16];
     let mut i = 0usize;
     while i < 16 {
@@ -378,7 +380,7 @@ fn refusal_of_outcome(outcome: Outcome) -> u32 {
     }
 }
 
-fn replay_system(list: i32) -> bool {
+fn replay_system(list: &mut List) -> bool {
     let size = (replay::next_word(list) % 5) as usize;
     let entries = next_entries(list);
     let mut a = entries.a;
@@ -397,13 +399,13 @@ fn replay_system(list: i32) -> bool {
         && replay::same_float(x[3], x3)
 }
 
-fn replay_grid_number(list: i32) -> bool {
+fn replay_grid_number(list: &mut List) -> bool {
     let value = replay::next_float(list);
     let wanted = replay::signed(replay::next_word(list));
     grid_number::grid_number(value) == wanted
 }
 
-fn replay_one(list: i32, which: u8, flag: u8) -> bool {
+fn replay_one(list: &mut List, which: u8, flag: u8) -> bool {
     if which == FITS {
         return replay_fits(list, flag);
     }
@@ -422,31 +424,41 @@ fn replay_one(list: i32, which: u8, flag: u8) -> bool {
     replay_grid_number(list)
 }
 
-fn failures(list: i32, which: u8, name: &[u8], count: u64) -> u64 {
+fn failures(
+    rt: &impl Print,
+    list: &mut List,
+    which: u8,
+    name: &str,
+    count: u64,
+) -> io::Result<u64> {
     let mut failed = 0u64;
     let mut case = 0u64;
     while case < count {
-        failed += replay::failed(name, case, replay_one(list, which, (case % 2) as u8));
+        failed += replay::failed(rt, name, case, replay_one(list, which, (case % 2) as u8))?;
         case += 1;
     }
-    failed
+    Ok(failed)
 }
 
-fn replay_list(which: u8, name: &[u8], file: &[u8]) {
-    let list = replay::open_list(file);
-    if list < 0 {
-        return;
-    }
-    let count = replay::next_word(list) as u64;
-    replay::end_list(list, name, count, failures(list, which, name, count));
+fn replay_list<R: Files + Print + Eprint + AllocGlobal>(
+    rt: &R,
+    which: u8,
+    name: &str,
+    file: &str,
+) -> io::Result<()> {
+    let Some(mut list) = replay::open_list(rt, file)? else {
+        return Ok(());
+    };
+    let count = replay::next_word(&mut list) as u64;
+    let failed = failures(rt, &mut list, which, name, count)?;
+    replay::end_list(rt, list, name, count, failed)
 }
 
-fn refused(ok: bool, what: &[u8]) {
+fn refused(rt: &impl Print, ok: bool, what: &str) -> io::Result<()> {
     if !ok {
-        io::write_all(STDOUT_FILENO, b"refusals: wrong at ");
-        io::write_all(STDOUT_FILENO, what);
-        io::write_all(STDOUT_FILENO, b"\n");
+        println!(rt; "refusals: wrong at {what}")?;
     }
+    Ok(())
 }
 
 fn quantize_refusal(fitted: Fitted, flag: u8, words: &[u32]) -> u32 {
@@ -454,34 +466,39 @@ fn quantize_refusal(fitted: Fitted, flag: u8, words: &[u32]) -> u32 {
     q.refusal
 }
 
-fn try_refusals(words: &[u32], few: &[u32]) {
+fn try_refusals(rt: &impl Print, words: &[u32], few: &[u32]) -> io::Result<()> {
     refused(
+        rt,
         fit::refusal_of(fit::fit_model(1, words)) == 1,
-        b"4097 words, type 1",
-    );
+        "4097 words, type 1",
+    )?;
     refused(
+        rt,
         fit::refusal_of(fit::fit_model(0, words)) == 1,
-        b"4097 words, type 0",
-    );
+        "4097 words, type 0",
+    )?;
     refused(
+        rt,
         fit::refusal_of(fit::fit_affine(words)) == 1,
-        b"4097 words, affine",
-    );
-    refused(fit::refusal_of(fit::fit_model(0, few)) == 4, b"type 0");
-    refused(fit::refusal_of(fit::fit_model(4, few)) == 4, b"type 4");
+        "4097 words, affine",
+    )?;
+    refused(rt, fit::refusal_of(fit::fit_model(0, few)) == 4, "type 0")?;
+    refused(rt, fit::refusal_of(fit::fit_model(4, few)) == 4, "type 4")?;
     let still = Fitted::Translation { m0: 0.0, m1: 0.0 };
     refused(
+        rt,
         quantize_refusal(still, 2, words) == 1,
-        b"4097 words, flag 2",
-    );
-    refused(quantize_refusal(still, 2, few) == 4, b"flag 2");
+        "4097 words, flag 2",
+    )?;
+    refused(rt, quantize_refusal(still, 2, few) == 4, "flag 2")?;
     refused(
+        rt,
         quantize_refusal(Fitted::Refused(6), 0, few) == 4,
-        b"a refused fit",
-    );
+        "a refused fit",
+    )?;
     let scored = score::mean_sq_residual([0, 0, 65536, 0, 0, 65536], words);
-    refused(scored.refusal == 1, b"4097 words, score");
-    io::write_all(STDOUT_FILENO, b"refusals: 9 tried\n");
+    refused(rt, scored.refusal == 1, "4097 words, score")?;
+    println!(rt; "refusals: 9 tried")
 }
 
 fn trimmed_refusal(kind: u8, flag: u8, samples: [MotionSample; 4097], count: usize) -> u32
@@ -508,54 +525,68 @@ fn first_refusal(kind: u8, flag: u8, samples: [MotionSample; 4097], count: usize
 }
 
 // Of the calls over samples; the list has the fits' own.
-fn try_refusals_of_samples(samples: [MotionSample; 4097]) {
+fn try_refusals_of_samples(rt: &impl Print, samples: [MotionSample; 4097]) -> io::Result<()> {
     refused(
+        rt,
         first_refusal(1, 2, samples, 4097) == 1,
-        b"4097 samples, flag 2",
-    );
+        "4097 samples, flag 2",
+    )?;
     refused(
+        rt,
         first_refusal(1, 2, samples, 4096) == 4,
-        b"4096 samples, flag 2",
-    );
-    refused(first_refusal(0, 1, samples, 3) == 4, b"3 samples, type 0");
-    refused(first_refusal(4, 1, samples, 3) == 4, b"3 samples, type 4");
+        "4096 samples, flag 2",
+    )?;
+    refused(
+        rt,
+        first_refusal(0, 1, samples, 3) == 4,
+        "3 samples, type 0",
+    )?;
+    refused(
+        rt,
+        first_refusal(4, 1, samples, 3) == 4,
+        "3 samples, type 4",
+    )?;
     let numbers = [0, 0, 65536, 0, 0, 65536];
     let scored = lent_trial::score_of_first(samples, 4097, Params { numbers });
-    refused(scored.refusal == 1, b"4097 samples, score");
+    refused(rt, scored.refusal == 1, "4097 samples, score")?;
     refused(
+        rt,
         trimmed_refusal(0, 2, samples, 4097) == 1,
-        b"4097 samples to trim, type 0, flag 2",
-    );
+        "4097 samples to trim, type 0, flag 2",
+    )?;
     refused(
+        rt,
         trimmed_refusal(1, 2, samples, 3) == 4,
-        b"3 samples to trim, flag 2",
-    );
+        "3 samples to trim, flag 2",
+    )?;
     refused(
+        rt,
         trimmed_refusal(4, 0, samples, 3) == 4,
-        b"3 samples to trim, type 4",
-    );
+        "3 samples to trim, type 4",
+    )?;
     refused(
+        rt,
         trimmed_refusal(1, 0, samples, 3) == 15,
-        b"3 samples to trim",
-    );
-    io::write_all(STDOUT_FILENO, b"refusals of samples: 9 tried\n");
+        "3 samples to trim",
+    )?;
+    println!(rt; "refusals of samples: 9 tried")
 }
 
-fn main() {
-    replay_list(FITS, b"fits", b"fits.bin");
-    replay_list(SYSTEMS, b"systems", b"systems.bin");
-    replay_list(ORDERS, b"orders", b"orders.bin");
-    replay_list(SAMPLES, b"samples", b"samples.bin");
-    replay_list(TRIMMED, b"trimmed", b"trimmed.bin");
-    replay_list(4, b"grid numbers", b"grid_numbers.bin");
+fn main(rt: HostRuntime) -> io::Result<()> {
+    replay_list(&rt, FITS, "fits", "fits.bin")?;
+    replay_list(&rt, SYSTEMS, "systems", "systems.bin")?;
+    replay_list(&rt, ORDERS, "orders", "orders.bin")?;
+    replay_list(&rt, SAMPLES, "samples", "samples.bin")?;
+    replay_list(&rt, TRIMMED, "trimmed", "trimmed.bin")?;
+    replay_list(&rt, 4, "grid numbers", "grid_numbers.bin")?;
     let words = [0u32; 4097];
     let few = [0u32; 8];
-    try_refusals(&words, &few);
+    try_refusals(&rt, &words, &few)?;
     let still = MotionSample {
         x: 0.0,
         y: 0.0,
         u: 0.0,
         v: 0.0,
     };
-    try_refusals_of_samples([still; 4097]);
+    try_refusals_of_samples(&rt, [still; 4097])
 }

@@ -2,10 +2,12 @@
 // the list's answer, and read, whatever the bytes, the position and the prior.
 #![tactic(auto)]
 
-ghost use Rattle.std.specs.Prelude.{◌≤◌, ◌≡◌, length};
+ghost use Rattle.std.specs.Prelude.{◌≤◌, ◌≡◌, length, IfOk};
 
 use header::Written;
 use header_read::Models;
+use replay::List;
+use std::io;
 
 // What a buffer holds where nothing was written.
 const GUARD: u8 = 165;
@@ -33,15 +35,15 @@ struct Case {
     read_refusal: u32,
 }
 
-fn byte(list: i32) -> u8 {
+fn byte(list: &mut List) -> u8 {
     (replay::next_word(list) % 256) as u8
 }
 
-fn size(list: i32) -> usize {
+fn size(list: &mut List) -> usize {
     replay::next_word(list) as usize
 }
 
-fn next_case(list: i32) -> Case {
+fn next_case(list: &mut List) -> Case {
     Case {
         flag: byte(list),
         first_type: byte(list),
@@ -162,33 +164,31 @@ fn is_right(a: Case) -> bool {
 }
 
 // 1 for a case that failed, which gets a line.
-fn failures_at(list: i32, case: u64) -> u64
-    ensures { result ≤ 1 }
+fn failures_at(rt: &impl Print, list: &mut List, case: u64) -> io::Result<u64>
+    ensures { IfOk result (λ n. n ≤ 1) }
 {
     if is_right(next_case(list)) {
-        return 0;
+        return Ok(0);
     }
-    replay::print_failure(b"key frame", case);
-    1
+    replay::print_failure(rt, "key frame", case)?;
+    Ok(1)
 }
 
-fn failures(list: i32, count: u64) -> u64 {
+fn failures(rt: &impl Print, list: &mut List, count: u64) -> io::Result<u64> {
     let mut failed = 0u64;
     let mut case = 0u64;
     while case < count {
-        failed += failures_at(list, case);
+        failed += failures_at(rt, list, case)?;
         case += 1;
     }
-    failed
+    Ok(failed)
 }
 
-fn main() {
-    let list = os::open_read(b"frame.bin");
-    if list < 0 {
-        os::fail(b"frame.bin");
-        return;
-    }
-    let count = replay::next_word(list) as u64;
-    replay::print_count(b"key frame", count, failures(list, count));
-    libc::close(list);
+fn main(rt: HostRuntime) -> io::Result<()> {
+    let Some(mut list) = replay::open_list(&rt, "frame.bin")? else {
+        return Ok(());
+    };
+    let count = replay::next_word(&mut list) as u64;
+    let failed = failures(&rt, &mut list, count)?;
+    replay::end_list(&rt, list, "key frame", count, failed)
 }

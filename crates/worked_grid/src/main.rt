@@ -2,9 +2,10 @@
 // aren't proved and the refusals.
 #![tactic(auto)]
 
-ghost use Rattle.std.specs.Prelude.{◌≤◌};
+ghost use Rattle.std.specs.Prelude.{◌≤◌, IfOk};
 
-use libc::STDOUT_FILENO;
+use replay::List;
+use std::io;
 
 fn agrees(gm_type: u8, flag: u8, slot: u8, value: i32, wanted: i32) -> bool {
     let q = grid::quantize_global_param(gm_type, flag, slot, value);
@@ -17,7 +18,7 @@ fn refuses(gm_type: u8, flag: u8, slot: u8, number: u32) -> bool {
 }
 
 // One case of the list: type, flag, slot, value, answer.
-fn replay_one(list: i32) -> bool {
+fn replay_one(list: &mut List) -> bool {
     let gm_type = (replay::next_word(list) % 256) as u8;
     let flag = (replay::next_word(list) % 256) as u8;
     let slot = (replay::next_word(list) % 256) as u8;
@@ -27,49 +28,46 @@ fn replay_one(list: i32) -> bool {
 }
 
 // 1 for a case that failed, which gets a line.
-fn failures_at(list: i32, case: u64) -> u64
-    ensures { result ≤ 1 }
+fn failures_at(rt: &impl Print, list: &mut List, case: u64) -> io::Result<u64>
+    ensures { IfOk result (λ n. n ≤ 1) }
 {
     if replay_one(list) {
-        return 0;
+        return Ok(0);
     }
-    replay::print_failure(b"grid", case);
-    1
+    replay::print_failure(rt, "grid", case)?;
+    Ok(1)
 }
 
-fn failures(list: i32, count: u64) -> u64 {
+fn failures(rt: &impl Print, list: &mut List, count: u64) -> io::Result<u64> {
     let mut failed = 0u64;
     let mut case = 0u64;
     while case < count {
-        failed += failures_at(list, case);
+        failed += failures_at(rt, list, case)?;
         case += 1;
     }
-    failed
+    Ok(failed)
 }
 
-fn worked(ok: bool, what: &[u8]) {
+fn worked(rt: &impl Print, ok: bool, what: &str) -> io::Result<()> {
     if !ok {
-        io::write_all(STDOUT_FILENO, b"worked: wrong at ");
-        io::write_all(STDOUT_FILENO, what);
-        io::write_all(STDOUT_FILENO, b"\n");
+        println!(rt; "worked: wrong at {what}")?;
     }
+    Ok(())
 }
 
-fn main() {
-    let list = os::open_read(b"grid.bin");
-    if list < 0 {
-        os::fail(b"grid.bin");
-        return;
-    }
-    let count = replay::next_word(list) as u64;
-    replay::print_count(b"grid", count, failures(list, count));
-    libc::close(list);
-    worked(agrees(1, 1, 0, 4198400, 4194304), b"4198400");
-    worked(agrees(1, 0, 0, 8191, 0), b"8191");
-    worked(agrees(1, 0, 0, 8192, 16384), b"8192");
-    worked(refuses(4, 0, 0, 4), b"type 4");
-    worked(refuses(4, 2, 6, 4), b"type 4, flag 2, slot 6");
-    worked(refuses(0, 2, 6, 4), b"flag 2, slot 6");
-    worked(refuses(0, 1, 6, 5), b"slot 6");
-    io::write_all(STDOUT_FILENO, b"worked: 7 tried\n");
+fn main(rt: HostRuntime) -> io::Result<()> {
+    let Some(mut list) = replay::open_list(&rt, "grid.bin")? else {
+        return Ok(());
+    };
+    let count = replay::next_word(&mut list) as u64;
+    let failed = failures(&rt, &mut list, count)?;
+    replay::end_list(&rt, list, "grid", count, failed)?;
+    worked(&rt, agrees(1, 1, 0, 4198400, 4194304), "4198400")?;
+    worked(&rt, agrees(1, 0, 0, 8191, 0), "8191")?;
+    worked(&rt, agrees(1, 0, 0, 8192, 16384), "8192")?;
+    worked(&rt, refuses(4, 0, 0, 4), "type 4")?;
+    worked(&rt, refuses(4, 2, 6, 4), "type 4, flag 2, slot 6")?;
+    worked(&rt, refuses(0, 2, 6, 4), "flag 2, slot 6")?;
+    worked(&rt, refuses(0, 1, 6, 5), "slot 6")?;
+    println!(rt; "worked: 7 tried")
 }

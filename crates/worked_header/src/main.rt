@@ -4,10 +4,12 @@
 // the two calls say no, alone and with a later row beside it.
 #![tactic(auto)]
 
-ghost use Rattle.std.specs.Prelude.{◌≡◌, ◌≤◌, length};
+ghost use Rattle.std.specs.Prelude.{◌≡◌, ◌≤◌, length, IfOk};
 
 use header::Written;
 use header_read::Models;
+use replay::List;
+use std::io;
 
 // What a buffer holds where nothing was written.
 const GUARD: u8 = 165;
@@ -304,7 +306,7 @@ fn is_right(a: Case) -> bool {
     is_read_right(a) && is_cut_right(a) && is_written_right(a) && is_priced_right(a)
 }
 
-fn next_numbers(list: i32) -> [i32; 42] {
+fn next_numbers(list: &mut List) -> [i32; 42] {
     let mut numbers = [0i32; 42];
     replay::next_numbers(list, &mut numbers);
     numbers
@@ -331,7 +333,7 @@ fn identity_words() -> [u32; 43] {
     words
 }
 
-fn next_prior(list: i32, given: bool) -> [i32; 42] {
+fn next_prior(list: &mut List, given: bool) -> [i32; 42] {
     if given {
         return next_numbers(list);
     }
@@ -339,10 +341,10 @@ fn next_prior(list: i32, given: bool) -> [i32; 42] {
 }
 
 // Bytes packed four to a word.
-fn next_bytes(list: i32, length: usize) -> [u8; 160] {
+fn next_bytes(list: &mut List, length: usize) -> [u8; 160] {
     let mut bytes = filled(ZEROS);
     let end = (replay::least(length, 157) + 3) / 4 * 4;
-    io::read_full(list, &mut bytes[0..end]);
+    replay::next_bytes(list, &mut bytes[0..end]);
     bytes
 }
 
@@ -362,11 +364,11 @@ fn types_of(word: u32) -> [u8; 7] {
     ]
 }
 
-fn next_short(list: i32) -> u16 {
+fn next_short(list: &mut List) -> u16 {
     replay::least(replay::next_word(list) as usize, 65535) as u16
 }
 
-fn next_case(list: i32) -> Case {
+fn next_case(list: &mut List) -> Case {
     let word = replay::next_word(list);
     let length = replay::next_word(list) as usize;
     let start = next_short(list);
@@ -817,7 +819,7 @@ fn accepted_case(case: usize) -> bool {
     is_accepted(a)
 }
 
-fn is_right_in(list: i32, group: usize, case: usize) -> bool {
+fn is_right_in(list: &mut List, group: usize, case: usize) -> bool {
     if group < WRITE_ROWS {
         return write_row_case(group, case);
     }
@@ -834,54 +836,70 @@ fn is_right_in(list: i32, group: usize, case: usize) -> bool {
 }
 
 // 1 for a case that failed, which gets a line.
-fn failures_at(list: i32, group: usize, name: &[u8], case: u64) -> u64
-    ensures { result ≤ 1 }
+fn failures_at(
+    rt: &impl Print,
+    list: &mut List,
+    group: usize,
+    name: &str,
+    case: u64,
+) -> io::Result<u64>
+    ensures { IfOk result (λ n. n ≤ 1) }
 {
     if is_right_in(list, group, case as usize) {
-        return 0;
+        return Ok(0);
     }
-    replay::print_failure(name, case);
-    1
+    replay::print_failure(rt, name, case)?;
+    Ok(1)
 }
 
-fn failures(list: i32, group: usize, name: &[u8], count: u64) -> u64 {
+fn failures(
+    rt: &impl Print,
+    list: &mut List,
+    group: usize,
+    name: &str,
+    count: u64,
+) -> io::Result<u64> {
     let mut failed = 0u64;
     let mut case = 0u64;
     while case < count {
-        failed += failures_at(list, group, name, case);
+        failed += failures_at(rt, list, group, name, case)?;
         case += 1;
     }
-    failed
+    Ok(failed)
 }
 
-fn try_all(list: i32, group: usize, name: &[u8], count: u64) {
-    replay::print_count(name, count, failures(list, group, name, count));
+fn try_all(
+    rt: &impl Print,
+    list: &mut List,
+    group: usize,
+    name: &str,
+    count: u64,
+) -> io::Result<()> {
+    let failed = failures(rt, list, group, name, count)?;
+    replay::print_count(rt, name, count, failed)
 }
 
 // The rows of the table in its order, each with the number of its cases.
-fn try_refusals() {
-    try_all(0, 0, b"written, row 2", 108);
-    try_all(0, 1, b"written, row 4", 160);
-    try_all(0, 2, b"written, row 14", 40);
-    try_all(0, 3, b"written, row 7", 1260);
-    try_all(0, 4, b"written, row 8", 336);
-    try_all(0, 5, b"written, row 3", 6);
-    try_all(0, 6, b"read, row 2", 24);
-    try_all(0, 7, b"read, row 4", 12);
-    try_all(0, 8, b"read, row 8", 336);
-    try_all(0, 9, b"read, row 9", 16);
+fn try_refusals(rt: &impl Print, list: &mut List) -> io::Result<()> {
+    try_all(rt, list, 0, "written, row 2", 108)?;
+    try_all(rt, list, 1, "written, row 4", 160)?;
+    try_all(rt, list, 2, "written, row 14", 40)?;
+    try_all(rt, list, 3, "written, row 7", 1260)?;
+    try_all(rt, list, 4, "written, row 8", 336)?;
+    try_all(rt, list, 5, "written, row 3", 6)?;
+    try_all(rt, list, 6, "read, row 2", 24)?;
+    try_all(rt, list, 7, "read, row 4", 12)?;
+    try_all(rt, list, 8, "read, row 8", 336)?;
+    try_all(rt, list, 9, "read, row 9", 16)
 }
 
-fn main() {
-    let list = os::open_read(b"header.bin");
-    if list < 0 {
-        os::fail(b"header.bin");
-        return;
-    }
-    let count = replay::next_word(list) as u64;
-    try_all(list, LISTED, b"headers", count);
-    libc::close(list);
-    try_all(0, WORKED, b"worked", 2);
-    try_all(0, ACCEPTED, b"accepted", 170);
-    try_refusals();
+fn main(rt: HostRuntime) -> io::Result<()> {
+    let Some(mut list) = replay::open_list(&rt, "header.bin")? else {
+        return Ok(());
+    };
+    let count = replay::next_word(&mut list) as u64;
+    try_all(&rt, &mut list, LISTED, "headers", count)?;
+    try_all(&rt, &mut list, WORKED, "worked", 2)?;
+    try_all(&rt, &mut list, ACCEPTED, "accepted", 170)?;
+    try_refusals(&rt, &mut list)
 }

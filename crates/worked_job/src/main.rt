@@ -5,9 +5,12 @@
 // was, but for the half planes and words of a job that is refused with 6.
 #![tactic(auto)]
 
-ghost use Rattle.std.specs.Prelude.{◌≤◌, ◌<◌, ◌≡◌, length};
+ghost use Rattle.std.specs.Prelude.{◌≤◌, ◌<◌, ◌≡◌, length, IfOk};
 
 use job::{Report, Settings};
+use replay::List;
+use std::io;
+use std::rt::Files;
 
 const UNTOUCHED_WORD: u32 = 2779096485;
 
@@ -40,7 +43,7 @@ struct Handed {
     prior: usize,
 }
 
-fn size(list: i32) -> usize {
+fn size(list: &mut List) -> usize {
     replay::next_word(list) as usize
 }
 
@@ -50,7 +53,7 @@ fn byte_of(word: u32) -> u8 {
 
 // ---- the planes
 
-fn next_picture(list: i32) -> Picture {
+fn next_picture(list: &mut List) -> Picture {
     Picture {
         seed: replay::next_word(list),
         mask: replay::next_word(list),
@@ -154,7 +157,7 @@ fn map_plane(p: Picture, first: &[u16], plane: &mut [u16]) {
     }
 }
 
-fn make_planes(list: i32, p: Picture, input: &mut [u16], reference: &mut [u16]) {
+fn make_planes(list: &mut List, p: Picture, input: &mut [u16], reference: &mut [u16]) {
     if p.kind == 4 {
         replay::next_pels(list, &mut *reference);
         replay::next_pels(list, &mut *input);
@@ -180,7 +183,7 @@ fn make_planes(list: i32, p: Picture, input: &mut [u16], reference: &mut [u16]) 
 
 // ---- what a case asks
 
-fn next_settings(list: i32) -> Settings {
+fn next_settings(list: &mut List) -> Settings {
     Settings {
         frame: (replay::next_word(list) % 65536) as u16,
         gm_type: byte_of(replay::next_word(list)),
@@ -193,7 +196,7 @@ fn next_settings(list: i32) -> Settings {
     }
 }
 
-fn next_handed(list: i32) -> Handed {
+fn next_handed(list: &mut List) -> Handed {
     Handed {
         input: size(list),
         reference: size(list),
@@ -204,7 +207,7 @@ fn next_handed(list: i32) -> Handed {
     }
 }
 
-fn next_bytes(list: i32, bytes: &mut [u8]) {
+fn next_bytes(list: &mut List, bytes: &mut [u8]) {
     let mut i = 0;
     while i < bytes.len() {
         bytes[i] = byte_of(replay::next_word(list));
@@ -213,19 +216,19 @@ fn next_bytes(list: i32, bytes: &mut [u8]) {
 }
 
 // The first of a buffer, as many as the list has.
-fn first_bytes(list: i32, count: usize, bytes: &mut [u8]) {
+fn first_bytes(list: &mut List, count: usize, bytes: &mut [u8]) {
     let end = replay::least(count, bytes.len());
     next_bytes(list, &mut bytes[0..end]);
 }
 
-fn first_numbers(list: i32, count: usize, numbers: &mut [i32]) {
+fn first_numbers(list: &mut List, count: usize, numbers: &mut [i32]) {
     let end = replay::least(count, numbers.len());
     replay::next_numbers(list, &mut numbers[0..end]);
 }
 
 // ---- what it answers
 
-fn types_hold(list: i32, types: [u8; 7]) -> bool {
+fn types_hold(list: &mut List, types: [u8; 7]) -> bool {
     let mut right = true;
     let mut i = 0;
     while i < 7 {
@@ -237,7 +240,7 @@ fn types_hold(list: i32, types: [u8; 7]) -> bool {
     right
 }
 
-fn numbers_hold(list: i32, numbers: [i32; 42]) -> bool {
+fn numbers_hold(list: &mut List, numbers: [i32; 42]) -> bool {
     let mut right = true;
     let mut i = 0;
     while i < 42 {
@@ -249,7 +252,7 @@ fn numbers_hold(list: i32, numbers: [i32; 42]) -> bool {
     right
 }
 
-fn report_holds(list: i32, r: Report) -> bool {
+fn report_holds(list: &mut List, r: Report) -> bool {
     let refusal = replay::next_word(list);
     let samples = size(list);
     let types = r.types;
@@ -280,7 +283,7 @@ fn byte_in(word: u32, at: usize) -> u8 {
     byte_of(word)
 }
 
-fn word_here(list: i32, at: usize, written: usize, word: u32) -> u32 {
+fn word_here(list: &mut List, at: usize, written: usize, word: u32) -> u32 {
     if at < written {
         if at % 4 == 0 {
             return replay::next_word(list);
@@ -297,7 +300,7 @@ fn wanted_byte(word: u32, at: usize, written: usize) -> u8 {
 }
 
 // The first bytes are those of the list, the others are as they were.
-fn bytes_hold(list: i32, bytes: &[u8], written: usize) -> bool {
+fn bytes_hold(list: &mut List, bytes: &[u8], written: usize) -> bool {
     let mut right = true;
     let mut word = 0u32;
     let mut i = 0;
@@ -311,7 +314,7 @@ fn bytes_hold(list: i32, bytes: &[u8], written: usize) -> bool {
     right
 }
 
-fn wanted_word(list: i32, listed: bool) -> u32 {
+fn wanted_word(list: &mut List, listed: bool) -> u32 {
     if listed {
         return replay::next_word(list);
     }
@@ -319,7 +322,7 @@ fn wanted_word(list: i32, listed: bool) -> u32 {
 }
 
 // The first words are those of the list, the others are as they were.
-fn words_hold(list: i32, words: &[u32], written: usize) -> bool {
+fn words_hold(list: &mut List, words: &[u32], written: usize) -> bool {
     let mut right = true;
     let mut i = 0;
     while i < words.len() {
@@ -332,7 +335,7 @@ fn words_hold(list: i32, words: &[u32], written: usize) -> bool {
 }
 
 // The blocks' words and the header's bytes as listed.
-fn written_holds(list: i32, blocks: &[u8], header: &[u8]) -> bool {
+fn written_holds(list: &mut List, blocks: &[u8], header: &[u8]) -> bool {
     let block_words = replay::next_word(list);
     let blocks_right = bytes_hold(list, blocks, 4 * block_words as usize);
     let header_bytes = size(list);
@@ -340,7 +343,7 @@ fn written_holds(list: i32, blocks: &[u8], header: &[u8]) -> bool {
 }
 
 // The half planes and the words that the search leaves.
-fn searched_holds(list: i32, input_half: &[u16], ref_half: &[u16], words: &[u32]) -> bool {
+fn searched_holds(list: &mut List, input_half: &[u16], ref_half: &[u16], words: &[u32]) -> bool {
     let written = size(list);
     let input_sum = replay::next_word(list);
     let ref_sum = replay::next_word(list);
@@ -352,7 +355,7 @@ fn searched_holds(list: i32, input_half: &[u16], ref_half: &[u16], words: &[u32]
 
 // ---- a case
 
-fn room_in(list: i32, most: usize) -> usize
+fn room_in(list: &mut List, most: usize) -> usize
     ensures { result ≤ most }
 {
     replay::least(size(list), most)
@@ -360,7 +363,7 @@ fn room_in(list: i32, most: usize) -> usize
 
 // The job, lent as much of each buffer as the list says.
 fn lent_job(
-    list: i32,
+    list: &mut List,
     p: Picture,
     settings: Settings,
     input: &[u16],
@@ -399,7 +402,7 @@ fn lent_job(
 }
 
 fn answer_holds(
-    list: i32,
+    list: &mut List,
     p: Picture,
     settings: Settings,
     input: &[u16],
@@ -437,7 +440,7 @@ fn answer_holds(
 
 // The answer to what the list hands in of each.
 fn handed_holds(
-    list: i32,
+    list: &mut List,
     p: Picture,
     settings: Settings,
     h: Handed,
@@ -461,7 +464,7 @@ fn handed_holds(
     )
 }
 
-fn run_case(list: i32, p: Picture, input: &[u16], reference: &[u16]) -> bool {
+fn run_case(list: &mut List, p: Picture, input: &[u16], reference: &[u16]) -> bool {
     let settings = next_settings(list);
     let h = next_handed(list);
     let mut classes = [0u8; 150];
@@ -483,7 +486,7 @@ fn no_pels() -> [u16; 36864]
     [0; 36864]
 }
 
-fn replay_one(list: i32, input: &mut [u16], reference: &mut [u16]) -> bool {
+fn replay_one(list: &mut List, input: &mut [u16], reference: &mut [u16]) -> bool {
     let p = next_picture(list);
     let area = index(place(p.height), place(p.width), 0);
     let input_pels = replay::least(area, input.len());
@@ -497,34 +500,38 @@ fn replay_one(list: i32, input: &mut [u16], reference: &mut [u16]) -> bool {
     run_case(list, p, input, reference)
 }
 
-fn failures_at(list: i32, name: &[u8], case: u64) -> u64
-    ensures { result ≤ 1 }
+fn failures_at(rt: &impl Print, list: &mut List, name: &str, case: u64) -> io::Result<u64>
+    ensures { IfOk result (λ n. n ≤ 1) }
 {
     let mut input = no_pels();
     let mut reference = no_pels();
-    replay::failed(name, case, replay_one(list, &mut input, &mut reference))
+    replay::failed(rt, name, case, replay_one(list, &mut input, &mut reference))
 }
 
-fn failures(list: i32, name: &[u8], count: u64) -> u64 {
+fn failures(rt: &impl Print, list: &mut List, name: &str, count: u64) -> io::Result<u64> {
     let mut failed = 0u64;
     let mut case = 0u64;
     while case < count {
-        failed += failures_at(list, name, case);
+        failed += failures_at(rt, list, name, case)?;
         case += 1;
     }
-    failed
+    Ok(failed)
 }
 
-fn replay_list(file: &[u8], name: &[u8]) {
-    let list = replay::open_list(file);
-    if list < 0 {
-        return;
-    }
-    let count = replay::next_word(list) as u64;
-    replay::end_list(list, name, count, failures(list, name, count));
+fn replay_list<R: Files + Print + Eprint + AllocGlobal>(
+    rt: &R,
+    file: &str,
+    name: &str,
+) -> io::Result<()> {
+    let Some(mut list) = replay::open_list(rt, file)? else {
+        return Ok(());
+    };
+    let count = replay::next_word(&mut list) as u64;
+    let failed = failures(rt, &mut list, name, count)?;
+    replay::end_list(rt, list, name, count, failed)
 }
 
-fn main() {
-    replay_list(b"job.bin", b"job");
-    replay_list(b"refusals.bin", b"refusal");
+fn main(rt: HostRuntime) -> io::Result<()> {
+    replay_list(&rt, "job.bin", "job")?;
+    replay_list(&rt, "refusals.bin", "refusal")
 }

@@ -2,9 +2,10 @@
 // seven models by a reader against slice and position.
 #![tactic(auto)]
 
-ghost use Rattle.std.specs.Prelude.{◌≤◌, ◌<◌};
+ghost use Rattle.std.specs.Prelude.{◌≤◌, ◌<◌, IfOk};
 
 use header_read::Models;
+use std::io;
 
 const MODELS: u64 = 4000;
 
@@ -129,26 +130,27 @@ fn models_case(case: u64) -> bool {
 }
 
 // 1 for a case that failed, which gets a line.
-fn failed_model(case: u64) -> u64
-    ensures { result ≤ 1 }
+fn failed_model(rt: &impl Print, case: u64) -> io::Result<u64>
+    ensures { IfOk result (λ n. n ≤ 1) }
 {
     if models_case(case) {
-        return 0;
+        return Ok(0);
     }
-    replay::print_failure(b"models", case);
-    1
+    replay::print_failure(rt, "models", case)?;
+    Ok(1)
 }
 
-fn failed_models(count: u64) -> u64 {
+fn failed_models(rt: &impl Print, count: u64) -> io::Result<u64> {
     let mut failed = 0u64;
     let mut case = 0u64;
     while case < count {
-        failed += failed_model(case);
+        failed += failed_model(rt, case)?;
         case += 1;
     }
-    failed
+    Ok(failed)
 }
 
-fn main() {
-    replay::print_count(b"models", MODELS, failed_models(MODELS));
+fn main(rt: HostRuntime) -> io::Result<()> {
+    let failed = failed_models(&rt, MODELS)?;
+    replay::print_count(&rt, "models", MODELS, failed)
 }

@@ -3,7 +3,10 @@
 // is refused, must be as it was.
 #![tactic(auto)]
 
-ghost use Rattle.std.specs.Prelude.{◌≡◌, ◌≤◌, length};
+ghost use Rattle.std.specs.Prelude.{◌≡◌, ◌≤◌, length, IfOk};
+
+use replay::List;
+use std::io;
 
 // The largest plane, and what lies behind it.
 const ROOM: usize = 1048640;
@@ -14,12 +17,12 @@ fn no_pels() -> [u16; ROOM]
     [0; ROOM]
 }
 
-fn size(list: i32) -> usize {
+fn size(list: &mut List) -> usize {
     replay::next_word(list) as usize
 }
 
 // One case of the list: seed, sides, motion and the room of both buffers; refusal, pels and two sums.
-fn replay_one(list: i32, input: &mut [u16], reference: &mut [u16]) -> bool {
+fn replay_one(list: &mut List, input: &mut [u16], reference: &mut [u16]) -> bool {
     let seed = replay::next_word(list);
     let width = size(list);
     let height = size(list);
@@ -49,36 +52,45 @@ fn replay_one(list: i32, input: &mut [u16], reference: &mut [u16]) -> bool {
 }
 
 // 1 for a case that failed, which gets a line.
-fn failures_at(list: i32, case: u64, input: &mut [u16], reference: &mut [u16]) -> u64
-    ensures { result ≤ 1 }
+fn failures_at(
+    rt: &impl Print,
+    list: &mut List,
+    case: u64,
+    input: &mut [u16],
+    reference: &mut [u16],
+) -> io::Result<u64>
+    ensures { IfOk result (λ n. n ≤ 1) }
 {
     if replay_one(list, &mut *input, &mut *reference) {
-        return 0;
+        return Ok(0);
     }
-    replay::print_failure(b"practice", case);
-    1
+    replay::print_failure(rt, "practice", case)?;
+    Ok(1)
 }
 
-fn failures(list: i32, count: u64, input: &mut [u16], reference: &mut [u16]) -> u64 {
+fn failures(
+    rt: &impl Print,
+    list: &mut List,
+    count: u64,
+    input: &mut [u16],
+    reference: &mut [u16],
+) -> io::Result<u64> {
     let mut failed = 0u64;
     let mut case = 0u64;
     while case < count {
-        failed += failures_at(list, case, &mut *input, &mut *reference);
+        failed += failures_at(rt, list, case, &mut *input, &mut *reference)?;
         case += 1;
     }
-    failed
+    Ok(failed)
 }
 
-fn main() {
-    let list = os::open_read(b"practice.bin");
-    if list < 0 {
-        os::fail(b"practice.bin");
-        return;
-    }
+fn main(rt: HostRuntime) -> io::Result<()> {
+    let Some(mut list) = replay::open_list(&rt, "practice.bin")? else {
+        return Ok(());
+    };
     let mut input = no_pels();
     let mut reference = no_pels();
-    let count = replay::next_word(list) as u64;
-    let failed = failures(list, count, &mut input, &mut reference);
-    replay::print_count(b"practice", count, failed);
-    libc::close(list);
+    let count = replay::next_word(&mut list) as u64;
+    let failed = failures(&rt, &mut list, count, &mut input, &mut reference)?;
+    replay::end_list(&rt, list, "practice", count, failed)
 }

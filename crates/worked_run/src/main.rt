@@ -9,8 +9,11 @@ ghost use Rattle.std.specs.Prelude.{◌≤◌, ◌<◌, ◌≡◌, length};
 
 use header_read::Models;
 use job::{Report, Settings};
+use replay::List;
 use run::Run;
 use run_job::JobDone;
+use std::io;
+use std::rt::Files;
 
 // What every lent byte holds.
 const FILL: u8 = 255;
@@ -66,13 +69,13 @@ struct Rooms {
     header: usize,
 }
 
-fn size(list: i32) -> usize {
+fn size(list: &mut List) -> usize {
     replay::next_word(list) as usize
 }
 
 // ---- what the list holds
 
-fn next_prior(list: i32) -> [i32; 42]
+fn next_prior(list: &mut List) -> [i32; 42]
     ensures { 42 ≡ length result }
 {
     let mut prior = [0i32; 42];
@@ -80,7 +83,7 @@ fn next_prior(list: i32) -> [i32; 42]
     prior
 }
 
-fn next_run(list: i32) -> Run {
+fn next_run(list: &mut List) -> Run {
     let prior = next_prior(list);
     let flag = replay::next_code(list);
     let form = replay::next_word(list);
@@ -88,14 +91,14 @@ fn next_run(list: i32) -> Run {
 }
 
 // A count and so many bytes; the count, and what a buffer has no room for isn't read.
-fn next_bytes(list: i32, bytes: &mut [u8]) -> usize {
+fn next_bytes(list: &mut List, bytes: &mut [u8]) -> usize {
     let count = size(list);
     let end = replay::least(count, bytes.len());
-    io::read_full(list, &mut bytes[0..end]);
+    replay::next_bytes(list, &mut bytes[0..end]);
     count
 }
 
-fn next_numbers(list: i32, numbers: &mut [i32]) -> usize {
+fn next_numbers(list: &mut List, numbers: &mut [i32]) -> usize {
     let count = size(list);
     let end = replay::least(count, numbers.len());
     replay::next_numbers(list, &mut numbers[0..end]);
@@ -103,7 +106,7 @@ fn next_numbers(list: i32, numbers: &mut [i32]) -> usize {
 }
 
 // Two counts, and as many words as the first says; the second.
-fn next_words(list: i32, words: &mut [u32]) -> usize {
+fn next_words(list: &mut List, words: &mut [u32]) -> usize {
     let listed = replay::least(size(list), words.len());
     let handed = size(list);
     replay::next_words(list, &mut words[0..listed]);
@@ -148,7 +151,7 @@ fn is_byte(bytes: &[u8], at: usize, wanted: u8) -> bool {
 }
 
 // The first bytes are those of the list, the others are as they were.
-fn bytes_hold(list: i32, bytes: &[u8]) -> bool {
+fn bytes_hold(list: &mut List, bytes: &[u8]) -> bool {
     let mut wanted = [FILL; 1100];
     let count = next_bytes(list, &mut wanted);
     let mut i = 0usize;
@@ -161,7 +164,7 @@ fn bytes_hold(list: i32, bytes: &[u8]) -> bool {
     count <= bytes.len()
 }
 
-fn wanted_word(list: i32, listed: bool) -> u32 {
+fn wanted_word(list: &mut List, listed: bool) -> u32 {
     if listed {
         return replay::next_word(list);
     }
@@ -169,7 +172,7 @@ fn wanted_word(list: i32, listed: bool) -> u32 {
 }
 
 // The first words are those of the list, the others are as they were.
-fn words_hold(list: i32, words: &[u32]) -> bool {
+fn words_hold(list: &mut List, words: &[u32]) -> bool {
     let written = size(list);
     let mut right = true;
     let mut i = 0usize;
@@ -263,7 +266,7 @@ fn read_along(
 
 // ---- the events
 
-fn switched(list: i32, s: State) -> State {
+fn switched(list: &mut List, s: State) -> State {
     let code = replay::next_code(list);
     let refusal = replay::next_word(list);
     let moved = run::switch(s.writer, code);
@@ -286,7 +289,7 @@ fn switched(list: i32, s: State) -> State {
 }
 
 fn frame_in(
-    list: i32,
+    list: &mut List,
     s: State,
     intra: bool,
     types: &[u8],
@@ -314,7 +317,7 @@ fn frame_in(
     )
 }
 
-fn framed(list: i32, s: State) -> State {
+fn framed(list: &mut List, s: State) -> State {
     let intra = replay::next_word(list) == 1;
     let mut types = [0u8; 8];
     let mut params = [0i32; 43];
@@ -343,7 +346,7 @@ fn after_reading(reader: Run, params: [i32; 42], accepted: bool) -> Run {
 
 // Bytes that the reader is asked of beside the run: it goes no further, and a refused reading gives it
 // back as it was.
-fn read_beside(list: i32, s: State) -> State {
+fn read_beside(list: &mut List, s: State) -> State {
     let intra = replay::next_word(list) == 1;
     let mut bytes = [FILL; 140];
     let count = replay::least(next_bytes(list, &mut bytes), 140);
@@ -352,7 +355,7 @@ fn read_beside(list: i32, s: State) -> State {
     let refusal = replay::next_word(list);
     let bits = size(list);
     let mut types = [0u8; 7];
-    io::read_full(list, &mut types);
+    replay::next_bytes(list, &mut types);
     let params = next_prior(list);
     let models = read.models;
     let next = after_reading(s.reader, params, refusal == 0);
@@ -367,7 +370,7 @@ fn read_beside(list: i32, s: State) -> State {
 }
 
 fn store_in(
-    list: i32,
+    list: &mut List,
     s: State,
     frame: u16,
     words: &[u32],
@@ -387,7 +390,7 @@ fn store_in(
 }
 
 fn lent_store(
-    list: i32,
+    list: &mut List,
     s: State,
     frame: u16,
     handed: usize,
@@ -400,7 +403,7 @@ fn lent_store(
 }
 
 // Words of zeros stand behind those of the list.
-fn stored(list: i32, s: State) -> State {
+fn stored(list: &mut List, s: State) -> State {
     let frame = (replay::next_word(list) % 65536) as u16;
     let mut words = [0u32; replay::OVER];
     let mut classes = [0u8; 150];
@@ -421,7 +424,7 @@ fn stored(list: i32, s: State) -> State {
 
 // ---- a job
 
-fn next_settings(list: i32) -> Settings {
+fn next_settings(list: &mut List) -> Settings {
     Settings {
         frame: (replay::next_word(list) % 65536) as u16,
         gm_type: replay::next_code(list),
@@ -434,7 +437,7 @@ fn next_settings(list: i32) -> Settings {
     }
 }
 
-fn next_rooms(list: i32) -> Rooms {
+fn next_rooms(list: &mut List) -> Rooms {
     Rooms {
         input_half: size(list),
         ref_half: size(list),
@@ -463,7 +466,7 @@ fn both_textured(input: &[u16], reference: &[u16], pels: usize) -> bool {
 }
 
 fn next_planes(
-    list: i32,
+    list: &mut List,
     width: usize,
     height: usize,
     input: &mut [u16],
@@ -496,11 +499,11 @@ fn next_planes(
     true
 }
 
-fn report_holds(list: i32, r: Report) -> bool {
+fn report_holds(list: &mut List, r: Report) -> bool {
     let refusal = replay::next_word(list);
     let samples = size(list);
     let mut types = [0u8; 7];
-    io::read_full(list, &mut types);
+    replay::next_bytes(list, &mut types);
     let models = next_prior(list);
     let score = replay::next_bits(list);
     let bits = size(list);
@@ -514,7 +517,7 @@ fn report_holds(list: i32, r: Report) -> bool {
         && same_prior(own_models, models)
 }
 
-fn halves_hold(list: i32, input_half: &[u16], ref_half: &[u16]) -> bool {
+fn halves_hold(list: &mut List, input_half: &[u16], ref_half: &[u16]) -> bool {
     let written = size(list);
     let input_sum = replay::next_word(list);
     let ref_sum = replay::next_word(list);
@@ -524,7 +527,7 @@ fn halves_hold(list: i32, input_half: &[u16], ref_half: &[u16]) -> bool {
 
 // The job, lent as much of each buffer as the list says.
 fn lent_job(
-    list: i32,
+    list: &mut List,
     held: Run,
     sides: Sides,
     settings: Settings,
@@ -565,7 +568,7 @@ fn lent_job(
 
 // The job is an inter frame: what it reports is what the reader then gives.
 fn job_in(
-    list: i32,
+    list: &mut List,
     s: State,
     sides: Sides,
     settings: Settings,
@@ -625,7 +628,7 @@ fn job_in(
 }
 
 fn handed_job(
-    list: i32,
+    list: &mut List,
     s: State,
     width: usize,
     height: usize,
@@ -673,7 +676,7 @@ fn only_if(s: State, right: bool) -> State {
     }
 }
 
-fn worked_job(list: i32, s: State) -> State {
+fn worked_job(list: &mut List, s: State) -> State {
     let width = size(list);
     let height = size(list);
     let mut input = no_pels();
@@ -685,7 +688,7 @@ fn worked_job(list: i32, s: State) -> State {
 
 // ---- a run
 
-fn one_event(list: i32, s: State) -> State {
+fn one_event(list: &mut List, s: State) -> State {
     let kind = replay::next_word(list);
     if kind == SWITCH {
         return switched(list, s);
@@ -703,7 +706,7 @@ fn one_event(list: i32, s: State) -> State {
 }
 
 // The run of the list after an event.
-fn moved(list: i32, run: Run) -> Run {
+fn moved(list: &mut List, run: Run) -> Run {
     let way = replay::next_word(list);
     let prior = run.prior;
     if way == TO_FLAG {
@@ -742,13 +745,13 @@ fn held_to(s: State, wanted: Run) -> State {
     }
 }
 
-fn event(list: i32, s: State) -> State {
+fn event(list: &mut List, s: State) -> State {
     let after = one_event(list, s);
     let wanted = moved(list, after.wanted);
     held_to(after, wanted)
 }
 
-fn begun(list: i32) -> State {
+fn begun(list: &mut List) -> State {
     if replay::next_word(list) == 0 {
         let run = next_run(list);
         return State {
@@ -771,7 +774,7 @@ fn begun(list: i32) -> State {
     }
 }
 
-fn replay_run(list: i32) -> bool {
+fn replay_run(list: &mut List) -> bool {
     let mut s = begun(list);
     let events = replay::next_word(list);
     let mut i = 0u32;
@@ -782,26 +785,30 @@ fn replay_run(list: i32) -> bool {
     s.right
 }
 
-fn failures(list: i32, name: &[u8], count: u64) -> u64 {
+fn failures(rt: &impl Print, list: &mut List, name: &str, count: u64) -> io::Result<u64> {
     let mut failed = 0u64;
     let mut case = 0u64;
     while case < count {
-        failed += replay::failed(name, case, replay_run(list));
+        failed += replay::failed(rt, name, case, replay_run(list))?;
         case += 1;
     }
-    failed
+    Ok(failed)
 }
 
-fn replay_list(file: &[u8], name: &[u8]) {
-    let list = replay::open_list(file);
-    if list < 0 {
-        return;
-    }
-    let count = replay::next_word(list) as u64;
-    replay::end_list(list, name, count, failures(list, name, count));
+fn replay_list<R: Files + Print + Eprint + AllocGlobal>(
+    rt: &R,
+    file: &str,
+    name: &str,
+) -> io::Result<()> {
+    let Some(mut list) = replay::open_list(rt, file)? else {
+        return Ok(());
+    };
+    let count = replay::next_word(&mut list) as u64;
+    let failed = failures(rt, &mut list, name, count)?;
+    replay::end_list(rt, list, name, count, failed)
 }
 
-fn main() {
-    replay_list(b"worked.bin", b"worked runs");
-    replay_list(b"run.bin", b"runs");
+fn main(rt: HostRuntime) -> io::Result<()> {
+    replay_list(&rt, "worked.bin", "worked runs")?;
+    replay_list(&rt, "run.bin", "runs")
 }

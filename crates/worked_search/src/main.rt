@@ -4,9 +4,12 @@
 // was. The second has the pels of its planes: the worked counts of docs/RULES.md.
 #![tactic(auto)]
 
-ghost use Rattle.std.specs.Prelude.{◌≡◌, ◌≤◌, length};
+ghost use Rattle.std.specs.Prelude.{◌≡◌, ◌≤◌, length, IfOk};
 
+use replay::List;
 use search::Searched;
+use std::io;
+use std::rt::Files;
 
 const UNTOUCHED_WORD: u32 = 2779096485;
 
@@ -58,11 +61,11 @@ fn no_pels() -> [u16; 6400]
     [0; 6400]
 }
 
-fn size(list: i32) -> usize {
+fn size(list: &mut List) -> usize {
     replay::next_word(list) as usize
 }
 
-fn next_texture(list: i32) -> Texture {
+fn next_texture(list: &mut List) -> Texture {
     Texture {
         period: replay::next_word(list),
         threshold: replay::next_word(list),
@@ -72,7 +75,7 @@ fn next_texture(list: i32) -> Texture {
     }
 }
 
-fn next_window(list: i32) -> Window {
+fn next_window(list: &mut List) -> Window {
     Window {
         seed: replay::next_word(list),
         row: replay::next_word(list),
@@ -84,7 +87,7 @@ fn next_window(list: i32) -> Window {
     }
 }
 
-fn next_case(list: i32) -> Case {
+fn next_case(list: &mut List) -> Case {
     Case {
         width: size(list),
         height: size(list),
@@ -208,7 +211,7 @@ fn searched(
     )
 }
 
-fn wanted_word(list: i32, listed: bool) -> u32 {
+fn wanted_word(list: &mut List, listed: bool) -> u32 {
     if listed {
         replay::next_word(list)
     } else {
@@ -217,7 +220,7 @@ fn wanted_word(list: i32, listed: bool) -> u32 {
 }
 
 // The first words are those of the list, the others are as they were.
-fn words_hold(list: i32, words: &[u32], written: usize) -> bool {
+fn words_hold(list: &mut List, words: &[u32], written: usize) -> bool {
     let mut right = true;
     let mut i = 0;
     while i < words.len() {
@@ -229,7 +232,13 @@ fn words_hold(list: i32, words: &[u32], written: usize) -> bool {
     right
 }
 
-fn holds(list: i32, s: Searched, input_half: &[u16], ref_half: &[u16], words: &[u32]) -> bool {
+fn holds(
+    list: &mut List,
+    s: Searched,
+    input_half: &[u16],
+    ref_half: &[u16],
+    words: &[u32],
+) -> bool {
     let refusal = replay::next_word(list);
     let samples = size(list);
     let rows = replay::next_word(list);
@@ -245,7 +254,7 @@ fn holds(list: i32, s: Searched, input_half: &[u16], ref_half: &[u16], words: &[
         && words_right
 }
 
-fn replay_one(list: i32, input: &mut [u16], reference: &mut [u16]) -> bool {
+fn replay_one(list: &mut List, input: &mut [u16], reference: &mut [u16]) -> bool {
     let a = next_case(list);
     let mut classes = [0u8; 32];
     let mut input_half = [replay::UNTOUCHED_PEL; 1632];
@@ -264,7 +273,7 @@ fn replay_one(list: i32, input: &mut [u16], reference: &mut [u16]) -> bool {
     holds(list, s, &input_half, &ref_half, &words)
 }
 
-fn replay_planes(list: i32, input: &mut [u16], reference: &mut [u16]) -> bool {
+fn replay_planes(list: &mut List, input: &mut [u16], reference: &mut [u16]) -> bool {
     let width = size(list);
     let height = size(list);
     let pels = size(list);
@@ -293,8 +302,8 @@ fn replay_planes(list: i32, input: &mut [u16], reference: &mut [u16]) -> bool {
 }
 
 // 1 for a case that failed, which gets a line.
-fn failures_at(list: i32, planes: bool, case: u64) -> u64
-    ensures { result ≤ 1 }
+fn failures_at(rt: &impl Print, list: &mut List, planes: bool, case: u64) -> io::Result<u64>
+    ensures { IfOk result (λ n. n ≤ 1) }
 {
     let mut input = no_pels();
     let mut reference = no_pels();
@@ -304,33 +313,36 @@ fn failures_at(list: i32, planes: bool, case: u64) -> u64
         replay_one(list, &mut input, &mut reference)
     };
     if right {
-        return 0;
+        return Ok(0);
     }
-    replay::print_failure(b"search", case);
-    1
+    replay::print_failure(rt, "search", case)?;
+    Ok(1)
 }
 
-fn failures(list: i32, planes: bool, count: u64) -> u64 {
+fn failures(rt: &impl Print, list: &mut List, planes: bool, count: u64) -> io::Result<u64> {
     let mut failed = 0u64;
     let mut case = 0u64;
     while case < count {
-        failed += failures_at(list, planes, case);
+        failed += failures_at(rt, list, planes, case)?;
         case += 1;
     }
-    failed
+    Ok(failed)
 }
 
-fn replay_list(list: i32, planes: bool) {
-    if list < 0 {
-        os::fail(b"a list of searches");
-        return;
-    }
-    let count = replay::next_word(list) as u64;
-    replay::print_count(b"search", count, failures(list, planes, count));
-    libc::close(list);
+fn replay_list<R: Files + Print + Eprint + AllocGlobal>(
+    rt: &R,
+    file: &str,
+    planes: bool,
+) -> io::Result<()> {
+    let Some(mut list) = replay::open_list(rt, file)? else {
+        return Ok(());
+    };
+    let count = replay::next_word(&mut list) as u64;
+    let failed = failures(rt, &mut list, planes, count)?;
+    replay::end_list(rt, list, "search", count, failed)
 }
 
-fn main() {
-    replay_list(os::open_read(b"search.bin"), false);
-    replay_list(os::open_read(b"planes.bin"), true);
+fn main(rt: HostRuntime) -> io::Result<()> {
+    replay_list(&rt, "search.bin", false)?;
+    replay_list(&rt, "planes.bin", true)
 }

@@ -2,12 +2,14 @@
 // docs/RULES.md, 'Shear'.
 #![tactic(auto)]
 
-ghost use Rattle.std.specs.Prelude.{◌≤◌};
+ghost use Rattle.std.specs.Prelude.{◌≤◌, IfOk};
 
+use replay::List;
 use shear::Shear;
+use std::io;
 
 // Six answers follow: refusal, valid, alpha, beta, gamma, delta.
-fn agrees(list: i32, s: Shear) -> bool {
+fn agrees(list: &mut List, s: Shear) -> bool {
     let refusal = replay::next_word(list);
     let valid = replay::next_word(list);
     let alpha = replay::signed(replay::next_word(list));
@@ -21,7 +23,7 @@ fn agrees(list: i32, s: Shear) -> bool {
 }
 
 // One case of the list: type, how many numbers are handed on, six numbers, six answers.
-fn replay_one(list: i32) -> bool {
+fn replay_one(list: &mut List) -> bool {
     let gm_type = (replay::next_word(list) % 256) as u8;
     let count = (replay::next_word(list) % 7) as usize;
     let mut params = [0i32; 6];
@@ -34,33 +36,31 @@ fn replay_one(list: i32) -> bool {
 }
 
 // 1 for a case that failed, which gets a line.
-fn failures_at(list: i32, case: u64) -> u64
-    ensures { result ≤ 1 }
+fn failures_at(rt: &impl Print, list: &mut List, case: u64) -> io::Result<u64>
+    ensures { IfOk result (λ n. n ≤ 1) }
 {
     if replay_one(list) {
-        return 0;
+        return Ok(0);
     }
-    replay::print_failure(b"shear", case);
-    1
+    replay::print_failure(rt, "shear", case)?;
+    Ok(1)
 }
 
-fn failures(list: i32, count: u64) -> u64 {
+fn failures(rt: &impl Print, list: &mut List, count: u64) -> io::Result<u64> {
     let mut failed = 0u64;
     let mut case = 0u64;
     while case < count {
-        failed += failures_at(list, case);
+        failed += failures_at(rt, list, case)?;
         case += 1;
     }
-    failed
+    Ok(failed)
 }
 
-fn main() {
-    let list = os::open_read(b"shear.bin");
-    if list < 0 {
-        os::fail(b"shear.bin");
-        return;
-    }
-    let count = replay::next_word(list) as u64;
-    replay::print_count(b"shear", count, failures(list, count));
-    libc::close(list);
+fn main(rt: HostRuntime) -> io::Result<()> {
+    let Some(mut list) = replay::open_list(&rt, "shear.bin")? else {
+        return Ok(());
+    };
+    let count = replay::next_word(&mut list) as u64;
+    let failed = failures(&rt, &mut list, count)?;
+    replay::end_list(&rt, list, "shear", count, failed)
 }
