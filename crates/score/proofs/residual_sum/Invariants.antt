@@ -1,0 +1,16 @@
+-- `score::residual_sum`: what is left to add, from here as from the first word.
+-- Assumes nothing.
+use Rattle.score.specs.Score.{score_step}
+use Rattle.fit.specs.Sums.{reading}
+use Rattle.sample.specs.Sample.{sample_of}
+use Rattle.laws.specs.Loops.{fold}
+use lib.ListN.{length, drop}
+use Prim.Native.Nat.{◌-◌}
+use mathlib.Core.Path.{◌≡◌}
+use Rattle.score.proofs.residual_sum.Given as goal
+
+abbrev pub invariant-loop-i : goal.invariant-loop-i
+invariant-loop-i l = fold (reading (score_step l.m) sample_of) (drop l.i l.words) l.acc ≡ fold (reading (score_step l.m) sample_of) l.words l.initial.acc
+
+abbrev pub decreases-loop-i : goal.decreases-loop-i
+decreases-loop-i l = length l.words - l.i
