@@ -1,0 +1,19 @@
+-- `ordinals_of`: each turn writes the codes of the next length behind those before it.
+-- Assumes nothing.
+use Prim.Native.Nat.{ℕ, ◌+◌, ◌-◌, ◌≤◌}
+use mathlib.Core.Path.{◌≡◌, refl, ap, ◌∙◌}
+use native.Mathlib.Omega.{arith}
+use borrow.Author.Rules.{rules}
+use Rattle.laws.specs.Buffer.{onto}
+use Rattle.laws.specs.Parts.{listing}
+use Rattle.laws.proofs.Filling.{fill-front}
+use Rattle.price.specs.Prices.{shortest, lengths_of}
+use Rattle.price.specs.Listed.{listed}
+use Rattle.price.specs.Call.{no_prices}
+use Rattle.price.proofs.ordinals_of.Given as goal
+
+abbrev pub invariant-loop-j : goal.invariant-loop-j
+invariant-loop-j l = (l.j ≤ l.lengths) × (l.ordinals ≡ onto (listing (λ k. listed l.abs_bits (shortest + k)) l.j) no_prices)
+
+abbrev pub decreases-loop-j : goal.decreases-loop-j
+decreases-loop-j l = l.lengths - l.j
