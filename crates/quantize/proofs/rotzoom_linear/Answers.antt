@@ -5,14 +5,10 @@ use lib.IntN.{neg_ℤ, +ℤ_idl}
 use native.Mathlib.Omega.{arith}
 use mir.Facts.{to_z-of_z}
 use mir.Syntax.{w32}
-use Rattle.quantize.proofs.rotzoom_linear.Statement.{statement}
-use Rattle.quantize.proofs.rotzoom_linear.Tie as tie
+use Rattle.quantize.proofs.rotzoom_linear.Goals as goal
 
-sub-t3 : tie.Need-overflow-sub-t3
-sub-t3 c = rw (to_z-of_z c.ranges.p3, +ℤ_idl (neg_ℤ c.args.p3)) (sfits-nat_abs w32 (neg_ℤ c.args.p3) (rw (nat_abs-neg c.args.p3) (omega (arith, c.requires))))
+pub overflow_sub-result : goal.overflow_sub-result
+overflow_sub-result c = rw (to_z-of_z c.ranges.p3, +ℤ_idl (neg_ℤ c.args.p3)) (sfits-nat_abs w32 (neg_ℤ c.args.p3) (rw (nat_abs-neg c.args.p3) (omega (arith, c.requires))))
 
-returns : tie.Need-returns
+pub returns : goal.returns
 returns c = rw (to_z-of_z c.ranges.p3, to_z-of_z c.ranges.p2, +ℤ_idl (neg_ℤ c.args.p3), reads-back w32 (neg_ℤ c.args.p3) (rw (nat_abs-neg c.args.p3) (omega (arith, c.requires))))
-
-pub rotzoom-linear-spec : {M : Type 1} → statement M
-rotzoom-linear-spec = tie.close (tie.spec sub-t3 returns)

@@ -1,0 +1,10 @@
+-- `quantize::mean_motion`: no samples leave no motion, and others leave the mean of theirs.
+-- Assumes nothing.
+use borrow.Author.Tests.{eq-eqb, ne_eqb}
+use Rattle.quantize.proofs.mean_motion.Goals as goal
+
+pub returns-then-samples-eq0 : goal.returns-then-samples-eq0
+returns-then-samples-eq0 c = rw (eq-eqb _ _ c.if-samples-eq0.true)
+
+pub returns : goal.returns
+returns c = rw (ne_eqb _ _ c.if-samples-eq0.false, ← c.count_of-n.ensures)
