@@ -1,7 +1,6 @@
 -- `fit_numbers::fitted_of`: the tests of the type are the definition's, and each type takes its own numbers.
 -- Assumes nothing.
 use borrow.Author.Tests.{eq-eqb, ne_eqb}
-use borrow.Author.Rules.{rules}
 use Rattle.fit_numbers.proofs.fitted_of.Goals as goal
 
 pub returns-then-kind-eq-TRANSLATION : goal.returns-then-kind-eq-TRANSLATION
