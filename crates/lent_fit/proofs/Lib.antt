@@ -1,9 +1,5 @@
-pub mod Answers
-pub mod Walk
-pub mod WalkFrom
-pub mod WalkWith
+pub mod Turns
 pub mod Taken
-pub mod Upto
 pub mod Scored
 pub mod Quantized
 pub mod Words

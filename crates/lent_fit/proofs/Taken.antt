@@ -8,7 +8,7 @@ use native.Mathlib.Nat.{le_refl}
 use native.Mathlib.Omega.{arith}
 use lib.Dec.{eqb}
 use lib.Ieee.{Float}
-use lib.ListN.{length, take}
+use lib.ListN.{length, take, drop}
 use lib.Seq.{take-length}
 use Rattle.laws.specs.Loops.{fold}
 use Rattle.laws.specs.Refusal.{choose}
@@ -21,6 +21,7 @@ use Rattle.fit.specs.Fitted.{list_refusal, fit_answer}
 use Rattle.fit.specs.Inner.{taken}
 use Rattle.fit_numbers.specs.declared.FitAnswer.{FitAnswer}
 use Rattle.fit_numbers.specs.Numbers.{numbers_of}
+use Rattle.lent_fit.proofs.Turns.{turns_done}
 
 few-of : (b : Bool) (n : ℕ) → choose b n 0 ≤ n
 few-of true n = le_refl n
@@ -40,6 +41,12 @@ module _ {A B : Type 0} (g : List A → B) (xs : List A) (refused : (list_refusa
 
   pub taken-or-refused : g (take (taken (length xs)) xs) ≡ g xs
   taken-or-refused = either_way (list_refusal (length xs)) refl
+
+-- the state at the loop's end is that of what is taken
+pub state_taken : {S : Type 0} (step : S → MotionSample → S) (ys : List MotionSample) (n i : ℕ) (t t₀ : S) → n ≡ taken (length ys) → n ≤ i
+    → fold step (drop i (take n ys)) t ≡ fold step (take n ys) t₀ → t ≡ fold step (take (taken (length ys)) ys) t₀
+state_taken step ys n i t t₀ e h r =
+    turns_done step ys n i (rw e (taken-few (length ys))) h r ∙ ap (λ (m : ℕ). fold step (take m ys) t₀) e
 
 -- ---- the fits
 

@@ -66,8 +66,7 @@ fn refitting_of(p: ToQuantize) -> Refitting
     quantize::refit_begin(fit_numbers::fitted_of(p.kind, numbers), p.flag)
 }
 
-#[unsafe(no_mangle)]
-pub extern "C" fn belt_fit_translation_samples(samples: &[MotionSample]) -> FitAnswer
+pub fn belt_fit_translation_samples(samples: &[MotionSample]) -> FitAnswer
     ensures { result ≡ numbers_of (fit_answer (length samples.now) (translation_from itself samples.now)) }
 {
     let begun = fit::translation_begin();
@@ -81,8 +80,7 @@ pub extern "C" fn belt_fit_translation_samples(samples: &[MotionSample]) -> FitA
     translation_answer(t, samples.len())
 }
 
-#[unsafe(no_mangle)]
-pub extern "C" fn belt_fit_rotzoom_samples(samples: &[MotionSample]) -> FitAnswer
+pub fn belt_fit_rotzoom_samples(samples: &[MotionSample]) -> FitAnswer
     ensures { result ≡ numbers_of (fit_answer (length samples.now) (rot_zoom_from itself samples.now)) }
 {
     let begun = fit::rotzoom_begin();
@@ -96,8 +94,7 @@ pub extern "C" fn belt_fit_rotzoom_samples(samples: &[MotionSample]) -> FitAnswe
     rotzoom_answer(t, samples.len())
 }
 
-#[unsafe(no_mangle)]
-pub extern "C" fn belt_fit_affine_samples(samples: &[MotionSample]) -> FitAnswer
+pub fn belt_fit_affine_samples(samples: &[MotionSample]) -> FitAnswer
     ensures { result ≡ numbers_of (fit_answer (length samples.now) (affine_from itself samples.now)) }
 {
     let begun = fit::affine_begin();
@@ -111,11 +108,7 @@ pub extern "C" fn belt_fit_affine_samples(samples: &[MotionSample]) -> FitAnswer
     affine_answer(t, samples.len())
 }
 
-#[unsafe(no_mangle)]
-pub extern "C" fn belt_quantize_model_samples(
-    samples: &[MotionSample],
-    model: ToQuantize,
-) -> Quantized
+pub fn belt_quantize_model_samples(samples: &[MotionSample], model: ToQuantize) -> Quantized
     ensures { result ≡ quantized_from itself (fitted_of model.kind model.numbers) model.flag samples.now }
 {
     let n = fit::list_taken(samples.len());
@@ -128,8 +121,7 @@ pub extern "C" fn belt_quantize_model_samples(
     quantize::refit_ends(t, samples.len())
 }
 
-#[unsafe(no_mangle)]
-pub extern "C" fn belt_mean_sq_residual_samples(samples: &[MotionSample], model: Params) -> Score
+pub fn belt_mean_sq_residual_samples(samples: &[MotionSample], model: Params) -> Score
     ensures { result ≡ scored itself (continuous_model model.numbers) samples.now }
 {
     let n = fit::list_taken(samples.len());
