@@ -18,7 +18,10 @@ loop-i-preserved c = let a = c.args in
     let l = c.loop-i in
     let b = names a.set (get_or a.classes.now l.i 0) in
     let counted : Counts b l.n l.i c.if-names.n =
-    elim c.if-names.branch [ then-names w ↦ counts-one b l.n l.i l.invariant.1 (sym c.names.ensures ∙ w.if-names.true) w.n-is | else-names w ↦ counts-none b l.n l.i l.invariant.1 (sym c.names.ensures ∙ w.if-names.false) w.n-is ] in
+    elim c.if-names.branch [
+      | then-names w ↦ counts-one b l.n l.i l.invariant.1 (sym c.names.ensures ∙ w.if-names.true) w.n-is
+      | else-names w ↦ counts-none b l.n l.i l.invariant.1 (sym c.names.ensures ∙ w.if-names.false) w.n-is
+    ] in
     (omega arith, counted.few, rw counted.is (count-again a.set a.classes.now l.i l.n l.invariant.2 c.loop-i-test.true))
 
 pub returns : goal.returns
