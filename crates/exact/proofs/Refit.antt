@@ -1,13 +1,13 @@
 -- The translation refit is exact too: the linear part of a model on the grid is a whole number of at most 8,192 over 2 ^ 16 from the identity, so what it leaves of a motion stands for a whole
 -- number over 2 ^ 17, and the one law of bounded sums serves again. So two orders of the same words have the same model on the grid.
 -- Assumes nothing.
-use Prim.Native.Nat.{ℕ, ◌+◌, ◌*◌, ◌≤◌, zero-le}
+use Prim.Native.Nat.{ℕ, ◌≤◌, zero-le}
 use mathlib.Core.List.{List}
 use mathlib.Core.Path.{◌≡◌, refl, ap, ◌∙◌, subst}
 use native.Mathlib.Omega.{arith}
 use borrow.Author.Tests.{lt-ltb}
 use lib.Dec.{lit≤}
-use lib.IntN.{ℤ, pos, nat_abs, ◌+ℤ◌, ◌-ℤ◌, ◌*ℤ◌, -ℤ-+ℤ_cancel, +ℤ_idr}
+use lib.IntN.{ℤ, pos, nat_abs, ◌-ℤ◌, -ℤ-+ℤ_cancel, +ℤ_idr}
 use lib.ListN.{length}
 use lib.Ieee.{of_bits, fits}
 use Rattle.laws.specs.Binary64.{◌⊖◌, one}
