@@ -10,7 +10,6 @@ use lib.Seq.{take_at, drop_at}
 use Rattle.laws.specs.Loops.{sum}
 use Rattle.laws.specs.Parts.{listing, joined}
 use Rattle.laws.proofs.Buffer.{onto-front}
-use Rattle.laws.proofs.Call.{left-accepted}
 use Rattle.laws.proofs.Filling.{length-listing, listing-same}
 use Rattle.laws.proofs.Loops.{sum_same}
 use Rattle.plane.specs.Plane.{half_plane}

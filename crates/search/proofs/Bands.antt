@@ -2,11 +2,9 @@
 -- Assumes nothing.
 use Prim.Native.Nat.{ℕ, ◌+◌, ◌*◌, ◌-◌, ◌/◌, ◌≤◌, ◌<◌}
 use mathlib.Core.List.{List}
-use mathlib.Core.Path.{◌≡◌, refl, ap, ◌∙◌}
+use mathlib.Core.Path.{◌≡◌, refl, ap}
 use native.Mathlib.Nat.{mul-le-mul_right}
 use native.Mathlib.Omega.{arith}
-use Rattle.laws.specs.Loops.{sum}
-use Rattle.laws.specs.Parts.{listing}
 use Rattle.plane.specs.Plane.{half_plane}
 use Rattle.laws.proofs.Filling.{listing-same}
 use Rattle.laws.proofs.Loops.{sum_same}

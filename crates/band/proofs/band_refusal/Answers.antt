@@ -1,7 +1,6 @@
 -- `band_refusal`: the first group that refuses.
 -- Assumes nothing.
 use mathlib.Core.Path.{sym, ◌∙◌}
-use borrow.Author.Rules.{rules}
 use Rattle.laws.specs.Refusal.{judge}
 use Rattle.laws.proofs.Refusal.{quiet, or-else-refused}
 use Rattle.search.proofs.Rows.{small}

@@ -1,7 +1,6 @@
 -- `half_plane`: refused by the table, otherwise an accepted call has what halving asks.
 -- Assumes nothing.
-use mathlib.Core.Path.{refl, sym, ◌∙◌}
-use borrow.Author.Rules.{rules}
+use mathlib.Core.Path.{sym, ◌∙◌}
 use borrow.Author.Tests.{ne_eqb}
 use Rattle.band.proofs.Accepted.{half-accepted}
 use Rattle.band.proofs.half_plane.Goals as goal

@@ -3,7 +3,6 @@
 use Prim.Native.Nat.{◌*◌, ◌/◌}
 use mathlib.Core.Path.{sym, ◌∙◌}
 use native.Mathlib.Omega.{arith}
-use borrow.Author.Rules.{rules}
 use borrow.Author.Tests.{eq-eqb, ne_eqb, lt-ltb, le-ltb}
 use Rattle.plane.proofs.Clamped.{plane-small}
 use Rattle.search.proofs.Rows.{small, half-small}

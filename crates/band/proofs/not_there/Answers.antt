@@ -1,6 +1,5 @@
 -- `not_there`: the two tests are the row's.
 -- Assumes nothing.
-use Prim.Native.Nat.{◌/◌}
 use borrow.Author.Tests.{lt-ltb, le-ltb}
 use Rattle.band.proofs.not_there.Goals as goal
 

@@ -1,7 +1,6 @@
 -- `planes_refusal`: the first row that holds; row 1 passed over, the sides are small.
 -- Assumes nothing.
 use mathlib.Core.Path.{sym, ◌∙◌}
-use borrow.Author.Rules.{rules}
 use Rattle.search.proofs.Rows.{small}
 use Rattle.band.proofs.planes_refusal.Goals as goal
 

@@ -1,10 +1,9 @@
-use Prim.Native.Nat.{◌+◌, ◌*◌, ◌-◌, ◌≤◌}
+use Prim.Native.Nat.{◌+◌, ◌*◌, ◌≤◌}
 use mathlib.Core.Path.{◌∙◌}
-use Rattle.cost.specs.Inner.{bilinear_window_cost, bilinear_window_costs, whole_in, fraction_of}
-use Rattle.cost.proofs.Ended.{Left, first, next, stops, all, fewer}
+use Rattle.cost.specs.Inner.{bilinear_window_costs, whole_in, fraction_of}
+use Rattle.cost.proofs.Ended.{first, next, stops, all, fewer}
 use Rattle.cost.proofs.Bounded.{part-at-most}
 use Rattle.plane.proofs.Listing.{part_length}
-use Rattle.blend.specs.Inner.{window_from}
 use Rattle.blend.proofs.Blended.{bilinear-laid}
 use native.Mathlib.Omega.{arith}
 use Rattle.eighths.proofs.sad_subpel.Goals as goal

@@ -1,14 +1,9 @@
 -- `sad_subpel`: a stored motion plus one is whole pels and eighths; each turn adds the next row's cost, and the sum has reached the best, or goes on.
 -- Assumes nothing.
-use Prim.Native.Nat.{◌+◌, ◌*◌, ◌-◌, ◌≤◌}
-use mathlib.Core.Path.{◌∙◌}
-use Rattle.cost.specs.Inner.{bilinear_window_cost, bilinear_window_costs, whole_in, fraction_of}
-use Rattle.cost.proofs.Ended.{Left, first, next, stops, all, fewer}
-use Rattle.cost.proofs.Bounded.{part-at-most}
-use Rattle.plane.proofs.Listing.{part_length}
+use Prim.Native.Nat.{◌-◌}
+use Rattle.cost.specs.Inner.{bilinear_window_cost}
+use Rattle.cost.proofs.Ended.{Left}
 use Rattle.blend.specs.Inner.{window_from}
-use Rattle.blend.proofs.Blended.{bilinear-laid}
-use native.Mathlib.Omega.{arith}
 use Rattle.eighths.proofs.sad_subpel.Given as goal
 
 abbrev pub invariant-loop-i : goal.invariant-loop-i

@@ -1,9 +1,6 @@
-use Prim.Native.Nat.{◌/◌, ◌-◌}
 use mathlib.Core.Path.{sym}
-use lib.ListN.{length, get_or}
-use Rattle.cost.proofs.Bounded.{Filling, fill_none, fill_more, fill-all, fill-at-most}
+use Rattle.cost.proofs.Bounded.{fill_none, fill_more, fill-all, fill-at-most}
 use native.Mathlib.Omega.{arith}
-use borrow.Author.Rules.{rules}
 use Rattle.eighths_row.proofs.highs_of.Goals as goal
 
 pub loop-i-init : goal.loop-i-init

@@ -1,11 +1,8 @@
 -- `lows_of`: each turn writes the low byte of the next pel after those before it.
 -- Assumes nothing.
 use Prim.Native.Nat.{◌%◌, ◌-◌}
-use mathlib.Core.Path.{sym}
 use lib.ListN.{length, get_or}
-use Rattle.cost.proofs.Bounded.{Filling, fill_none, fill_more, fill-all, fill-at-most}
-use native.Mathlib.Omega.{arith}
-use borrow.Author.Rules.{rules}
+use Rattle.cost.proofs.Bounded.{Filling}
 use Rattle.eighths_row.proofs.lows_of.Given as goal
 
 abbrev pub invariant-loop-i : goal.invariant-loop-i

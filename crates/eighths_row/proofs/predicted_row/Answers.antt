@@ -1,8 +1,6 @@
-use Prim.Native.Nat.{◌-◌}
 use mathlib.Core.Path.{refl}
-use Rattle.blend.specs.Inner.{predicted_from}
 use Rattle.blend.proofs.Weighed.{weighs, blend-fits, four-at}
-use Rattle.cost.proofs.Bounded.{Filling, fill_none, fill_more, fill-all}
+use Rattle.cost.proofs.Bounded.{fill_none, fill_more, fill-all}
 use Rattle.blend.proofs.Blended.{predicted-is}
 use native.Mathlib.Omega.{arith}
 use Rattle.eighths_row.proofs.predicted_row.Goals as goal

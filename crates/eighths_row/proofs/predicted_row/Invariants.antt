@@ -1,12 +1,8 @@
 -- `predicted_row`: each turn stores the next pel, blended from the bytes of its four neighbours.
 -- Assumes nothing.
 use Prim.Native.Nat.{◌-◌}
-use mathlib.Core.Path.{refl}
 use Rattle.blend.specs.Inner.{predicted_from}
-use Rattle.blend.proofs.Weighed.{weighs, blend-fits, four-at}
-use Rattle.cost.proofs.Bounded.{Filling, fill_none, fill_more, fill-all}
-use Rattle.blend.proofs.Blended.{predicted-is}
-use native.Mathlib.Omega.{arith}
+use Rattle.cost.proofs.Bounded.{Filling}
 use Rattle.eighths_row.proofs.predicted_row.Given as goal
 
 abbrev pub invariant-loop-j : goal.invariant-loop-j

@@ -1,8 +1,5 @@
-use Prim.Native.Nat.{◌-◌}
-use lib.ListN.{get_or}
-use Rattle.plane.specs.Difference.{difference}
 use Rattle.cost.specs.Inner.{row_difference}
-use Rattle.cost.proofs.Sum.{Adds, none, more, all}
+use Rattle.cost.proofs.Sum.{none, more, all}
 use native.Mathlib.Omega.{arith}
 use Rattle.eighths_row.proofs.row_of_16.Goals as goal
 

@@ -3,9 +3,7 @@
 use Prim.Native.Nat.{◌-◌}
 use lib.ListN.{get_or}
 use Rattle.plane.specs.Difference.{difference}
-use Rattle.cost.specs.Inner.{row_difference}
-use Rattle.cost.proofs.Sum.{Adds, none, more, all}
-use native.Mathlib.Omega.{arith}
+use Rattle.cost.proofs.Sum.{Adds}
 use Rattle.eighths_row.proofs.row_of_16.Given as goal
 
 abbrev pub invariant-loop-j : goal.invariant-loop-j

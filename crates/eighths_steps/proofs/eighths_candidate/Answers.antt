@@ -5,7 +5,6 @@ use Rattle.blend.specs.Inner.{window_from}
 use Rattle.stage.proofs.Turns.{step_stays, step-next}
 use Rattle.stage.proofs.Reach.{stepped}
 use native.Mathlib.Omega.{arith}
-use borrow.Author.Rules.{rules}
 use Rattle.eighths_steps.proofs.eighths_candidate.Goals as goal
 
 pub returns-then-k : goal.returns-then-k

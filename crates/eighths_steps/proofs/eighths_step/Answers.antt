@@ -1,13 +1,12 @@
-use Prim.Native.Nat.{◌+◌, ◌*◌, ◌-◌, ◌≤◌}
+use Prim.Native.Nat.{◌+◌}
 use mathlib.Core.Path.{◌≡◌, sym, ap, subst, ◌∙◌}
 use Rattle.blend.specs.Inner.{window_from}
 use Rattle.stage.specs.declared.Best.{Best}
-use Rattle.stage.specs.Inner.{step_turn, step_in, Lies}
-use Rattle.stage.proofs.Turns.{Turns, begins, goes_on, ends}
+use Rattle.stage.specs.Inner.{step_in, Lies}
+use Rattle.stage.proofs.Turns.{begins, goes_on, ends}
 use Rattle.stage.proofs.Reach.{step_in-lies}
 use Rattle.stage.proofs.NoneWins.{step-idle}
 use native.Mathlib.Omega.{arith}
-use borrow.Author.Rules.{rules}
 use Rattle.eighths_steps.proofs.eighths_step.Goals as goal
 
 pub returns-then-start-eq0 : goal.returns-then-start-eq0

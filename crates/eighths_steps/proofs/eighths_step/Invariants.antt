@@ -1,15 +1,9 @@
 -- `eighths_step`: a best of 0 stays; from another what is left of the nine candidates leads from the best so far to where all lead from the start.
 -- Assumes nothing.
 use Prim.Native.Nat.{◌+◌, ◌*◌, ◌-◌, ◌≤◌}
-use mathlib.Core.Path.{◌≡◌, sym, ap, subst, ◌∙◌}
 use Rattle.blend.specs.Inner.{window_from}
-use Rattle.stage.specs.declared.Best.{Best}
-use Rattle.stage.specs.Inner.{step_turn, step_in, Lies}
-use Rattle.stage.proofs.Turns.{Turns, begins, goes_on, ends}
-use Rattle.stage.proofs.Reach.{step_in-lies}
-use Rattle.stage.proofs.NoneWins.{step-idle}
-use native.Mathlib.Omega.{arith}
-use borrow.Author.Rules.{rules}
+use Rattle.stage.specs.Inner.{step_turn}
+use Rattle.stage.proofs.Turns.{Turns}
 use Rattle.eighths_steps.proofs.eighths_step.Given as goal
 
 abbrev pub invariant-loop-k : goal.invariant-loop-k

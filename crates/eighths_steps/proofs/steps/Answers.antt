@@ -5,7 +5,6 @@ use Rattle.stage.proofs.Reach.{steady-less, steady-after, lies-after, steps-are}
 use Rattle.stage.proofs.Whole.{fine-bytes}
 use Rattle.blend.proofs.Blended.{window-back}
 use native.Mathlib.Omega.{arith}
-use borrow.Author.Rules.{rules}
 use Rattle.eighths_steps.proofs.steps.Goals as goal
 
 pub eighths_step-by_4-requires : goal.eighths_step-by_4-requires

@@ -1,7 +1,6 @@
 -- `fine`: what the scans find in the copies is what both stages find on the planes.
 -- Assumes nothing.
 use mathlib.Core.Path.{refl}
-use borrow.Author.Rules.{rules}
 use Rattle.stage.specs.Inner.{at}
 use Rattle.stage.proofs.Seen.{fine-leads}
 use Rattle.fine.proofs.fine.Goals as goal

@@ -2,7 +2,6 @@
 -- Assumes nothing.
 use Rattle.stage.proofs.Reach.{fine_in-is}
 use native.Mathlib.Omega.{arith}
-use borrow.Author.Rules.{rules}
 use Rattle.fine.proofs.fine_scan.Goals as goal
 
 pub refine-last-requires : goal.refine-last-requires

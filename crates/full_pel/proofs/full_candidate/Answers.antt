@@ -1,7 +1,6 @@
 -- `full_candidate`: the k-th offset of 7 × 7 around the centre, its sum from the offset on.
 -- Assumes nothing.
 use Rattle.stage.proofs.Turns.{full-stays, full-next}
-use borrow.Author.Rules.{rules}
 use Rattle.full_pel.proofs.full_candidate.Goals as goal
 
 pub returns-then-k : goal.returns-then-k

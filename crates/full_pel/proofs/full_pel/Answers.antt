@@ -1,14 +1,13 @@
-use Prim.Native.Nat.{◌+◌, ◌*◌, ◌-◌, ◌≤◌}
+use Prim.Native.Nat.{◌+◌}
 use mathlib.Core.Path.{◌≡◌, sym, ap, subst, ◌∙◌}
 use Rattle.laws.specs.Loops.{run}
 use Rattle.cost.specs.Inner.{window_costs}
 use Rattle.stage.specs.declared.Best.{Best}
 use Rattle.stage.specs.Inner.{full_turn, full_pel_in, Lies}
-use Rattle.stage.proofs.Turns.{Turns, begins, goes_on, ends, start-whole}
+use Rattle.stage.proofs.Turns.{begins, goes_on, ends, start-whole}
 use Rattle.stage.proofs.Reach.{full_pel_in-lies}
 use Rattle.stage.proofs.NoneWins.{full-idle}
 use native.Mathlib.Omega.{arith}
-use borrow.Author.Rules.{rules}
 use Rattle.full_pel.proofs.full_pel.Goals as goal
 
 pub returns-then-first-eq0 : goal.returns-then-first-eq0

@@ -1,16 +1,8 @@
 -- `full_pel`: a start of 0 stays; from another what is left of the 49 candidates leads from the best so far to where all lead from it.
 -- Assumes nothing.
 use Prim.Native.Nat.{◌+◌, ◌*◌, ◌-◌, ◌≤◌}
-use mathlib.Core.Path.{◌≡◌, sym, ap, subst, ◌∙◌}
-use Rattle.laws.specs.Loops.{run}
-use Rattle.cost.specs.Inner.{window_costs}
-use Rattle.stage.specs.declared.Best.{Best}
-use Rattle.stage.specs.Inner.{full_turn, full_pel_in, Lies}
-use Rattle.stage.proofs.Turns.{Turns, begins, goes_on, ends, start-whole}
-use Rattle.stage.proofs.Reach.{full_pel_in-lies}
-use Rattle.stage.proofs.NoneWins.{full-idle}
-use native.Mathlib.Omega.{arith}
-use borrow.Author.Rules.{rules}
+use Rattle.stage.specs.Inner.{full_turn}
+use Rattle.stage.proofs.Turns.{Turns}
 use Rattle.full_pel.proofs.full_pel.Given as goal
 
 abbrev pub invariant-loop-k : goal.invariant-loop-k

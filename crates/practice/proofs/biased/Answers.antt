@@ -2,7 +2,6 @@
 -- Assumes nothing.
 use mathlib.Core.Path.{sym, ◌∙◌}
 use native.Mathlib.Omega.{arith}
-use borrow.Author.Rules.{rules}
 use mir.Facts.{to_z-of_z, sfits_widen}
 use Rattle.laws.proofs.Signed.{i32-reads-as-i64}
 use Rattle.practice.proofs.Shifts.{below, above}

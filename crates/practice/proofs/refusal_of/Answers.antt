@@ -1,7 +1,6 @@
 -- `refusal_of`: the first row that holds; row 1 passed over, the sides are small.
 -- Assumes nothing.
 use mathlib.Core.Path.{sym, ◌∙◌}
-use borrow.Author.Rules.{rules}
 use mir.Facts.{to_z-of_z}
 use Rattle.search.proofs.Rows.{small}
 use Rattle.practice.specs.Call.{refusal}

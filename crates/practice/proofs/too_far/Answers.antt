@@ -1,6 +1,5 @@
 -- `too_far`: the two tests are the row's.
 -- Assumes nothing.
-use borrow.Author.Rules.{rules}
 use borrow.Author.Tests.{lt-ltb, le-ltb}
 use mir.Facts.{to_z-of_z}
 use Rattle.practice_planes.specs.Shift.{largest_shift}

@@ -3,7 +3,6 @@
 use mathlib.Core.Path.{sym, ◌∙◌}
 use native.Mathlib.Omega.{arith}
 use lib.ListN.{length}
-use borrow.Author.Rules.{rules}
 use Rattle.search.specs.Refusal.{task, lent}
 use Rattle.search.proofs.Rows.{ready, count_small, small-sides}
 use Rattle.search.proofs.Ending.{done_refused, done_none, done-some}

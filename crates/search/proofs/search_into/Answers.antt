@@ -4,7 +4,6 @@ use Prim.Native.Nat.{ℕ}
 use mathlib.Core.List.{List}
 use mathlib.Core.Path.{◌∙◌, ap}
 use native.Mathlib.Omega.{arith}
-use borrow.Author.Rules.{rules}
 use Rattle.laws.specs.Buffer.{onto}
 use Rattle.search.proofs.Rows.{half-front, half-front-length}
 use Rattle.search.proofs.Bands.{all_rows, words-searched, rows-searched}

@@ -1,21 +1,13 @@
 -- `fill_band`: each turn writes the next block's word after those before it, and counts its rows.
 -- Assumes nothing.
-use Prim.Native.Nat.{ℕ, ◌+◌, ◌*◌, ◌-◌, ◌/◌, ◌≤◌, ◌<◌}
-use mathlib.Core.Path.{◌≡◌, refl, ap, ◌∙◌}
-use native.Mathlib.Nat.{div-lt_iff_lt-mul, mod-lt}
-use native.Mathlib.Omega.{arith}
-use lib.ListN.{length, length-set}
-use borrow.Author.Rules.{rules}
+use Prim.Native.Nat.{◌-◌, ◌≤◌}
+use mathlib.Core.Path.{◌≡◌}
+use lib.ListN.{length}
 use Rattle.laws.specs.Buffer.{onto}
 use Rattle.laws.specs.Loops.{sum}
 use Rattle.laws.specs.Parts.{listing}
-use Rattle.plane.proofs.Listing.{listing-more}
 use Rattle.search.specs.Search.{scene, sample_word, sample_rows}
-use Rattle.search.specs.Band.{band_count, band_at, band_words, band_rows}
-use Rattle.search.specs.declared.blocks.Sampled.{Sampled}
-use Rattle.search.proofs.Counted.{rows-so-far, rows_next}
-use Rattle.search.proofs.Rows.{count_small, factor-pos}
-use Rattle.search.proofs.Bands.{band-inside, band-few, band-before}
+use Rattle.search.specs.Band.{band_count, band_at}
 use Rattle.search.proofs.blocks.fill_band.Given as goal
 
 abbrev pub invariant-loop-k : goal.invariant-loop-k

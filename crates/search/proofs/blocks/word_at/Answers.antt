@@ -1,7 +1,6 @@
 -- `word_at`: the stages in a row, and the word of what the last one found.
 -- Assumes nothing.
 use native.Mathlib.Omega.{arith}
-use borrow.Author.Rules.{rules}
 use Rattle.search.specs.Search.{scene}
 use Rattle.search.proofs.Word.{motion-is, sampled-is}
 use Rattle.search.proofs.blocks.word_at.Goals as goal

@@ -1,7 +1,6 @@
 -- `cramped`: the one test is the one row.
 -- Assumes nothing.
 use mathlib.Core.Path.{sym, ◌∙◌}
-use borrow.Author.Rules.{rules}
 use Rattle.search.proofs.refusals.cramped.Goals as goal
 
 pub returns-then-too_short : goal.returns-then-too_short

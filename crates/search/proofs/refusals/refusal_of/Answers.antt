@@ -1,7 +1,6 @@
 -- `refusal_of`: the first group that refuses.
 -- Assumes nothing.
 use mathlib.Core.Path.{sym, ◌∙◌}
-use borrow.Author.Rules.{rules}
 use Rattle.laws.specs.Refusal.{judge}
 use Rattle.laws.proofs.Refusal.{quiet, or-else-refused}
 use Rattle.search.specs.Refusal.{input_rows, lent_rows, verdict}

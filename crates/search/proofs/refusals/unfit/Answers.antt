@@ -1,7 +1,6 @@
 -- `unfit`: each test is a row, in the table's order.
 -- Assumes nothing.
 use mathlib.Core.Path.{sym, ◌∙◌}
-use borrow.Author.Rules.{rules}
 use Rattle.search.proofs.Rows.{small}
 use Rattle.search.proofs.refusals.unfit.Goals as goal
 

@@ -3,7 +3,6 @@
 use Prim.Native.Nat.{◌*◌}
 use native.Mathlib.Omega.{arith}
 use borrow.Author.Tests.{eq-eqb, ne_eqb}
-use borrow.Author.Rules.{rules}
 use Rattle.plane.proofs.Clamped.{plane-small}
 use Rattle.search.proofs.Rows.{count_small}
 use Rattle.search.proofs.refusals.wrong_length.Goals as goal
