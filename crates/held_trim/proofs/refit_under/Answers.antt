@@ -1,7 +1,5 @@
 -- `held_trim::refit_under`: model, flag and linear part stay as they begin, so the sums alone are walked; the walk ends with the quantized model of the samples under the limit.
 -- Assumes nothing.
-use native.Mathlib.Omega.{arith}
-use borrow.Author.Rules.{rules}
 use Prim.Native.Nat.{ℕ}
 use mathlib.Core.List.{List}
 use mathlib.Core.Path.{sym, ap, ◌∙◌}
@@ -14,8 +12,7 @@ use Rattle.quantize.specs.declared.Refitting.{Refitting}
 use Rattle.quantize.specs.Inner.{refit_step, refitting_begun, refitting_step, refitting_ends}
 use Rattle.quantize.proofs.Walked.{walk_ends, sums_apart}
 use Rattle.trim.specs.Inner.{sample_at, under}
-use Rattle.held_trim.proofs.refit_under.Statement.{statement}
-use Rattle.held_trim.proofs.refit_under.Tie as tie
+use Rattle.held_trim.proofs.refit_under.Goals as goal
 
 -- as it begins, with these sums
 abbrev refitting_of : Fitted → ℕ → Refitting → TranslationSums → Refitting
@@ -25,19 +22,15 @@ refitting_of f flag t s = record { fitted = f; flag = flag; linear = t.linear; m
 abbrev sums_over : (ℕ → MotionSample) → List ℕ → Refitting → TranslationSums
 sums_over read xs t = fold (reading (refit_step t.m) read) xs t.sums
 
-returns : tie.Need-returns
-returns c =
-    let a = c.before.before.before.before.before.before.args in
+pub returns : goal.returns
+returns c = let a = c.args in
     let kept = under a.squares.now a.limit a.n in
     let read = sample_at a.numbers.now in
-    let begin = c.before.before.before.before.refit-begin in
+    let begin = c.refit_begin-begun in
     let begun = begin.result in
-    c.refit-ends.ensures
-    ∙ ap (λ (s : TranslationSums). refitting_ends (refitting_of a.fitted a.flag begun s) a.used) c.before.left-under.ensures
+    c.refit_ends.ensures
+    ∙ ap (λ (s : TranslationSums). refitting_ends (refitting_of a.fitted a.flag begun s) a.used) c.left_under-sums.ensures
     ∙ ap (λ (t : Refitting). refitting_ends (refitting_of a.fitted a.flag t (sums_over read kept t)) a.used) begin.ensures
     ∙ ap (λ (t : Refitting). refitting_ends t a.used) (sym (sums_apart read kept (refitting_begun a.fitted a.flag)))
-    ∙ ap (λ (k : ℕ). refitting_ends (fold (reading refitting_step read) kept (refitting_begun a.fitted a.flag)) k) c.before.before.before.before.before.before.requires.counted
+    ∙ ap (λ (k : ℕ). refitting_ends (fold (reading refitting_step read) kept (refitting_begun a.fitted a.flag)) k) c.requires.counted
     ∙ walk_ends read a.fitted a.flag kept
-
-pub refit-under-spec : {M : Type 1} → statement M
-refit-under-spec = tie.close (tie.spec (λ c. omega arith) (λ c. omega arith) (λ c. omega arith) returns)

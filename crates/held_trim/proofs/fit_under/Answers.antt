@@ -1,6 +1,5 @@
 -- `held_trim::fit_under`: the tests of the type code are the definition's; each fit is that of the sums over the samples under the limit, which are few enough.
 -- Assumes nothing.
-use borrow.Author.Rules.{rules}
 use borrow.Author.Tests.{eq-eqb, ne_eqb}
 use Prim.Native.Nat.{ℕ, ◌≤◌}
 use mathlib.Core.List.{List}
@@ -14,8 +13,7 @@ use Rattle.fit.specs.Sums.{sums_of, count_as, translation_totals, rot_zoom_total
 use Rattle.fit.specs.Fitted.{fit_answer, translation_of, rot_zoom_of, affine_of, translation_from, rot_zoom_from, affine_from}
 use Rattle.trim.specs.Inner.{sample_at, under, Under}
 use Rattle.trim.proofs.Under.{fit-answers, under-few}
-use Rattle.held_trim.proofs.fit_under.Statement.{statement}
-use Rattle.held_trim.proofs.fit_under.Tie as tie
+use Rattle.held_trim.proofs.fit_under.Goals as goal
 
 -- the answer of a fit's end, by the sums and the count
 ended : {S : Type 0} (of : S → Float → Fitted) (squares : List Float) (limit : Float) (n used : ℕ) (t s : S) (r : Fitted)
@@ -27,49 +25,32 @@ ended {S} of squares limit n used t s r u e h =
     ∙ ap (λ (k : ℕ). fit_answer k (of s (count_as k))) u.counted
     ∙ fit-answers (length (under squares limit n)) (of s (count_as (length (under squares limit n)))) few
 
-returns : tie.Need-returns
+pub returns-then-gm_type-eq-TRANSLATION : goal.returns-then-gm_type-eq-TRANSLATION
 unfolding translation_from
-returns c =
-    let s = c.before.before.before.before in
+returns-then-gm_type-eq-TRANSLATION c = let s = c.before in
     let a = s.args in
-    let sums = c.before.translation-under in
-    let ends = c.translation-ends in
+    let sums = c.translation_under in
+    let ends = c.translation_ends in
     let kept = sums_of (sample_at a.numbers.now) (under a.squares.now a.limit a.n) in
-    rw (eq-eqb _ _ c.before.before.if1.true)
+    rw (eq-eqb _ _ c.if-gm_type-eq-TRANSLATION.true)
     (ended translation_of a.squares.now a.limit a.n a.used sums.result (translation_totals kept) ends.result s.requires sums.ensures ends.ensures)
 
-returns-2 : tie.Need-returns-2
+pub returns-then-gm_type-eq-ROTZOOM : goal.returns-then-gm_type-eq-ROTZOOM
 unfolding rot_zoom_from
-returns-2 c =
-    let s = c.before.before.before.before.before in
+returns-then-gm_type-eq-ROTZOOM c = let s = c.before in
     let a = s.args in
-    let sums = c.before.rotzoom-under in
-    let ends = c.rotzoom-ends in
+    let sums = c.rotzoom_under in
+    let ends = c.rotzoom_ends in
     let kept = sums_of (sample_at a.numbers.now) (under a.squares.now a.limit a.n) in
-    rw (ne_eqb _ _ c.before.before.before.if1.false, eq-eqb _ _ c.before.before.if2.true)
+    rw (ne_eqb _ _ c.if-gm_type-eq-TRANSLATION.false, eq-eqb _ _ c.if-gm_type-eq-ROTZOOM.true)
     (ended rot_zoom_of a.squares.now a.limit a.n a.used sums.result (rot_zoom_totals kept) ends.result s.requires sums.ensures ends.ensures)
 
-returns-3 : tie.Need-returns-3
+pub returns : goal.returns
 unfolding affine_from
-returns-3 c =
-    let s = c.before.before.before.before.before in
+returns c = let s = c.before in
     let a = s.args in
-    let sums = c.before.affine-under in
-    let ends = c.affine-ends in
+    let sums = c.affine_under in
+    let ends = c.affine_ends in
     let kept = sums_of (sample_at a.numbers.now) (under a.squares.now a.limit a.n) in
-    rw (ne_eqb _ _ c.before.before.before.if1.false, ne_eqb _ _ c.before.before.if2.false)
+    rw (ne_eqb _ _ c.if-gm_type-eq-TRANSLATION.false, ne_eqb _ _ c.if-gm_type-eq-ROTZOOM.false)
     (ended affine_of a.squares.now a.limit a.n a.used sums.result (affine_totals kept) ends.result s.requires sums.ensures ends.ensures)
-
-pub fit-under-spec : {M : Type 1} → statement M
-fit-under-spec =
-    tie.close
-    (tie.spec
-    (λ c. omega arith)
-    (λ c. omega arith)
-    returns
-    (λ c. omega arith)
-    (λ c. omega arith)
-    returns-2
-    (λ c. omega arith)
-    (λ c. omega arith)
-    returns-3)

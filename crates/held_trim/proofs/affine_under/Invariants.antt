@@ -1,0 +1,16 @@
+-- `held_trim::affine_under`: what is left to add, from here as from the first sample; where the square is above the limit nothing is added.
+-- Assumes nothing.
+use Prim.Native.Nat.{◌-◌}
+use mathlib.Core.Path.{◌≡◌}
+use lib.ListN.{drop}
+use Rattle.laws.specs.Loops.{fold}
+use Rattle.fit.specs.Inner.{affine_step}
+use Rattle.trim.specs.Inner.{up_to}
+use Rattle.trim.proofs.Under.{under_step}
+use Rattle.held_trim.proofs.affine_under.Given as goal
+
+abbrev pub invariant-loop-i : goal.invariant-loop-i
+invariant-loop-i l = fold (under_step affine_step l.numbers l.squares l.limit) (drop l.i (up_to l.n)) l.t ≡ fold (under_step affine_step l.numbers l.squares l.limit) (up_to l.n) l.initial.t
+
+abbrev pub decreases-loop-i : goal.decreases-loop-i
+decreases-loop-i l = l.n - l.i
