@@ -3,6 +3,7 @@
 use Prim.Native.Nat.{◌+◌}
 use mathlib.Core.List.{◌++◌}
 use mathlib.Core.Path.{ap, sym, ◌∙◌}
+use native.Mathlib.Omega.{arith}
 use borrow.Author.Rules.{rules}
 use lib.ListN.{length}
 use Rattle.bits.specs.Fields.{pad_bits}
@@ -16,7 +17,7 @@ returns-then-refusal-ne0 c = let a = c.args in let both = refused a.types.now a.
 
 pub write_header-requires : goal.write_header-requires
 write_header-requires c = let a = c.args in
-    let k = accepted a.types.now a.params.now a.flag a.prior.now a.start (length a.header.now) (sym c.refusal_of-refusal.ensures ∙ c.if-refusal-ne0.false) in
+    let k = accepted a.types.now a.params.now a.flag a.prior.now a.start (length a.header.now) (sym c.refusal_of-refusal.ensures ∙ omega arith) in
     (header-coded a.types.now a.params.now a.flag a.prior.now a.start (length a.header.now) k, k.low, k.roomy)
 
 pub shape_of-header : goal.shape_of-header
@@ -26,5 +27,5 @@ shape_of-header c = let a = c.args in
 
 pub returns : goal.returns
 returns c = let a = c.args in let both = wrote a.types.now a.params.now a.flag a.prior.now a.start a.header.now _ _
-    (sym c.refusal_of-refusal.ensures ∙ c.if-refusal-ne0.false)
+    (sym c.refusal_of-refusal.ensures ∙ omega arith)
     c.write_header.ensures.0 c.write_header.ensures.1 in record { value = both.0; header_after = both.1 }

@@ -22,26 +22,5 @@ more types r n s h e = record { within = omega arith; each = λ i l. at i l }
 pub loop-n-init : goal.loop-n-init
 loop-n-init c = record { within = omega (arith, c.requires); each = λ i l. omega arith }
 
-pub overflow_add-r : goal.overflow_add-r
-overflow_add-r c = omega arith
-
-pub overflow_add-r-in-loop-n : goal.overflow_add-r-in-loop-n
-overflow_add-r-in-loop-n c = omega arith
-
-pub bounds-types-r : goal.bounds-types-r
-bounds-types-r c = omega arith
-
-pub returns-then-types-r-ne-IDENTITY : goal.returns-then-types-r-ne-IDENTITY
-returns-then-types-r-ne-IDENTITY c = c.loop-n.invariant
-
-pub overflow_add-n : goal.overflow_add-n
-overflow_add-n c = omega arith
-
-pub loop-n-smaller : goal.loop-n-smaller
-loop-n-smaller c = omega arith
-
 pub loop-n-preserved : goal.loop-n-preserved
-loop-n-preserved c = more _ _ _ c.loop-n.invariant c.loop-n-test.true c.if-types-r-ne-IDENTITY.false
-
-pub returns : goal.returns
-returns c = c.loop-n.invariant
+loop-n-preserved c = more _ _ _ c.loop-n.invariant c.loop-n-test.true (omega arith)

@@ -1,6 +1,7 @@
 -- `refusal_of`: the first row that holds, group by group.
 -- Assumes nothing.
-use mathlib.Core.Path.{ap, sym, ◌∙◌}
+use mathlib.Core.Bool.{false}
+use mathlib.Core.Path.{◌≡◌, ap, sym, ◌∙◌}
 use borrow.Author.Rules.{rules}
 use borrow.Author.Tests.{lt-ltb, le-ltb}
 use mir.Facts.{to_z-of_z}
@@ -27,19 +28,21 @@ returns-then-uncoded c = rw (
 pub returns-then-out : goal.returns-then-out
 unfolding price_refusal
 returns-then-out c = let e = c.before in
+    let coded : c.not_coded-uncoded.result ≡ false = cc in
     rw (
       le-ltb _ _ c.if-gm_type-gt-LAST_TYPE.false,
       le-ltb _ _ c.if-flag-gt-LAST_FLAG.false,
-      sym c.not_coded-uncoded.ensures ∙ c.if-uncoded.false,
+      sym c.not_coded-uncoded.ensures ∙ coded,
       ap (prior_out e.args.slot) (sym (to_z-of_z e.ranges.prior)) ∙ sym c.prior_out-out.ensures ∙ c.if-out.true,
     )
 
 pub returns : goal.returns
 unfolding price_refusal
 returns c = let e = c.before in
+    let coded : c.not_coded-uncoded.result ≡ false = cc in
     rw (
       le-ltb _ _ c.if-gm_type-gt-LAST_TYPE.false,
       le-ltb _ _ c.if-flag-gt-LAST_FLAG.false,
-      sym c.not_coded-uncoded.ensures ∙ c.if-uncoded.false,
+      sym c.not_coded-uncoded.ensures ∙ coded,
       ap (prior_out e.args.slot) (sym (to_z-of_z e.ranges.prior)) ∙ sym c.prior_out-out.ensures ∙ c.if-out.false,
     )
