@@ -1,5 +1,4 @@
 -- `byte_field::wide_power`: a one shifted by less than the width loses nothing. Assumes nothing.
-use borrow.Author.Rules.{rules}
 use native.Mathlib.Nat.{one-mul}
 use native.Mathlib.Omega.{arith}
 use mathlib.Core.Path.{◌∙◌}

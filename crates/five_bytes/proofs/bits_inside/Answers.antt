@@ -1,5 +1,4 @@
 -- `five_bytes::bits_inside`: the bits behind are shifted out, those before taken away. Assumes nothing.
-use borrow.Author.Rules.{rules}
 use Prim.Native.Nat.{◌-◌, ◌/◌, ◌^◌}
 use native.Mathlib.Nat.{mod-lt}
 use native.Mathlib.Omega.{arith}

@@ -1,5 +1,4 @@
 -- `five_bytes::byte_at`: inside the bytes the byte's own bits, past them the definition's zeros. Assumes nothing.
-use borrow.Author.Rules.{rules}
 use Prim.Native.Nat.{ℕ, ◌%◌, ◌^◌, ◌<◌}
 use mathlib.Core.Path.{sym, ap}
 use native.Mathlib.Nat.{mod-eq_of_lt}

@@ -1,6 +1,5 @@
 -- `five_bytes::five_bytes`: the bytes that are there are read as they stand. Assumes nothing.
 use native.Mathlib.Omega.{arith}
-use borrow.Author.Rules.{rules}
 use Rattle.five_bytes.proofs.five_bytes.Goals as goal
 
 pub overflow_add-first : goal.overflow_add-first

@@ -1,5 +1,4 @@
 -- `five_bytes::five_padded`: each byte stands behind those before it, as in the field of all their bits. Assumes nothing.
-use borrow.Author.Rules.{rules}
 use native.Mathlib.Omega.{arith}
 use Rattle.five_bytes.proofs.Five.{five-of}
 use Rattle.five_bytes.proofs.five_padded.Goals as goal

@@ -1,6 +1,6 @@
 -- `wrapping_mul`: a product of two numbers of 32 bits has at most 64.
 -- Assumes nothing.
-use Rattle.std.proofs.Common.{ℕ, ◌*◌, ◌≤◌, mul-le-mul, arith, rules}
+use Rattle.std.proofs.Common.{ℕ, ◌*◌, ◌≤◌, mul-le-mul, arith}
 use Rattle.generator.proofs.wrapping_mul.Goals as goal
 
 product-fits : (a b : ℕ) → a ≤ 4294967295 → b ≤ 4294967295 → a * b ≤ 18446744065119617025

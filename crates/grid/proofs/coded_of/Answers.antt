@@ -2,7 +2,6 @@
 -- Assumes nothing.
 use native.Mathlib.Omega.{arith}
 use mathlib.Core.Path.{ap}
-use borrow.Author.Rules.{rules}
 use mir.Facts.{to_z-of_z}
 use Rattle.grid.specs.declared.ParamBits.{ParamBits}
 use Rattle.grid.proofs.Places.{asked, answered, low-centre, linear-bits}

@@ -2,7 +2,6 @@
 -- Assumes nothing.
 use native.Mathlib.Omega.{arith}
 use native.Mathlib.Nat.{add_comm}
-use borrow.Author.Rules.{rules}
 use Rattle.grid.proofs.Bounds.{taken-from}
 use Rattle.grid.proofs.lift.Goals as goal
 

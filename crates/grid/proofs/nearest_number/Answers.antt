@@ -1,6 +1,5 @@
 -- `nearest_number`: the bits and the centre are those of the slot.
 -- Assumes nothing.
-use borrow.Author.Rules.{rules}
 use mir.Syntax.{w32}
 use mir.Facts.{to_z-of_z}
 use Rattle.laws.proofs.Signed.{result-reads}
@@ -14,9 +13,9 @@ snap-requires c = let e = c.args in
 
 pub returns : goal.returns
 returns c = rw (
-      result-reads w32 c.snap.result c.snap.type_inv,
-      c.snap.ensures,
-      c.global_param_bits-bits.ensures,
-      c.centre_of.ensures,
-      to_z-of_z c.ranges.value,
-    )
+  result-reads w32 c.snap.result c.snap.type_inv,
+  c.snap.ensures,
+  c.global_param_bits-bits.ensures,
+  c.centre_of.ensures,
+  to_z-of_z c.ranges.value,
+)

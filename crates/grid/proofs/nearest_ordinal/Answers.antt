@@ -1,7 +1,6 @@
 -- `nearest_ordinal`: the powers are those of the definition, and the test takes the lesser.
 -- Assumes nothing.
 use native.Mathlib.Omega.{arith}
-use borrow.Author.Rules.{rules}
 use lib.Pow.{pow_pos}
 use Rattle.grid.specs.Grid.{nearest_ordinal}
 use Rattle.grid.proofs.nearest_ordinal.Goals as goal

@@ -1,5 +1,4 @@
 -- `number_of`: the bits and the centre are the slot's, so the symbol's number is the definition's. Assumes nothing.
-use borrow.Author.Rules.{rules}
 use mir.Syntax.{w32}
 use Rattle.laws.proofs.Signed.{result-reads}
 use Prim.Native.Nat.{ℕ, ◌<◌}

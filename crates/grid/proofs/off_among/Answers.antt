@@ -1,6 +1,5 @@
 -- `off_among`: the distance from the centre is tested by reach and by step, as in the definition.
 -- Assumes nothing.
-use borrow.Author.Rules.{rules}
 use borrow.Author.Tests.{lt-ltb, le-ltb}
 use lib.Pow.{pow_pos}
 use mir.Syntax.{w64}

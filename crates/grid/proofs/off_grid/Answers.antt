@@ -1,6 +1,5 @@
 -- `off_grid`: the bits and the centre are those of the slot.
 -- Assumes nothing.
-use borrow.Author.Rules.{rules}
 use mir.Facts.{to_z-of_z}
 use Rattle.grid.proofs.Table.{table-row}
 use Rattle.grid.proofs.off_grid.Goals as goal
@@ -11,8 +10,8 @@ off_among-requires c = let e = c.args in
 
 pub returns : goal.returns
 returns c = rw (
-      c.off_among.ensures,
-      c.global_param_bits-bits.ensures,
-      c.centre_of.ensures,
-      to_z-of_z c.ranges.value,
-    )
+  c.off_among.ensures,
+  c.global_param_bits-bits.ensures,
+  c.centre_of.ensures,
+  to_z-of_z c.ranges.value,
+)

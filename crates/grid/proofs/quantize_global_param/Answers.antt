@@ -1,6 +1,5 @@
 -- `quantize_global_param`: each refusal is the first row whose test holds, and past them stands the nearest number.
 -- Assumes nothing.
-use borrow.Author.Rules.{rules}
 use borrow.Author.Tests.{lt-ltb, le-ltb}
 use mir.Syntax.{w32}
 use mir.Facts.{to_z-of_z}
@@ -24,10 +23,10 @@ returns-then-slot-gt5 c = rw c.refused-then-slot-gt5.ensures
 pub returns : goal.returns
 unfolding answer
 returns c = rw (
-      le-ltb _ _ c.if-gm_type-gt-AFFINE.false,
-      le-ltb _ _ c.if-flag-gt1.false,
-      le-ltb _ _ c.if-slot-gt5.false,
-      result-reads w32 c.nearest_number.result c.nearest_number.type_inv,
-      c.nearest_number.ensures,
-      to_z-of_z c.ranges.value,
-    )
+  le-ltb _ _ c.if-gm_type-gt-AFFINE.false,
+  le-ltb _ _ c.if-flag-gt1.false,
+  le-ltb _ _ c.if-slot-gt5.false,
+  result-reads w32 c.nearest_number.result c.nearest_number.type_inv,
+  c.nearest_number.ensures,
+  to_z-of_z c.ranges.value,
+)

@@ -12,14 +12,14 @@ returns-then-gm_type-eq-TRANSLATION c = record { count = rw (ne_eqb _ _ c.if-gm_
 
 pub returns-then-gm_type-eq-ROTZOOM : goal.returns-then-gm_type-eq-ROTZOOM
 returns-then-gm_type-eq-ROTZOOM c = record {
-      count = rw (ne_eqb _ _ c.if-gm_type-eq-IDENTITY.false, ne_eqb _ _ c.if-gm_type-eq-TRANSLATION.false, eq-eqb _ _ c.if-gm_type-eq-ROTZOOM.true);
-      order = rw (ne_eqb _ _ c.if-gm_type-eq-IDENTITY.false, ne_eqb _ _ c.if-gm_type-eq-TRANSLATION.false, eq-eqb _ _ c.if-gm_type-eq-ROTZOOM.true);
-      six = refl;
-    }
+  count = rw (ne_eqb _ _ c.if-gm_type-eq-IDENTITY.false, ne_eqb _ _ c.if-gm_type-eq-TRANSLATION.false, eq-eqb _ _ c.if-gm_type-eq-ROTZOOM.true);
+  order = rw (ne_eqb _ _ c.if-gm_type-eq-IDENTITY.false, ne_eqb _ _ c.if-gm_type-eq-TRANSLATION.false, eq-eqb _ _ c.if-gm_type-eq-ROTZOOM.true);
+  six = refl;
+}
 
 pub returns : goal.returns
 returns c = record {
-      count = rw (ne_eqb _ _ c.if-gm_type-eq-IDENTITY.false, ne_eqb _ _ c.if-gm_type-eq-TRANSLATION.false, ne_eqb _ _ c.if-gm_type-eq-ROTZOOM.false);
-      order = rw (ne_eqb _ _ c.if-gm_type-eq-IDENTITY.false, ne_eqb _ _ c.if-gm_type-eq-TRANSLATION.false, ne_eqb _ _ c.if-gm_type-eq-ROTZOOM.false);
-      six = refl;
-    }
+  count = rw (ne_eqb _ _ c.if-gm_type-eq-IDENTITY.false, ne_eqb _ _ c.if-gm_type-eq-TRANSLATION.false, ne_eqb _ _ c.if-gm_type-eq-ROTZOOM.false);
+  order = rw (ne_eqb _ _ c.if-gm_type-eq-IDENTITY.false, ne_eqb _ _ c.if-gm_type-eq-TRANSLATION.false, ne_eqb _ _ c.if-gm_type-eq-ROTZOOM.false);
+  six = refl;
+}

@@ -1,7 +1,6 @@
 -- `symbol_among`: its steps are those of `symbol_of`, over a sign and a magnitude.
 -- Assumes nothing.
 use Prim.Native.Nat.{◌<◌, ◌^◌}
-use borrow.Author.Rules.{rules}
 use lib.IntN.{nat_abs}
 use mir.Syntax.{w64}
 use mir.Facts.{to_z-of_z}

@@ -1,5 +1,4 @@
 -- `symbol_of`: the bits and the centre are the slot's, and each symbol is below their count. Assumes nothing.
-use borrow.Author.Rules.{rules}
 use mir.Facts.{to_z-of_z}
 use Prim.Native.Nat.{ℕ, ◌<◌}
 use mathlib.Core.Path.{◌≡◌, ap, sym, subst, ◌∙◌}

@@ -1,5 +1,4 @@
 -- `symbols_of`: the bits and the centre are the slot's, and a prior in range has its place there. Assumes nothing.
-use borrow.Author.Rules.{rules}
 use mir.Facts.{to_z-of_z}
 use Prim.Native.Nat.{ℕ, ◌*◌, ◌+◌, ◌^◌, ◌≤◌}
 use mathlib.Core.Bool.{false}

@@ -1,9 +1,7 @@
-use Prim.Native.Nat.{◌-◌, ◌≤◌}
-use mathlib.Core.Path.{◌≡◌, refl}
-use lib.ListN.{length, replicate}
+use mathlib.Core.Path.{refl}
+use lib.ListN.{replicate}
 use native.Mathlib.Omega.{arith}
 use Rattle.laws.specs.Binary64.{nought}
-use Rattle.sample.specs.Inner.{Tabled}
 use Rattle.sample.specs.Sample.{centre_of}
 use Rattle.sample.proofs.Filled.{none, one_more}
 use borrow.Author.Rules.{rules}

@@ -1,14 +1,10 @@
 -- `sample::centres`: each turn puts one centre into the table, and 64 turns fill it.
 -- Assumes nothing.
 use Prim.Native.Nat.{◌-◌, ◌≤◌}
-use mathlib.Core.Path.{◌≡◌, refl}
-use lib.ListN.{length, replicate}
-use native.Mathlib.Omega.{arith}
-use Rattle.laws.specs.Binary64.{nought}
+use mathlib.Core.Path.{◌≡◌}
+use lib.ListN.{length}
 use Rattle.sample.specs.Inner.{Tabled}
 use Rattle.sample.specs.Sample.{centre_of}
-use Rattle.sample.proofs.Filled.{none, one_more}
-use borrow.Author.Rules.{rules}
 use Rattle.sample.proofs.centres.Given as goal
 
 abbrev pub invariant-loop-place : goal.invariant-loop-place

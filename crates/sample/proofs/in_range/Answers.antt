@@ -1,5 +1,4 @@
 -- `sample::in_range`: the two tests are those of the definition, v's first. Assumes nothing.
-use borrow.Author.Rules.{rules}
 use borrow.Author.Tests.{le-leb, lt-leb}
 use Rattle.sample.proofs.in_range.Goals as goal
 

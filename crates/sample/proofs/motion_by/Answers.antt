@@ -1,9 +1,6 @@
 -- `sample::motion_by`: a table of all motions holds this one.
 -- Assumes nothing.
-use Prim.Native.Nat.{◌<◌}
-use lib.ListN.{length}
 use native.Mathlib.Omega.{arith}
-use borrow.Author.Rules.{rules}
 use Rattle.sample.proofs.motion_by.Goals as goal
 
 pub returns : goal.returns

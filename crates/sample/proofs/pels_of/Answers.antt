@@ -1,6 +1,5 @@
 -- `sample::pels_of`: a stored motion below 512 and its eighths are small enough to keep their value as i32.
 -- Assumes nothing.
-use borrow.Author.Rules.{rules}
 use mir.Syntax.{w32}
 use mir.ValLaws.{to_z-of_z, to_z_pos}
 use native.Mathlib.Omega.{arith}

@@ -5,10 +5,10 @@ use borrow.Author.Rules.{rules}
 use Rattle.sample.proofs.sample_from.Goals as goal
 
 pub motion_by-requires : goal.motion_by-requires
-motion_by-requires c =  record { tabled = c.requires.tabled_2; stored_lt_motions = search rules }
+motion_by-requires c = record { tabled = c.requires.tabled_2; stored_lt_motions = search rules }
 
 pub motion_by-requires-2 : goal.motion_by-requires-2
-motion_by-requires-2 c =  record { tabled = c.requires.tabled_2; stored_lt_motions = search rules }
+motion_by-requires-2 c = record { tabled = c.requires.tabled_2; stored_lt_motions = search rules }
 
 pub returns : goal.returns
 returns c = let row_of = c in

@@ -1,10 +1,7 @@
 use borrow.Author.Rules.{rules}
-use Prim.Native.Nat.{◌≤◌, ◌-◌}
-use mathlib.Core.Path.{◌≡◌, refl, sym, ◌∙◌}
+use mathlib.Core.Path.{refl, sym, ◌∙◌}
 use native.Mathlib.Omega.{arith}
 use borrow.Author.Tests.{not-true, not-false}
-use lib.ListN.{length, drop}
-use Rattle.sample.specs.Storable.{storable_from}
 use Rattle.sample.proofs.InOrder.{range-stops, place-stops, storable-goes-on, storable-ends}
 use Rattle.sample.proofs.storable_from.Goals as goal
 

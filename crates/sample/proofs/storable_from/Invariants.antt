@@ -1,12 +1,8 @@
 -- `sample::storable_from`: the words that are left, from the place reached, are judged as all of them. Assumes nothing.
-use borrow.Author.Rules.{rules}
 use Prim.Native.Nat.{◌≤◌, ◌-◌}
-use mathlib.Core.Path.{◌≡◌, refl, sym, ◌∙◌}
-use native.Mathlib.Omega.{arith}
-use borrow.Author.Tests.{not-true, not-false}
+use mathlib.Core.Path.{◌≡◌}
 use lib.ListN.{length, drop}
 use Rattle.sample.specs.Storable.{storable_from}
-use Rattle.sample.proofs.InOrder.{range-stops, place-stops, storable-goes-on, storable-ends}
 use Rattle.sample.proofs.storable_from.Given as goal
 
 abbrev pub invariant-loop-i : goal.invariant-loop-i
