@@ -21,7 +21,7 @@ use Rattle.quantize.specs.Quantize.{params_from}
 use Rattle.trim.specs.Trim.{last_from, used_from, few_refusal, flag_refusal, trim_refusal, trimmed_as, trimmed_from, trimmed_model_as, trimmed_model_from}
 use Rattle.trim.specs.Inner.{most_numbers, samples_in, stored}
 use Rattle.trim.proofs.Mapped.{length-samples_in}
-use Rattle.lent_trim.proofs.Walk.{kept_of}
+use Rattle.lent_trim.proofs.Kept.{kept_of}
 use Rattle.lent_trim.proofs.ReadBack.{read_back}
 
 -- the samples that the walk hands on

@@ -1,3 +1,3 @@
-pub mod Walk
+pub mod Kept
 pub mod ReadBack
 pub mod Answered

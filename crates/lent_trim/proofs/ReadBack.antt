@@ -14,8 +14,7 @@ use Rattle.sample.specs.Word.{most_samples}
 use Rattle.fit.specs.Sums.{itself}
 use Rattle.trim.specs.Inner.{most_numbers, samples_in, stored}
 use Rattle.trim.proofs.Unpacked.{Unpacked, unpacked-none, unpacked-more, unpacked-all}
-use Rattle.lent_fit.proofs.Walk.{none}
-use Rattle.lent_trim.proofs.Walk.{storing-of, kept_of}
+use Rattle.lent_trim.proofs.Kept.{none, storing-of, kept_of}
 
 module _ (ys : List MotionSample) (few : length ys ≤ most_samples) where
   -- the stores from i on, so many

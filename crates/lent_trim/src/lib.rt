@@ -34,8 +34,7 @@ fn model_answer(codes: ToTrim, numbers: &[f64; 16384], samples: usize) -> Trimme
     held_trim::trimmed_model(codes.kind, codes.flag, numbers, samples)
 }
 
-#[unsafe(no_mangle)]
-pub extern "C" fn belt_fit_trimmed_samples(samples: &[MotionSample], kind: u8) -> TrimmedAnswer
+pub fn belt_fit_trimmed_samples(samples: &[MotionSample], kind: u8) -> TrimmedAnswer
     ensures { result ≡ answer_of (trimmed_from itself kind samples.now) }
 {
     let n = fit::list_taken(samples.len());
@@ -48,11 +47,7 @@ pub extern "C" fn belt_fit_trimmed_samples(samples: &[MotionSample], kind: u8) -
     fit_answer(kind, &kept, samples.len())
 }
 
-#[unsafe(no_mangle)]
-pub extern "C" fn belt_quantize_trimmed_samples(
-    samples: &[MotionSample],
-    codes: ToTrim,
-) -> TrimmedModel
+pub fn belt_quantize_trimmed_samples(samples: &[MotionSample], codes: ToTrim) -> TrimmedModel
     ensures { result ≡ trimmed_model_from itself codes.kind codes.flag samples.now }
 {
     let n = fit::list_taken(samples.len());
