@@ -11,7 +11,9 @@ use borrow.Author.Rules.{rules}
 use Rattle.class.proofs.all_right.Given as goal
 
 abbrev pub invariant-loop-i : goal.invariant-loop-i
-invariant-loop-i l = (l.i ≤ length l.words) × (both l.right (both (storable_from l.least (drop l.i l.words)) (all_bare (drop l.i l.words))) ≡ both (storable l.words) (all_bare l.words))
+invariant-loop-i l =
+    (l.i ≤ length l.words)
+    × (both l.right (both (storable_from l.least (drop l.i l.words)) (all_bare (drop l.i l.words))) ≡ both (storable l.words) (all_bare l.words))
 
 abbrev pub decreases-loop-i : goal.decreases-loop-i
 decreases-loop-i l = length l.words - l.i

@@ -12,7 +12,9 @@ use Rattle.class_set.proofs.Chosen.{Counts, counts-one, counts-none}
 use Rattle.class_set.proofs.choose.Given as goal
 
 abbrev pub invariant-loop-i : goal.invariant-loop-i
-invariant-loop-i l = (l.i ≤ length l.words) × (l.n ≤ l.i) × (length l.out ≡ length l.initial.out) × (take l.n l.out ++ chosen l.set (drop l.i l.words) (drop l.i l.classes) ≡ chosen l.set l.words l.classes)
+invariant-loop-i l =
+    (l.i ≤ length l.words) × (l.n ≤ l.i) × (length l.out ≡ length l.initial.out)
+    × (take l.n l.out ++ chosen l.set (drop l.i l.words) (drop l.i l.classes) ≡ chosen l.set l.words l.classes)
 
 abbrev pub decreases-loop-i : goal.decreases-loop-i
 decreases-loop-i l = length l.words - l.i

@@ -11,7 +11,8 @@ use Rattle.class_set.proofs.Chosen.{Counts, counts-one, counts-none, count-again
 use Rattle.class_set.proofs.count_named.Given as goal
 
 abbrev pub invariant-loop-i : goal.invariant-loop-i
-invariant-loop-i l = (l.i ≤ length l.classes) × (l.n ≤ l.i) × (l.n + length (chosen l.set (drop l.i l.classes) (drop l.i l.classes)) ≡ named_count l.set l.classes)
+invariant-loop-i l =
+    (l.i ≤ length l.classes) × (l.n ≤ l.i) × (l.n + length (chosen l.set (drop l.i l.classes) (drop l.i l.classes)) ≡ named_count l.set l.classes)
 
 abbrev pub decreases-loop-i : goal.decreases-loop-i
 decreases-loop-i l = length l.classes - l.i
