@@ -1,13 +1,12 @@
 -- `trim::between`: the tests say that a cut beside the guess lies between lo and hi, and the middle does.
 -- Assumes nothing.
-use borrow.Author.Tests.{ltb-true}
 use Prim.Native.Nat.{◌<◌}
 use native.Mathlib.Omega.{arith}
 use Rattle.trim.proofs.between.Goals as goal
 
 pub overflow_add-result : goal.overflow_add-result
 overflow_add-result c = let guess = c.args.guess in
-    let below : guess < 0x7fef_ffff_ffff_fffe = ltb-true guess 0x7fef_ffff_ffff_fffe c.if-guess-lt-FAR.true-raw in
+    let below : guess < 0x7fef_ffff_ffff_fffe = c.if-guess-lt-FAR.true in
     record { fits = omega arith }
 
 pub overflow_sub-result : goal.overflow_sub-result

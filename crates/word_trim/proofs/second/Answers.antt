@@ -1,6 +1,5 @@
 -- `word_trim::second`: a residual that isn't finite is row 16; where too few are kept the first fit stands and all words are moved; otherwise the fit of those moved is the last.
 -- Assumes nothing.
-use borrow.Author.Tests.{not-true, not-false}
 use mathlib.Core.Path.{sym, ◌∙◌}
 use native.Mathlib.Omega.{arith}
 use lib.Ieee.{nan_bits}
@@ -18,11 +17,11 @@ pub returns-then-not-all_finite : goal.returns-then-not-all_finite
 returns-then-not-all_finite c = let a = c.args in
     let test = c.all_finite in
     rw c.refused_trim.ensures
-    (infinite-trims a.gm_type a.first a.words.now a.squares.now a.kept.now c.requires (sym test.ensures ∙ not-true test.result c.if-not-all_finite.true-raw))
+    (infinite-trims a.gm_type a.first a.words.now a.squares.now a.kept.now c.requires (sym test.ensures ∙ c.if-not-all_finite.true))
 
 pub limit_of-limit-requires : goal.limit_of-limit-requires
 limit_of-limit-requires c = let a = c.args in
-    let test = c.all_finite in record { n_in_bounds = squares-long a.gm_type a.first a.words.now a.squares.now a.kept.now c.requires; findable = squares-findable a.gm_type a.first a.words.now a.squares.now a.kept.now c.requires (sym test.ensures ∙ not-false test.result c.if-not-all_finite.false-raw) }
+    let test = c.all_finite in record { n_in_bounds = squares-long a.gm_type a.first a.words.now a.squares.now a.kept.now c.requires; findable = squares-findable a.gm_type a.first a.words.now a.squares.now a.kept.now c.requires (sym test.ensures ∙ c.if-not-all_finite.false) }
 
 pub keep-n-requires : goal.keep-n-requires
 keep-n-requires c = let a = c.args in (
@@ -55,7 +54,7 @@ returns-then-n-least_of c = let a = c.args in
     let kept = c.keep-n in
     let all = c.keep-all in
     rw c.trim_of.ensures
-    (stood-trims a.gm_type a.first a.words.now a.squares.now a.kept.now c.requires (sym test.ensures ∙ not-false test.result c.if-not-all_finite.false-raw)
+    (stood-trims a.gm_type a.first a.words.now a.squares.now a.kept.now c.requires (sym test.ensures ∙ c.if-not-all_finite.false)
     limit.result limit.ensures _ kept.result kept.ensures.front (omega (arith, c.if-n-least_of.true, c.least_of.ensures)) _ infinity-is
     _ all.result (omega (arith, all.ensures.kept_len_unchanged, kept.ensures.kept_len_unchanged, c.requires.asked.room)) all.ensures.front)
 
@@ -82,6 +81,6 @@ returns c = let a = c.args in
     let kept = c.keep-n in
     let last = c.fit_model in
     rw c.trim_of-2.ensures
-    (fitted-trims a.gm_type a.first a.words.now a.squares.now a.kept.now c.requires (sym test.ensures ∙ not-false test.result c.if-not-all_finite.false-raw)
+    (fitted-trims a.gm_type a.first a.words.now a.squares.now a.kept.now c.requires (sym test.ensures ∙ c.if-not-all_finite.false)
     limit.result limit.ensures _ kept.result kept.ensures.front (omega (arith, c.if-n-least_of.false, c.least_of.ensures))
     (omega (arith, kept.ensures.kept_len_unchanged, c.requires.asked.room)) last.result last.ensures)
