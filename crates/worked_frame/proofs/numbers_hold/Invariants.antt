@@ -1,0 +1,11 @@
+-- `numbers_hold`: each turn tests one number of the 42.
+-- Assumes nothing.
+use Prim.Native.Nat.{◌≤◌, ◌-◌}
+use borrow.Author.Rules.{rules}
+use Rattle.worked_frame.proofs.numbers_hold.Given as goal
+
+abbrev pub invariant-loop-i : goal.invariant-loop-i
+invariant-loop-i l = l.i ≤ 42
+
+abbrev pub decreases-loop-i : goal.decreases-loop-i
+decreases-loop-i l = 42 - l.i
