@@ -16,7 +16,7 @@ use Rattle.fit.specs.Sums.{itself}
 use Rattle.trim.specs.Inner.{most_numbers, samples_in, stored}
 use Rattle.elect.specs.Elect.{elected_from}
 use Rattle.elect.proofs.Mapped.{elected-unpacked}
-use Rattle.lent_trim.proofs.Walk.{kept_of}
+use Rattle.lent_trim.proofs.Kept.{kept_of}
 use Rattle.lent_trim.proofs.ReadBack.{read_back}
 
 not-too-many : (n : ℕ) → n ≤ most_samples → list_refusal n ≡ 0

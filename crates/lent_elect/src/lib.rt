@@ -11,8 +11,7 @@ ghost use Rattle.elect.specs.Elect.{elected_from};
 use elect::Elected;
 use sample::MotionSample;
 
-#[unsafe(no_mangle)]
-pub extern "C" fn belt_elect_samples(samples: &[MotionSample], flag: u8) -> Elected
+pub fn belt_elect_samples(samples: &[MotionSample], flag: u8) -> Elected
     ensures { result ≡ elected_from itself flag samples.now }
 {
     let n = fit::list_taken(samples.len());

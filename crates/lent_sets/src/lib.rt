@@ -35,8 +35,7 @@ pub struct Judged {
 
 // ---- plain calls
 
-#[unsafe(no_mangle)]
-pub extern "C" fn belt_fit_samples_by_class(
+pub fn belt_fit_samples_by_class(
     set: u8,
     kind: u8,
     samples: &[[f64; 4]],
@@ -67,8 +66,7 @@ fn fit_named(kind: u8, set: u8, samples: &[[f64; 4]], classes: &[u8]) -> Fitted
     fit::affine_ends(named_samples::affine_named(set, samples, classes), n)
 }
 
-#[unsafe(no_mangle)]
-pub extern "C" fn belt_quantize_samples_by_class(
+pub fn belt_quantize_samples_by_class(
     set: u8,
     model: ToQuantize,
     samples: &[[f64; 4]],
@@ -88,8 +86,7 @@ pub extern "C" fn belt_quantize_samples_by_class(
     quantize::refit_ends(t, class_set::count_named(set, classes))
 }
 
-#[unsafe(no_mangle)]
-pub extern "C" fn belt_score_samples_by_class(
+pub fn belt_score_samples_by_class(
     set: u8,
     model: Params,
     samples: &[[f64; 4]],
@@ -133,8 +130,7 @@ fn judge(
     }
 }
 
-#[unsafe(no_mangle)]
-pub extern "C" fn belt_fit_trimmed_samples_by_class(
+pub fn belt_fit_trimmed_samples_by_class(
     set: u8,
     kind: u8,
     samples: &[[f64; 4]],
@@ -159,8 +155,7 @@ pub extern "C" fn belt_fit_trimmed_samples_by_class(
     trim_numbers::answer_of(held_trim::trimmed_fit(kind, &numbers, judged.count))
 }
 
-#[unsafe(no_mangle)]
-pub extern "C" fn belt_quantize_trimmed_samples_by_class(
+pub fn belt_quantize_trimmed_samples_by_class(
     set: u8,
     codes: ToTrim,
     samples: &[[f64; 4]],
@@ -177,8 +172,7 @@ pub extern "C" fn belt_quantize_trimmed_samples_by_class(
     held_trim::trimmed_model(codes.kind, codes.flag, &numbers, judged.count)
 }
 
-#[unsafe(no_mangle)]
-pub extern "C" fn belt_elect_samples_by_class(
+pub fn belt_elect_samples_by_class(
     set: u8,
     flag: u8,
     samples: &[[f64; 4]],
