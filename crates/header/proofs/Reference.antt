@@ -12,7 +12,7 @@ use Rattle.bits.proofs.Buffer.{holds-front, holds-back, bits-append}
 use Rattle.grid.specs.Grid.{abs_bits, prec_bits, centre, Codable}
 use Rattle.grid.specs.Slots.{slots_of}
 use Rattle.grid.proofs.Slots.{chosen, Known, slots-known, six-slots-at-most}
-use Rattle.models.specs.Models.{carries, filler}
+use Rattle.models.specs.Models.{filler}
 use Rattle.header.specs.Coefficient.{coefficient}
 use Rattle.header.specs.Inner.{ValidPrior}
 use Rattle.header.specs.Reading.{type_read, type_length, six_filled, slots_read, model_read, reference_read}

@@ -9,7 +9,7 @@ use lib.Dec.{eqb}
 use lib.IntN.{ℤ}
 use lib.ListN.{length}
 use Rattle.laws.specs.Call.{answered, left}
-use Rattle.laws.specs.Refusal.{row, choose, either, or_else}
+use Rattle.laws.specs.Refusal.{row, choose, either}
 use Rattle.laws.proofs.Cases.{outcome}
 use Rattle.laws.proofs.Refusal.{quiet, or-else-nothing}
 use Rattle.models.specs.Models.{priors_out}

@@ -1,6 +1,5 @@
 -- `bits::bit_at`: inside the bytes the bit of its byte, past them the definition's 0. Assumes nothing.
 use native.Mathlib.Omega.{arith}
-use borrow.Author.Rules.{rules}
 use mathlib.Core.Path.{refl, sym}
 use native.Mathlib.Nat.{zero-div}
 use lib.Dec.{lit<}

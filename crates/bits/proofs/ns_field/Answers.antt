@@ -1,5 +1,4 @@
 -- `bits::ns_field`: the field is the arm of the definition that v falls into. Assumes nothing.
-use borrow.Author.Rules.{rules}
 use mathlib.Core.Path.{sym}
 use native.Mathlib.Omega.{arith}
 use Rattle.bits.proofs.Ns.{short-code, long-code, short-low, long-low}

@@ -1,5 +1,4 @@
 -- `bits::ns_width`: n lies below 2 ^ w and not below half of it, so m is what 2 ^ w has over n. Assumes nothing.
-use borrow.Author.Rules.{rules}
 use Prim.Native.Nat.{ℕ, ◌-◌, ◌^◌, ◌≤◌}
 use mathlib.Core.Path.{◌≡◌, ap, ◌∙◌}
 use native.Mathlib.Omega.{arith}

@@ -1,5 +1,4 @@
 -- `bits::store_byte`: all bits of the byte are the field's. Assumes nothing.
-use borrow.Author.Rules.{rules}
 use mathlib.Core.Path.{sym}
 use native.Mathlib.Omega.{arith}
 use Rattle.bits.proofs.Words.{put_byte}

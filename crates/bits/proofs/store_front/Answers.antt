@@ -1,5 +1,4 @@
 -- `bits::store_front`: the field's bits stand in front, and those behind them are the byte's own. Assumes nothing.
-use borrow.Author.Rules.{rules}
 use mathlib.Core.Path.{sym}
 use native.Mathlib.Omega.{arith}
 use Rattle.bits.proofs.Words.{put_front}

@@ -1,5 +1,4 @@
 -- `bits::store_inside`: the byte holds the field in its place, and what stands above and below stays. Assumes nothing.
-use borrow.Author.Rules.{rules}
 use Prim.Native.Nat.{◌-◌}
 use mathlib.Core.Path.{sym}
 use native.Mathlib.Omega.{arith}

@@ -1,13 +1,9 @@
 -- `bits::store_word`: what is left to put here gives what was to be put at the start. Assumes nothing.
-use borrow.Author.Rules.{rules}
-use Prim.Native.Nat.{◌+◌, ◌-◌, ◌*◌, ◌/◌, ◌^◌, ◌≤◌}
-use mathlib.Core.Path.{◌≡◌, refl, ◌∙◌, ap}
-use native.Mathlib.Omega.{arith}
+use Prim.Native.Nat.{◌+◌, ◌*◌, ◌≤◌}
+use mathlib.Core.Path.{◌≡◌}
 use lib.ListN.{length}
 use Rattle.bits.specs.Bits.{put_bits}
 use Rattle.bits.specs.Fields.{field_bits}
-use Rattle.bits.proofs.Buffer.{length-put_bits}
-use Rattle.bits.proofs.Words.{byte_step}
 use Rattle.bits.proofs.store_word.Given as goal
 
 abbrev pub invariant-loop-left : goal.invariant-loop-left

@@ -2,7 +2,6 @@
 -- Assumes nothing.
 use mathlib.Core.Path.{◌∙◌}
 use native.Mathlib.Omega.{arith}
-use borrow.Author.Rules.{rules}
 use Rattle.divisor.proofs.Rounding.{index-small, index_is}
 use Rattle.divisor.proofs.lut_index.Goals as goal
 
@@ -24,4 +23,5 @@ round2-requires c = record {
 pub returns : goal.returns
 returns c = let d = c.args.d in
     let n = c.floor_log2-n in
-    let rounded = rw c.power_of_two.ensures at c.round2.ensures.is in record { is = rounded ∙ index_is n.result d n.ensures.range n.ensures.is; small = omega (arith, rounded, index-small n.result d n.ensures.range) }
+    let rounded = rw c.power_of_two.ensures at c.round2.ensures.is in
+    record { is = rounded ∙ index_is n.result d n.ensures.range n.ensures.is; small = omega (arith, rounded, index-small n.result d n.ensures.range) }

@@ -4,7 +4,6 @@ use Prim.Native.Nat.{◌+◌, ◌/◌, ◌^◌}
 use mathlib.Core.Path.{refl}
 use native.Mathlib.Nat.{div-le_self}
 use native.Mathlib.Omega.{arith}
-use borrow.Author.Rules.{rules}
 use lib.Pow.{pow_pos, pow_mono}
 use Rattle.divisor.specs.Rounding.{round2}
 use Rattle.divisor.proofs.round2.Goals as goal

@@ -1,7 +1,6 @@
 -- `round2_signed`: the magnitude is rounded, and gets the sign back.
 -- Assumes nothing.
 use mathlib.Core.Path.{ap}
-use borrow.Author.Rules.{rules}
 use native.Mathlib.Omega.{arith}
 use mir.Syntax.{w64}
 use mir.Facts.{to_z-of_z}

@@ -1,7 +1,6 @@
 -- `encode_global_motion`: of a key frame the refusal alone and the bytes as they were; of an inter frame what the writer of its header gives.
 -- Assumes nothing.
 use mathlib.Core.Path.{ap, sym, ◌∙◌}
-use borrow.Author.Rules.{rules}
 use lib.ListN.{length}
 use Rattle.header.specs.Writing.{not_written}
 use Rattle.frame_header.proofs.Inter.{inter-written, inter-after}

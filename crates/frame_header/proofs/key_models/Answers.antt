@@ -1,6 +1,5 @@
 -- `key_models`: the flag's row, or the identities.
 -- Assumes nothing.
-use borrow.Author.Rules.{rules}
 use borrow.Author.Tests.{lt-ltb, le-ltb}
 use Rattle.frame_header.proofs.key_models.Goals as goal
 

@@ -1,7 +1,6 @@
 -- `read_global_motion`: of a key frame the identities; of an inter frame what the reader of its header gives.
 -- Assumes nothing.
 use mathlib.Core.Path.{sym, ◌∙◌}
-use borrow.Author.Rules.{rules}
 use Rattle.frame_header.proofs.Inter.{inter-models}
 use Rattle.frame_header.proofs.Intra.{key-models}
 use Rattle.frame_header.proofs.read_global_motion.Goals as goal

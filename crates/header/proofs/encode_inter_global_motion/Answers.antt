@@ -4,7 +4,6 @@ use Prim.Native.Nat.{◌+◌}
 use mathlib.Core.List.{◌++◌}
 use mathlib.Core.Path.{ap, sym, ◌∙◌}
 use native.Mathlib.Omega.{arith}
-use borrow.Author.Rules.{rules}
 use lib.ListN.{length}
 use Rattle.bits.specs.Fields.{pad_bits}
 use Rattle.bits.proofs.Buffer.{length-put_bits}
@@ -13,7 +12,8 @@ use Rattle.header.proofs.Accepted.{accepted, header-coded, refused, wrote}
 use Rattle.header.proofs.encode_inter_global_motion.Goals as goal
 
 pub returns-then-refusal-ne0 : goal.returns-then-refusal-ne0
-returns-then-refusal-ne0 c = let a = c.args in let both = refused a.types.now a.params.now a.flag a.prior.now a.start a.header.now _ c.refusal_of-refusal.ensures c.if-refusal-ne0.true in record { value = both.0; header_after = both.1 }
+returns-then-refusal-ne0 c = let a = c.args in
+    let both = refused a.types.now a.params.now a.flag a.prior.now a.start a.header.now _ c.refusal_of-refusal.ensures c.if-refusal-ne0.true in record { value = both.0; header_after = both.1 }
 
 pub write_header-requires : goal.write_header-requires
 write_header-requires c = let a = c.args in

@@ -1,5 +1,4 @@
 -- `header::global_param_length`: the code counted, from the prior's place, is the slot's bits. Assumes nothing.
-use borrow.Author.Rules.{rules}
 use mathlib.Core.Path.{subst}
 use mir.Facts.{to_z-of_z}
 use lib.IntN.{ℤ}

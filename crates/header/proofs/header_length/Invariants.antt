@@ -1,14 +1,10 @@
 -- `header_length`: each turn adds the sum's next term.
 -- Assumes nothing.
 use Prim.Native.Nat.{◌*◌, ◌-◌, ◌≤◌}
-use mathlib.Core.Path.{◌≡◌, refl, ap, ◌∙◌}
-use native.Mathlib.Omega.{arith}
-use borrow.Author.Rules.{rules}
+use mathlib.Core.Path.{◌≡◌}
 use lib.ListN.{get_or}
 use Rattle.laws.specs.Loops.{sum}
-use Rattle.laws.proofs.Loops.{sum_step}
-use Rattle.header.specs.Count.{model_count, header_count}
-use Rattle.header.proofs.RoundTrip.{model-ready}
+use Rattle.header.specs.Count.{model_count}
 use Rattle.header.proofs.header_length.Given as goal
 
 abbrev pub invariant-loop-r : goal.invariant-loop-r

@@ -2,17 +2,11 @@
 -- Assumes nothing.
 use Prim.Native.Nat.{ℕ, ◌+◌, ◌*◌, ◌-◌, ◌≤◌}
 use mathlib.Core.List.{List}
-use mathlib.Core.Path.{◌≡◌, sym, ap, ◌∙◌}
-use native.Mathlib.Omega.{arith}
-use borrow.Author.Rules.{rules}
+use mathlib.Core.Path.{◌≡◌}
 use lib.IntN.{ℤ}
-use lib.ListN.{length, drop, drop_of_length-le}
-use Rattle.bits.proofs.Fields.{length-field_bits}
+use lib.ListN.{drop}
 use Rattle.grid.specs.Slots.{slots_of}
-use Rattle.grid.proofs.Slots.{six-slots-at-most}
 use Rattle.header.specs.Count.{total, slot_count, model_count}
-use Rattle.header.specs.Writing.{type_bits}
-use Rattle.header.proofs.Slots.{slot-known, slots-left}
 use Rattle.header.proofs.reference_length.Given as goal
 
 -- of the slots from the i-th on

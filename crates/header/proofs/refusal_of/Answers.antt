@@ -1,7 +1,6 @@
 -- `refusal_of`: the first group that refuses answers; the quiet ones before it give the later ones what they ask for.
 -- Assumes nothing.
 use mathlib.Core.Path.{sym, ◌∙◌}
-use borrow.Author.Rules.{rules}
 use Rattle.laws.proofs.Refusal.{or-else-refused, or_else_none}
 use Rattle.header.specs.Writing.{write_refusal}
 use Rattle.header.proofs.Accepted.{seven-models, start-low, ready-to-write}

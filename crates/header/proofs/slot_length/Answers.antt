@@ -1,7 +1,6 @@
 -- `slot_length`: the two numbers are read, and handed on.
 -- Assumes nothing.
 use native.Mathlib.Omega.{arith}
-use borrow.Author.Rules.{rules}
 use mir.Syntax.{w32}
 use Rattle.laws.proofs.Signed.{result-reads}
 use Rattle.header.specs.Writing.{slot_of}

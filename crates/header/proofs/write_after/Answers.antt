@@ -2,7 +2,6 @@
 -- Assumes nothing.
 use mathlib.Core.Path.{◌∙◌}
 use native.Mathlib.Omega.{arith}
-use borrow.Author.Rules.{rules}
 use Rattle.header.specs.Writing.{header_bits}
 use Rattle.header.proofs.Page.{page-room, pad-room, enough, laid}
 use Rattle.header.proofs.RoundTrip.{at-most-987-bits, header-bits}

@@ -1,5 +1,4 @@
 -- `header::write_global_param`: the code of the value's symbol, from the prior's place, is the slot's bits. Assumes nothing.
-use borrow.Author.Rules.{rules}
 use mathlib.Core.Path.{sym}
 use native.Mathlib.Omega.{arith}
 use mir.Facts.{to_z-of_z}

@@ -1,6 +1,5 @@
 -- `write_reference`: the type's bits are written, and the model's right behind them.
 -- Assumes nothing.
-use borrow.Author.Rules.{rules}
 use Rattle.bits.proofs.Buffer.{room-front, room_back, wrote-both}
 use Rattle.header.specs.Writing.{type_bits, model_bits, reference_bits}
 use Rattle.header.proofs.write_reference.Goals as goal

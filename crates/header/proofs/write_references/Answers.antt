@@ -5,7 +5,6 @@ use native.Mathlib.Nat.{add-zero, zero-div}
 use native.Mathlib.Omega.{arith}
 use lib.IntN.{ℤ}
 use lib.ListN.{length, get_or}
-use borrow.Author.Rules.{rules}
 use Rattle.bits.specs.Inner.{Room, Wrote}
 use Rattle.bits.specs.Fields.{field_bits}
 use Rattle.bits.proofs.Fields.{length-field_bits}

@@ -1,7 +1,6 @@
 -- `write_slot`: the value and the prior read at the slot are those whose bits the definition puts.
 -- Assumes nothing.
 use native.Mathlib.Omega.{arith}
-use borrow.Author.Rules.{rules}
 use mir.Syntax.{w32}
 use Rattle.laws.proofs.Signed.{result-reads}
 use Rattle.header.specs.Writing.{slot_of}

@@ -1,7 +1,6 @@
 -- `write_type`: the field's bits are the type's.
 -- Assumes nothing.
 use native.Mathlib.Omega.{arith}
-use borrow.Author.Rules.{rules}
 use Rattle.bits.proofs.Buffer.{wrote_as}
 use Rattle.bits.proofs.Words.{room-field}
 use Rattle.header.specs.Writing.{type_bits}

@@ -1,7 +1,6 @@
 -- `prior_refusal`: the first of the three rows that holds.
 -- Assumes nothing.
 use mathlib.Core.Path.{sym, ◌∙◌}
-use borrow.Author.Rules.{rules}
 use borrow.Author.Tests.{lt-ltb, le-ltb, eq-eqb, ne_eqb}
 use Rattle.header_read.proofs.prior_refusal.Goals as goal
 

@@ -1,7 +1,6 @@
 -- `read_global_motion_params`: the number of the first group of rows, or what is read where it is none.
 -- Assumes nothing.
 use mathlib.Core.Path.{sym, ◌∙◌}
-use borrow.Author.Rules.{rules}
 use Rattle.header_read.proofs.Answers.{refused, priors-ready, read-within}
 use Rattle.header_read.proofs.read_global_motion_params.Goals as goal
 

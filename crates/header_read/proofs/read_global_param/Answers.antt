@@ -1,6 +1,5 @@
 -- `read_global_param`: the symbol read by S and the prior's place, as its number.
 -- Assumes nothing.
-use borrow.Author.Rules.{rules}
 use Prim.Native.Nat.{ℕ, ◌+◌, ◌≤◌}
 use mathlib.Core.Path.{subst, ◌≡◌}
 use mir.Syntax.{w32}

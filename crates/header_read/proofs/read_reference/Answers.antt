@@ -2,7 +2,6 @@
 -- Assumes nothing.
 use mathlib.Core.Path.{refl}
 use native.Mathlib.Omega.{arith}
-use borrow.Author.Rules.{rules}
 use Rattle.bits.specs.Bits.{bit_at}
 use Rattle.header_read.proofs.Composed.{referenced}
 use Rattle.header_read.proofs.read_reference.Goals as goal

@@ -1,9 +1,7 @@
-use Prim.Native.Nat.{◌-◌}
 use mathlib.Core.Path.{refl}
 use native.Mathlib.Omega.{arith}
-use borrow.Author.Rules.{rules}
 use Rattle.bits.specs.Bits.{bit_at}
-use Rattle.header_read.proofs.References.{SoFar, none_yet, next-read, all_read}
+use Rattle.header_read.proofs.References.{none_yet, next-read, all_read}
 use Rattle.header_read.proofs.Valid.{all-priors}
 use Rattle.header_read.proofs.read_references.Goals as goal
 

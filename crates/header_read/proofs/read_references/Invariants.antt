@@ -1,12 +1,8 @@
 -- `read_references`: what is read so far, followed by what is left to read, is all seven.
 -- Assumes nothing.
 use Prim.Native.Nat.{◌-◌}
-use mathlib.Core.Path.{refl}
-use native.Mathlib.Omega.{arith}
-use borrow.Author.Rules.{rules}
 use Rattle.bits.specs.Bits.{bit_at}
-use Rattle.header_read.proofs.References.{SoFar, none_yet, next-read, all_read}
-use Rattle.header_read.proofs.Valid.{all-priors}
+use Rattle.header_read.proofs.References.{SoFar}
 use Rattle.header_read.proofs.read_references.Given as goal
 
 abbrev pub invariant-loop-r : goal.invariant-loop-r

@@ -1,6 +1,5 @@
 -- `read_slot`: the prior's number read at the slot is the one that the definition counts from.
 -- Assumes nothing.
-use borrow.Author.Rules.{rules}
 use mir.Syntax.{w32}
 use Rattle.laws.proofs.Signed.{result-reads}
 use Rattle.header.specs.Writing.{slot_of}

@@ -1,14 +1,12 @@
-use Prim.Native.Nat.{◌-◌}
 use mathlib.Core.Path.{refl}
 use native.Mathlib.Omega.{arith}
 use mir.Syntax.{w32}
 use Rattle.laws.proofs.Signed.{result-reads}
-use borrow.Author.Rules.{rules}
 use Rattle.bits.specs.Bits.{bit_at}
 use Rattle.grid.specs.Slots.{slots_of}
 use Rattle.grid.proofs.Slots.{six-slots-at-most}
 use Rattle.header.proofs.Slots.{slot-known, slots-left}
-use Rattle.header_read.proofs.Slots.{SoFar, none_yet, one_more, all_read}
+use Rattle.header_read.proofs.Slots.{none_yet, one_more, all_read}
 use Rattle.header_read.proofs.read_slots.Goals as goal
 
 pub loop-i-init : goal.loop-i-init

@@ -3,7 +3,6 @@
 use Prim.Native.Nat.{ℕ, ◌+◌}
 use mathlib.Core.Path.{◌≡◌, refl, ap, sym, ◌∙◌}
 use native.Mathlib.Omega.{arith}
-use borrow.Author.Rules.{rules}
 use Rattle.bits.specs.Bits.{bit_at}
 use Rattle.header_read.proofs.Composed.{identity-typed, rotzoom-typed, translation-typed, affine-typed}
 use Rattle.header_read.proofs.read_type.Goals as goal

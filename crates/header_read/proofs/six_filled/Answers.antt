@@ -1,7 +1,6 @@
 -- `six_filled`: each type's numbers at their slots, by the tests.
 -- Assumes nothing.
 use mathlib.Core.Path.{ap, ◌∙◌}
-use borrow.Author.Rules.{rules}
 use borrow.Author.Tests.{ne_eqb}
 use lib.IntN.{pos, neg_ℤ}
 use lib.ListN.{get_or}

@@ -1,7 +1,6 @@
 -- `key_code_refusal`: the first of the three rows that holds.
 -- Assumes nothing.
 use mathlib.Core.Path.{sym, ◌∙◌}
-use borrow.Author.Rules.{rules}
 use borrow.Author.Tests.{lt-ltb, le-ltb}
 use Rattle.key_frame.proofs.key_code_refusal.Goals as goal
 

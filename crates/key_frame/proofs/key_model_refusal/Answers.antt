@@ -1,7 +1,6 @@
 -- `key_model_refusal`: the first of the two rows that holds.
 -- Assumes nothing.
 use mathlib.Core.Path.{sym, ◌∙◌}
-use borrow.Author.Rules.{rules}
 use Rattle.key_frame.proofs.key_model_refusal.Goals as goal
 
 pub returns-then-start_over : goal.returns-then-start_over

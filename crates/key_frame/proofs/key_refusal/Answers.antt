@@ -1,7 +1,6 @@
 -- `key_refusal`: the first group that refuses answers; the first group's lengths give the second what it asks for.
 -- Assumes nothing.
 use mathlib.Core.Path.{sym, ◌∙◌}
-use borrow.Author.Rules.{rules}
 use Rattle.laws.proofs.Refusal.{or-else-refused, or_else_none}
 use Rattle.key_frame.specs.Key.{key_refusal}
 use Rattle.key_frame.proofs.Enough.{numbers-enough}

@@ -1,7 +1,6 @@
 -- `not_identity`: the types are looked at first, then the numbers.
 -- Assumes nothing.
 use mathlib.Core.Path.{sym, ◌∙◌}
-use borrow.Author.Rules.{rules}
 use Rattle.key_frame.proofs.not_identity.Goals as goal
 
 pub returns-then-some_type : goal.returns-then-some_type

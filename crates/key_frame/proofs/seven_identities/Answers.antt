@@ -1,12 +1,9 @@
-use Prim.Native.Nat.{◌-◌, ◌≤◌}
 use mathlib.Core.Path.{refl, sym, ◌∙◌}
 use native.Mathlib.Omega.{arith}
-use borrow.Author.Rules.{rules}
 use mir.Syntax.{w32}
 use lib.IntN.{pos}
 use Rattle.laws.proofs.Signed.{result-reads}
-use Rattle.laws.proofs.Filled.{Filled, filled_none, filled_more, filled-all}
-use Rattle.key_frame.specs.Key.{identities}
+use Rattle.laws.proofs.Filled.{filled_none, filled_more, filled-all}
 use Rattle.key_frame.proofs.Identities.{at-identities}
 use Rattle.key_frame.proofs.seven_identities.Goals as goal
 

@@ -1,13 +1,9 @@
-use Prim.Native.Nat.{◌-◌, ◌≤◌}
 use mathlib.Core.Bool.{false}
-use mathlib.Core.Path.{◌≡◌, refl, sym}
+use mathlib.Core.Path.{refl, sym}
 use native.Mathlib.Omega.{arith}
-use borrow.Author.Rules.{rules}
 use borrow.Author.Tests.{eq-eqb, ne_eqb}
-use lib.ListN.{length}
-use Rattle.laws.specs.Below.{any_below}
 use Rattle.laws.proofs.Below.{none_more, found, ends}
-use Rattle.key_frame.specs.Key.{type_at, some_type}
+use Rattle.key_frame.specs.Key.{some_type}
 use Rattle.key_frame.proofs.some_type.Goals as goal
 
 pub loop-k-init : goal.loop-k-init

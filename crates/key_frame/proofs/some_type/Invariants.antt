@@ -2,14 +2,10 @@
 -- Assumes nothing.
 use Prim.Native.Nat.{◌-◌, ◌≤◌}
 use mathlib.Core.Bool.{false}
-use mathlib.Core.Path.{◌≡◌, refl, sym}
-use native.Mathlib.Omega.{arith}
-use borrow.Author.Rules.{rules}
-use borrow.Author.Tests.{eq-eqb, ne_eqb}
+use mathlib.Core.Path.{◌≡◌}
 use lib.ListN.{length}
 use Rattle.laws.specs.Below.{any_below}
-use Rattle.laws.proofs.Below.{none_more, found, ends}
-use Rattle.key_frame.specs.Key.{type_at, some_type}
+use Rattle.key_frame.specs.Key.{type_at}
 use Rattle.key_frame.proofs.some_type.Given as goal
 
 abbrev pub invariant-loop-k : goal.invariant-loop-k

@@ -1,12 +1,8 @@
-use Prim.Native.Nat.{◌-◌, ◌≤◌}
 use mathlib.Core.Bool.{false}
-use mathlib.Core.Path.{◌≡◌, refl, sym, ◌∙◌}
+use mathlib.Core.Path.{refl, sym, ◌∙◌}
 use native.Mathlib.Omega.{arith}
-use borrow.Author.Rules.{rules}
-use lib.ListN.{length}
-use Rattle.laws.specs.Below.{any_below}
 use Rattle.laws.proofs.Below.{none_more, found, ends}
-use Rattle.models.specs.Models.{model_at, models_wrong}
+use Rattle.models.specs.Models.{models_wrong}
 use Rattle.models.proofs.models_wrong.Goals as goal
 
 pub loop-k-init : goal.loop-k-init

@@ -2,13 +2,10 @@
 -- Assumes nothing.
 use Prim.Native.Nat.{◌-◌, ◌≤◌}
 use mathlib.Core.Bool.{false}
-use mathlib.Core.Path.{◌≡◌, refl, sym, ◌∙◌}
-use native.Mathlib.Omega.{arith}
-use borrow.Author.Rules.{rules}
+use mathlib.Core.Path.{◌≡◌}
 use lib.ListN.{length}
 use Rattle.laws.specs.Below.{any_below}
-use Rattle.laws.proofs.Below.{none_more, found, ends}
-use Rattle.models.specs.Models.{model_at, models_wrong}
+use Rattle.models.specs.Models.{model_at}
 use Rattle.models.proofs.models_wrong.Given as goal
 
 abbrev pub invariant-loop-k : goal.invariant-loop-k

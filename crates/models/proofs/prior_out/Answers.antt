@@ -1,6 +1,5 @@
 -- `prior_out`: the distance from the centre is tested against the reach of the slot, as in the definition.
 -- Assumes nothing.
-use borrow.Author.Rules.{rules}
 use borrow.Author.Tests.{lt-ltb, le-ltb}
 use mir.Syntax.{w64}
 use mir.Facts.{to_z-of_z}

@@ -1,14 +1,11 @@
 -- `priors_out`: no prior of the references passed is out of range; what is left of the list is looked at one by one.
 -- Assumes nothing.
-use Prim.Native.Nat.{◌+◌, ◌-◌, ◌%◌, ◌≤◌}
+use Prim.Native.Nat.{◌-◌, ◌%◌, ◌≤◌}
 use mathlib.Core.Bool.{false}
-use mathlib.Core.Path.{◌≡◌, refl, sym, ◌∙◌}
-use native.Mathlib.Omega.{arith}
-use borrow.Author.Rules.{rules}
+use mathlib.Core.Path.{◌≡◌}
 use lib.ListN.{length}
 use Rattle.laws.specs.Below.{any_below}
-use Rattle.models.specs.Models.{prior_at, priors_out}
-use Rattle.models.proofs.Below.{some-farther}
+use Rattle.models.specs.Models.{prior_at}
 use Rattle.models.proofs.priors_out.Given as goal
 
 abbrev pub invariant-loop-first : goal.invariant-loop-first

@@ -1,14 +1,10 @@
-use Prim.Native.Nat.{◌-◌, ◌≤◌}
 use mathlib.Core.Bool.{false}
-use mathlib.Core.Path.{◌≡◌, sym, ◌∙◌}
+use mathlib.Core.Path.{sym, ◌∙◌}
 use native.Mathlib.Omega.{arith}
-use borrow.Author.Rules.{rules}
-use lib.ListN.{length}
-use Rattle.laws.specs.Below.{any_below}
 use Rattle.laws.proofs.Below.{none_more, found, ends}
 use mir.Syntax.{w32}
 use Rattle.laws.proofs.Signed.{result-reads}
-use Rattle.models.specs.Models.{prior_at, priors_out}
+use Rattle.models.specs.Models.{priors_out}
 use Rattle.models.proofs.rest_out.Goals as goal
 
 pub loop-i-init : goal.loop-i-init

@@ -2,15 +2,10 @@
 -- Assumes nothing.
 use Prim.Native.Nat.{◌-◌, ◌≤◌}
 use mathlib.Core.Bool.{false}
-use mathlib.Core.Path.{◌≡◌, sym, ◌∙◌}
-use native.Mathlib.Omega.{arith}
-use borrow.Author.Rules.{rules}
+use mathlib.Core.Path.{◌≡◌}
 use lib.ListN.{length}
 use Rattle.laws.specs.Below.{any_below}
-use Rattle.laws.proofs.Below.{none_more, found, ends}
-use mir.Syntax.{w32}
-use Rattle.laws.proofs.Signed.{result-reads}
-use Rattle.models.specs.Models.{prior_at, priors_out}
+use Rattle.models.specs.Models.{prior_at}
 use Rattle.models.proofs.rest_out.Given as goal
 
 abbrev pub invariant-loop-i : goal.invariant-loop-i

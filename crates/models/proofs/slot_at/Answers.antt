@@ -1,6 +1,5 @@
 -- `slot_at`: the numbers read are the slot's own and the model's [2] and [3], as in the definition.
 -- Assumes nothing.
-use borrow.Author.Rules.{rules}
 use mir.Syntax.{w32}
 use Rattle.laws.proofs.Signed.{result-reads}
 use Rattle.models.proofs.slot_at.Goals as goal

@@ -1,9 +1,6 @@
-use Prim.Native.Nat.{◌-◌, ◌≤◌}
 use mathlib.Core.Bool.{false}
-use mathlib.Core.Path.{◌≡◌, refl, sym, ◌∙◌}
+use mathlib.Core.Path.{refl, sym, ◌∙◌}
 use native.Mathlib.Omega.{arith}
-use borrow.Author.Rules.{rules}
-use Rattle.laws.specs.Below.{any_below}
 use Rattle.laws.proofs.Below.{none_more, found, ends}
 use Rattle.models.specs.Models.{slot_at, model_wrong}
 use Rattle.models.proofs.slots_wrong.Goals as goal

@@ -2,12 +2,9 @@
 -- Assumes nothing.
 use Prim.Native.Nat.{◌-◌, ◌≤◌}
 use mathlib.Core.Bool.{false}
-use mathlib.Core.Path.{◌≡◌, refl, sym, ◌∙◌}
-use native.Mathlib.Omega.{arith}
-use borrow.Author.Rules.{rules}
+use mathlib.Core.Path.{◌≡◌}
 use Rattle.laws.specs.Below.{any_below}
-use Rattle.laws.proofs.Below.{none_more, found, ends}
-use Rattle.models.specs.Models.{slot_at, model_wrong}
+use Rattle.models.specs.Models.{slot_at}
 use Rattle.models.proofs.slots_wrong.Given as goal
 
 abbrev pub invariant-loop-slot : goal.invariant-loop-slot

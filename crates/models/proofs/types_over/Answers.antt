@@ -1,13 +1,9 @@
-use Prim.Native.Nat.{◌-◌, ◌≤◌}
 use mathlib.Core.Bool.{false}
-use mathlib.Core.Path.{◌≡◌, refl, sym}
+use mathlib.Core.Path.{refl, sym}
 use native.Mathlib.Omega.{arith}
-use borrow.Author.Rules.{rules}
-use lib.ListN.{length}
-use Rattle.laws.specs.Below.{any_below}
 use Rattle.laws.proofs.Below.{none_more, found, ends}
 use borrow.Author.Tests.{lt-ltb, le-ltb}
-use Rattle.models.specs.Models.{type_at, types_over}
+use Rattle.models.specs.Models.{types_over}
 use Rattle.models.proofs.types_over.Goals as goal
 
 pub loop-k-init : goal.loop-k-init

@@ -2,14 +2,10 @@
 -- Assumes nothing.
 use Prim.Native.Nat.{◌-◌, ◌≤◌}
 use mathlib.Core.Bool.{false}
-use mathlib.Core.Path.{◌≡◌, refl, sym}
-use native.Mathlib.Omega.{arith}
-use borrow.Author.Rules.{rules}
+use mathlib.Core.Path.{◌≡◌}
 use lib.ListN.{length}
 use Rattle.laws.specs.Below.{any_below}
-use Rattle.laws.proofs.Below.{none_more, found, ends}
-use borrow.Author.Tests.{lt-ltb, le-ltb}
-use Rattle.models.specs.Models.{type_at, types_over}
+use Rattle.models.specs.Models.{type_at}
 use Rattle.models.proofs.types_over.Given as goal
 
 abbrev pub invariant-loop-k : goal.invariant-loop-k

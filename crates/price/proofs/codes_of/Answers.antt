@@ -3,7 +3,6 @@
 use Prim.Native.Nat.{◌≤◌, ◌+◌, ◌/◌}
 use mathlib.Core.Path.{sym, ap, ◌∙◌}
 use native.Mathlib.Omega.{arith}
-use borrow.Author.Rules.{rules}
 use lib.Pow.{pow_mono, pow_pos}
 use Rattle.price.specs.Listed.{listed}
 use Rattle.price.proofs.Listed.{listed-first, listed-longest, listed-last, listed-even, listed-odd}

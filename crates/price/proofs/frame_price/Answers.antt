@@ -1,7 +1,6 @@
 -- `frame_price`: of a key frame the refusal alone, of an inter frame its own price.
 -- Assumes nothing.
 use mathlib.Core.Path.{sym, ◌∙◌}
-use borrow.Author.Rules.{rules}
 use Rattle.price.proofs.Frame.{key-price, key-price-refusal}
 use Rattle.price.proofs.frame_price.Goals as goal
 

@@ -2,7 +2,6 @@
 -- Assumes nothing.
 use mathlib.Core.Bool.{false}
 use mathlib.Core.Path.{sym, ap, ◌∙◌}
-use borrow.Author.Rules.{rules}
 use Prim.Native.Nat.{ℕ}
 use Rattle.laws.proofs.Refusal.{or-else-refused, or_else_none}
 use Rattle.header.proofs.Accepted.{seven-models, ready-to-write}

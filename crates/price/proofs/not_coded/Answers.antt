@@ -1,6 +1,5 @@
 -- `not_coded`: the definition's two tests, in its order.
 -- Assumes nothing.
-use borrow.Author.Rules.{rules}
 use borrow.Author.Tests.{lt-ltb, le-ltb}
 use Rattle.price.proofs.not_coded.Goals as goal
 

@@ -1,13 +1,10 @@
 -- `ordinals_of`: each turn writes the codes of the next length behind those before it.
 -- Assumes nothing.
-use Prim.Native.Nat.{ℕ, ◌+◌, ◌-◌, ◌≤◌}
-use mathlib.Core.Path.{◌≡◌, refl, ap, ◌∙◌}
-use native.Mathlib.Omega.{arith}
-use borrow.Author.Rules.{rules}
+use Prim.Native.Nat.{◌+◌, ◌-◌, ◌≤◌}
+use mathlib.Core.Path.{◌≡◌}
 use Rattle.laws.specs.Buffer.{onto}
 use Rattle.laws.specs.Parts.{listing}
-use Rattle.laws.proofs.Filling.{fill-front}
-use Rattle.price.specs.Prices.{shortest, lengths_of}
+use Rattle.price.specs.Prices.{shortest}
 use Rattle.price.specs.Listed.{listed}
 use Rattle.price.specs.Call.{no_prices}
 use Rattle.price.proofs.ordinals_of.Given as goal

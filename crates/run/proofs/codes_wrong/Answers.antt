@@ -1,6 +1,5 @@
 -- `run::codes_wrong`: the flag's test, then the form's.
 -- Assumes nothing.
-use borrow.Author.Rules.{rules}
 use borrow.Author.Tests.{lt-ltb, le-ltb}
 use Rattle.run.proofs.codes_wrong.Goals as goal
 

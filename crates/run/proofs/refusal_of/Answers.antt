@@ -1,7 +1,6 @@
 -- `run::refusal_of`: the first of the two rows that holds.
 -- Assumes nothing.
 use mathlib.Core.Path.{sym, ◌∙◌}
-use borrow.Author.Rules.{rules}
 use Rattle.run.proofs.refusal_of.Goals as goal
 
 pub returns-then-codes_wrong : goal.returns-then-codes_wrong

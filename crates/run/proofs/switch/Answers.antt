@@ -1,7 +1,6 @@
 -- `run::switch`: the run as it was where a row holds, otherwise the run switched.
 -- Assumes nothing.
 use mathlib.Core.Path.{ap, ◌∙◌}
-use borrow.Author.Rules.{rules}
 use Rattle.run.specs.Run.{moved}
 use Rattle.run.proofs.Moves.{switch-refused, switch-accepted}
 use Rattle.run.proofs.switch.Goals as goal

@@ -1,6 +1,5 @@
 -- `run::switch_refusal`: the code's row, then the run's.
 -- Assumes nothing.
-use borrow.Author.Rules.{rules}
 use borrow.Author.Tests.{lt-ltb, le-ltb}
 use Rattle.run.specs.Run.{switch_refusal}
 use Rattle.run.proofs.switch_refusal.Goals as goal

@@ -1,7 +1,6 @@
 -- `run_frame::first_refusal`: the first of the two rows that holds.
 -- Assumes nothing.
 use mathlib.Core.Path.{sym, ◌∙◌}
-use borrow.Author.Rules.{rules}
 use Rattle.run_frame.proofs.first_refusal.Goals as goal
 
 pub returns-then-key_lengths_wrong : goal.returns-then-key_lengths_wrong

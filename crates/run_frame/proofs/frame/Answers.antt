@@ -1,12 +1,9 @@
 -- `run_frame::frame`: the first rows, then the plain call, then the prior's row; the run moves where none refuses.
 -- Assumes nothing.
 use mathlib.Core.List.{List}
-use mathlib.Core.Path.{◌≡◌, refl, sym, ap, ◌∙◌}
-use borrow.Author.Rules.{rules}
+use mathlib.Core.Path.{refl, sym, ap, ◌∙◌}
 use lib.IntN.{ℤ}
 use lib.ListN.{length}
-use Rattle.laws.specs.Refusal.{judge}
-use Rattle.run_frame.specs.Frame.{first_rows}
 use Rattle.run.specs.Run.{run_of}
 use Rattle.run_frame.proofs.Accepted.{numbers-there}
 use Rattle.run_frame.proofs.Answers.{first-refused, plain-refuses, prior-refuses, frame-accepted}
@@ -15,7 +12,8 @@ use Rattle.run_frame.proofs.frame.Goals as goal
 pub returns-then-refusal-ne0 : goal.returns-then-refusal-ne0
 returns-then-refusal-ne0 c = let a = c.args in
     let first = c.first_refusal-refusal in
-    let done = first-refused a.run a.intra a.types.now a.params.now a.start a.header.now first.result first.ensures c.if-refusal-ne0.true in record { value = c.not_framed.ensures ∙ done.answers; header_after = done.leaves }
+    let done = first-refused a.run a.intra a.types.now a.params.now a.start a.header.now first.result first.ensures c.if-refusal-ne0.true in
+    record { value = c.not_framed.ensures ∙ done.answers; header_after = done.leaves }
 
 pub returns-then-written-ne0 : goal.returns-then-written-ne0
 returns-then-written-ne0 c = let a = c.args in

@@ -1,11 +1,10 @@
-use Prim.Native.Nat.{◌-◌, ◌≤◌, ◌<◌}
+use Prim.Native.Nat.{◌≤◌, ◌<◌}
 use mathlib.Core.Path.{sym}
 use native.Mathlib.Omega.{arith}
-use borrow.Author.Rules.{rules}
 use lib.IntN.{pos}
 use lib.ListN.{length}
 use mir.Syntax.{w32}
-use Rattle.laws.proofs.Filled.{Filled, filled_none, filled_more, filled-all}
+use Rattle.laws.proofs.Filled.{filled_none, filled_more, filled-all}
 use Rattle.laws.proofs.Signed.{result-reads}
 use Rattle.run_frame.proofs.prior_from.Goals as goal
 

@@ -1,14 +1,7 @@
 -- `run_frame::prior_from`: each turn copies the next of the 42 numbers.
 -- Assumes nothing.
-use Prim.Native.Nat.{◌-◌, ◌≤◌, ◌<◌}
-use mathlib.Core.Path.{sym}
-use native.Mathlib.Omega.{arith}
-use borrow.Author.Rules.{rules}
-use lib.IntN.{pos}
-use lib.ListN.{length}
-use mir.Syntax.{w32}
-use Rattle.laws.proofs.Filled.{Filled, filled_none, filled_more, filled-all}
-use Rattle.laws.proofs.Signed.{result-reads}
+use Prim.Native.Nat.{◌-◌, ◌≤◌}
+use Rattle.laws.proofs.Filled.{Filled}
 use Rattle.run_frame.proofs.prior_from.Given as goal
 
 abbrev pub invariant-loop-i : goal.invariant-loop-i

@@ -1,7 +1,6 @@
 -- `run_frame::read_refusal`: the codes' test, then a key frame's prior.
 -- Assumes nothing.
 use mathlib.Core.Path.{sym, ◌∙◌}
-use borrow.Author.Rules.{rules}
 use Rattle.run_frame.proofs.read_refusal.Goals as goal
 
 pub returns-then-codes_wrong : goal.returns-then-codes_wrong

@@ -1,6 +1,5 @@
 -- `not_warped`: a type below ROTZOOM, or a model that no header carries.
 -- Assumes nothing.
-use borrow.Author.Rules.{rules}
 use borrow.Author.Tests.{lt-ltb, le-ltb}
 use Rattle.shear.proofs.not_warped.Goals as goal
 

@@ -1,7 +1,6 @@
 -- `refusal_of`: the first row that holds.
 -- Assumes nothing.
 use mathlib.Core.Path.{sym, ◌∙◌}
-use borrow.Author.Rules.{rules}
 use borrow.Author.Tests.{eq-eqb, ne_eqb, lt-ltb, le-ltb}
 use Rattle.shear.specs.Call.{shear_refusal}
 use Rattle.shear.proofs.refusal_of.Goals as goal

@@ -2,7 +2,6 @@
 -- Assumes nothing.
 use mathlib.Core.Path.{sym, ◌∙◌}
 use native.Mathlib.Omega.{arith}
-use borrow.Author.Rules.{rules}
 use mir.Syntax.{w64}
 use Rattle.laws.proofs.Call.{answered-accepted, answered-refused}
 use Rattle.laws.proofs.Signed.{result-reads}

@@ -1,6 +1,5 @@
 -- `shear_of`: each number is clamped, so that it can be rounded, and the four are judged.
 -- Assumes nothing.
-use borrow.Author.Rules.{rules}
 use mir.Syntax.{w64}
 use mir.Facts.{to_z-of_z}
 use Rattle.laws.proofs.Signed.{result-reads}

@@ -1,6 +1,5 @@
 -- `slot`: an i32 fits 64 bits.
 -- Assumes nothing.
-use borrow.Author.Rules.{rules}
 use mir.Syntax.{w32}
 use mir.Facts.{sfits_widen}
 use lib.IntN.{pos}

@@ -1,5 +1,4 @@
 -- `subexp::climb`: as many rungs as ones stand in front, up to the last. Assumes nothing.
-use borrow.Author.Rules.{rules}
 use Prim.Native.Nat.{◌-◌, ◌≤◌}
 use mathlib.Core.Path.{refl}
 use native.Mathlib.Omega.{arith}

@@ -1,5 +1,4 @@
 -- `subexp::code_of`: the middle decides which end is counted from, and a code number is below S. Assumes nothing.
-use borrow.Author.Rules.{rules}
 use mathlib.Core.Path.{◌≡◌, sym, ◌∙◌}
 use native.Mathlib.Omega.{arith}
 use Rattle.subexp.specs.Recenter.{code_of}

@@ -1,5 +1,4 @@
 -- `subexp::decode_subexp`: four bits below eight are a code of the first rung; the others go by the ladder. Assumes nothing.
-use borrow.Author.Rules.{rules}
 use Prim.Native.Nat.{◌<◌}
 use mathlib.Core.Path.{◌∙◌}
 use native.Mathlib.Omega.{arith}

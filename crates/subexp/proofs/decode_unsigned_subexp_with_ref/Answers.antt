@@ -1,5 +1,4 @@
 -- `subexp::decode_unsigned_subexp_with_ref`: what is read is a code number below S, and so has a symbol. Assumes nothing.
-use borrow.Author.Rules.{rules}
 use mathlib.Core.Path.{ap, ◌∙◌}
 use native.Mathlib.Omega.{arith}
 use Rattle.bits.specs.Bits.{bit_at}
@@ -14,4 +13,5 @@ symbol_of-requires c = let a = c.args in
 
 pub returns : goal.returns
 returns c = let a = c.args in
-    let decode-subexp = c.decode_subexp-read in record { is = record { value = c.symbol_of.ensures.0 ∙ ap (symbol_of a.mx a.r) decode-subexp.ensures.value; next = decode-subexp.ensures.next }; within = c.symbol_of.ensures.1 }
+    let decode-subexp = c.decode_subexp-read in
+    record { is = record { value = c.symbol_of.ensures.0 ∙ ap (symbol_of a.mx a.r) decode-subexp.ensures.value; next = decode-subexp.ensures.next }; within = c.symbol_of.ensures.1 }

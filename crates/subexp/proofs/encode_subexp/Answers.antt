@@ -1,5 +1,4 @@
 -- `subexp::encode_subexp`: a number of the first rung has its short code; the others are written by the rung that their code ends on. Assumes nothing.
-use borrow.Author.Rules.{rules}
 use Prim.Native.Nat.{ℕ}
 use mathlib.Core.List.{List, ◌++◌}
 use mathlib.Core.Path.{sym, ap, ◌∙◌, refl}

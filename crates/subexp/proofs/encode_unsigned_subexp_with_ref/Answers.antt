@@ -1,5 +1,4 @@
 -- `subexp::encode_unsigned_subexp_with_ref`: a symbol's bits are those of its code number. Assumes nothing.
-use borrow.Author.Rules.{rules}
 use mathlib.Core.Path.{ap, sym}
 use native.Mathlib.Omega.{arith}
 use Rattle.bits.proofs.Buffer.{wrote_as, room_as}

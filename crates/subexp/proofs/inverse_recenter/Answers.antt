@@ -1,5 +1,4 @@
 -- `subexp::inverse_recenter`: the tests are the definition's, and each return is the arm that they choose. Assumes nothing.
-use borrow.Author.Rules.{rules}
 use mathlib.Core.Path.{sym}
 use Rattle.subexp.proofs.Centring.{inverse-far, inverse-even, inverse-odd}
 use Rattle.subexp.proofs.inverse_recenter.Goals as goal

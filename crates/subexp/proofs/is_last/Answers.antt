@@ -1,5 +1,4 @@
 -- `subexp::is_last`: the clause's own test, with the rung's start and step. Assumes nothing.
-use borrow.Author.Rules.{rules}
 use Rattle.subexp.proofs.is_last.Goals as goal
 
 pub returns : goal.returns

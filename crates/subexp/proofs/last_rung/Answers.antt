@@ -1,5 +1,4 @@
 -- `subexp::last_rung`: behind the first rung each reaches as far as a power of two. Assumes nothing.
-use borrow.Author.Rules.{rules}
 use Prim.Native.Nat.{◌<◌}
 use native.Mathlib.Omega.{arith}
 use Rattle.subexp.proofs.Window.{last-first, last-later}

@@ -1,5 +1,4 @@
 -- `subexp::recenter`: the tests are the definition's, and each return is the arm that they choose. Assumes nothing.
-use borrow.Author.Rules.{rules}
 use mathlib.Core.Path.{sym}
 use Rattle.subexp.proofs.Centring.{recenter-far, recenter-even, recenter-odd}
 use Rattle.subexp.proofs.recenter.Goals as goal

@@ -1,5 +1,4 @@
 -- `subexp::rung_bits`: three bits, and from the second rung on one more for each. Assumes nothing.
-use borrow.Author.Rules.{rules}
 use native.Mathlib.Omega.{arith}
 use Rattle.subexp.proofs.Rungs.{later-bits}
 use Rattle.subexp.proofs.rung_bits.Goals as goal

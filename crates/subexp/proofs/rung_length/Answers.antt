@@ -1,11 +1,8 @@
 -- `subexp::rung_length`: the last rung takes the ns code's width, the others a zero and the number's bits. Assumes nothing.
-use borrow.Author.Rules.{rules}
 use Prim.Native.Nat.{◌-◌}
-use mathlib.Core.List.{List}
-use mathlib.Core.Path.{◌≡◌, sym, ap, ◌∙◌}
+use mathlib.Core.Path.{sym, ap, ◌∙◌}
 use native.Mathlib.Omega.{arith}
 use lib.ListN.{length}
-use Rattle.bits.specs.Fields.{field_bits}
 use Rattle.bits.specs.Ns.{ns_bits}
 use Rattle.bits.proofs.Fields.{length-field_bits}
 use Rattle.bits.proofs.Words.{field-length}

@@ -1,5 +1,4 @@
 -- `subexp::rung_of`: no climb goes past the last rung, nor past the one that begins with the number's highest bit. Assumes nothing.
-use borrow.Author.Rules.{rules}
 use native.Mathlib.Omega.{arith}
 use Rattle.subexp.proofs.Straight.{first-rung, four, by_length, by_last}
 use Rattle.subexp.proofs.rung_of.Goals as goal

@@ -1,5 +1,4 @@
 -- `subexp::rung_start`: behind the first rung, start and step are one. Assumes nothing.
-use borrow.Author.Rules.{rules}
 use mathlib.Core.Path.{◌∙◌}
 use Rattle.subexp.proofs.Rungs.{later-start}
 use Rattle.subexp.proofs.rung_start.Goals as goal

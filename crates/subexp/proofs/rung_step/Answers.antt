@@ -1,5 +1,4 @@
 -- `subexp::rung_step`: a rung's step is 2 to its bits. Assumes nothing.
-use borrow.Author.Rules.{rules}
 use Prim.Native.Nat.{ℕ, ◌^◌}
 use mathlib.Core.Path.{ap, ◌∙◌}
 use native.Mathlib.Omega.{arith}

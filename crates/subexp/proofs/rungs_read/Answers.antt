@@ -1,5 +1,4 @@
 -- `subexp::rungs_read`: the climb chooses the definition's arm, and what is read counts from the rung's start. Assumes nothing.
-use borrow.Author.Rules.{rules}
 use Prim.Native.Nat.{◌-◌}
 use mathlib.Core.Path.{◌∙◌}
 use native.Mathlib.Omega.{arith}

@@ -1,5 +1,4 @@
 -- `subexp::subexp_length`: a bit for each rung passed, and the code on the rung reached. Assumes nothing.
-use borrow.Author.Rules.{rules}
 use Prim.Native.Nat.{ℕ}
 use mathlib.Core.Path.{ap}
 use native.Mathlib.Omega.{arith}

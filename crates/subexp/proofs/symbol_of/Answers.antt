@@ -1,5 +1,4 @@
 -- `subexp::symbol_of`: the middle decides which end is counted from, and the result is a symbol. Assumes nothing.
-use borrow.Author.Rules.{rules}
 use Prim.Native.Nat.{ℕ, ◌-◌}
 use mathlib.Core.Path.{◌≡◌, ap, sym, ◌∙◌}
 use native.Mathlib.Omega.{arith}

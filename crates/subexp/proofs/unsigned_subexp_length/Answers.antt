@@ -1,5 +1,4 @@
 -- `subexp::unsigned_subexp_length`: a symbol's bits are those of its code number. Assumes nothing.
-use borrow.Author.Rules.{rules}
 use Prim.Native.Nat.{ℕ}
 use mathlib.Core.Path.{ap, ◌∙◌}
 use lib.ListN.{length}

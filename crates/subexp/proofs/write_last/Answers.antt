@@ -1,5 +1,4 @@
 -- `subexp::write_last`: the ones are a field, and the ns code stands right behind them. Assumes nothing.
-use borrow.Author.Rules.{rules}
 use Prim.Native.Nat.{◌-◌}
 use native.Mathlib.Omega.{arith}
 use lib.Pow.{pow_pos}

@@ -1,5 +1,4 @@
 -- `subexp::write_stop`: the ones and the zero are a field, and the number's bits stand right behind them. Assumes nothing.
-use borrow.Author.Rules.{rules}
 use Prim.Native.Nat.{ℕ, ◌+◌, ◌-◌, ◌*◌, ◌^◌, ◌≤◌}
 use native.Mathlib.Omega.{arith}
 use lib.Pow.{pow_pos, pow_mono}

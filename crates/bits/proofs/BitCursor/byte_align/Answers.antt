@@ -1,5 +1,4 @@
 -- `bits::BitCursor::byte_align`: zeros as many as the position lacks to a whole byte are the padding. Assumes nothing.
-use borrow.Author.Rules.{rules}
 use native.Mathlib.Omega.{arith}
 use Rattle.bits.specs.Fields.{padding}
 use Rattle.bits.proofs.Fields.{length-field_bits}

@@ -1,6 +1,5 @@
 -- `bits::BitCursor::write_bits`: a field that begins with a byte is put as it is; one in the middle of a byte is put together with the byte's bits
 -- before it, which are put where they are. Assumes nothing.
-use borrow.Author.Rules.{rules}
 use Prim.Native.Nat.{ℕ, ◌+◌, ◌*◌, ◌/◌, ◌%◌}
 use mathlib.Core.Path.{◌≡◌, ap, sym, ◌∙◌}
 use native.Mathlib.Omega.{arith}

@@ -1,5 +1,4 @@
 -- `bits::BitCursor::write_ns`: the code is one field. Assumes nothing.
-use borrow.Author.Rules.{rules}
 use native.Mathlib.Omega.{arith}
 use Rattle.bits.specs.Ns.{ns_bits}
 use Rattle.bits.proofs.Buffer.{wrote_as}

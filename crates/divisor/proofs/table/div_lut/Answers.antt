@@ -1,6 +1,5 @@
 -- `div_lut`: the table follows its rule.
 -- Assumes nothing.
-use borrow.Author.Rules.{rules}
 use native.Mathlib.Omega.{arith}
 use Rattle.divisor.proofs.DivLut.{table-follows, entry-small}
 use Rattle.divisor.proofs.table.div_lut.Goals as goal
