@@ -1,6 +1,6 @@
 -- `worked_by_class::failures`: a case counts at most one failure, so the count stays below the number of cases.
 -- Assumes nothing.
-use Rattle.std.proofs.Common.{◌≤◌, ◌-◌, rules}
+use Rattle.std.proofs.Common.{◌≤◌, ◌-◌}
 use Rattle.worked_by_class.proofs.failures.Given as goal
 
 abbrev pub invariant-loop-case : goal.invariant-loop-case
