@@ -7,7 +7,7 @@ use mathlib.Core.Path.{◌≡◌, refl, ap, sym, ◌∙◌, subst}
 use native.Mathlib.Nat.{add-zero, mod-eq_of_lt, mod-lt, mod-one, zero-mul, zero-add}
 use native.Mathlib.Omega.{arith}
 use lib.ListN.{length, get_or, set}
-use lib.Pow.{pow_pos, pow-add, split, high, low, mod-mod-pow, mod-pow-add}
+use lib.Pow.{pow_pos, pow-add, split, high, mod-mod-pow, mod-pow-add}
 use lib.Seq.{set-get_or, set-set, get_or-set_same, lt-length-set}
 use Rattle.five_bytes.specs.Inner.{five_of}
 use Rattle.bits.specs.Bits.{bit_at, bit_of, with_bit, put_bit, put_bits}

@@ -13,7 +13,7 @@ use Rattle.laws.proofs.Cases.{lt-or-le}
 use Rattle.bits.specs.Bits.{bit_at}
 use Rattle.header.specs.Reading.{ReadModels, models_read}
 use Rattle.header_read.specs.Called.{no_models, models}
-use Rattle.header_read.specs.Inner.{within, PriorsReady}
+use Rattle.header_read.specs.Inner.{PriorsReady}
 use Rattle.header_read.proofs.Answers.{read-or-ended}
 use Rattle.header_read.proofs.Shift.{read_same}
 

@@ -1,5 +1,4 @@
 use Prim.Native.Nat.{◌+◌}
-use mathlib.Core.Bool.{false}
 use mathlib.Core.Path.{refl, sym, ◌∙◌}
 use native.Mathlib.Omega.{arith}
 use lib.ListN.{length}
