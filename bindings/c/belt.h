@@ -1,5 +1,5 @@
 /* SPDX-License-Identifier: MIT */
-/* The proved library's calls (crates/belt, lent_fit, lent_trim, lent_elect and lent_sets), for C and C++ on x86-64 Linux.
+/* The proved library's calls (crates/belt), for C and C++ on x86-64 Linux.
    docs/C.md is a page to begin with. docs/RULES.md has the rules: what a plane, a sample word, a block, a model and a
    header are, bit by bit; names in quotes are its sections.
    belt_motion.h beside this file reads words and models in pels.

@@ -1,5 +1,4 @@
-"""The shared library's declarations, by ctypes: every call and struct of crates/belt, lent_fit, lent_trim, lent_elect and
-lent_sets, the version, and no more.
+"""The shared library's declarations, by ctypes: every call and struct of crates/belt, the version, and no more.
 
 `bindings/declarations` holds them to the library's own.
 """
