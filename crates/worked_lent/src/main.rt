@@ -1,4 +1,4 @@
-// Tries the reader that is walked by hand against the core it stands over, on inputs from the generator:
+// Tries the reader that holds its bytes against the core it stands over, on inputs from the generator:
 // seven models by a reader against slice and position.
 #![tactic(auto)]
 
