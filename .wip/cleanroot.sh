@@ -6,7 +6,7 @@ cp -a /etc/apt/apt.conf.d/. $R/etc/apt/apt.conf.d/ 2>/dev/null || true
 cat /etc/apt/sources.list /etc/apt/sources.list.d/*.list 2>/dev/null > $R/etc/apt/sources.list || true
 cp -a /etc/apt/sources.list.d/. $R/etc/apt/sources.list.d/ 2>/dev/null || true
 cp /etc/resolv.conf $R/etc/ 2>/dev/null || true
-mkdir $R/src $R/lib-built; git -C /work/land2 archive land3 | tar -x -C $R/src; cp /work/land2/target/library/libbelt.a $R/lib-built/
+mkdir $R/src $R/lib-built; git -C "$1" archive HEAD | tar -x -C $R/src; cp "$1"/target/library/libbelt.a $R/lib-built/
 mount -t proc proc $R/proc; mount --bind /dev $R/dev
 date
 time chroot $R env -i PATH=/usr/sbin:/usr/bin:/sbin:/bin HOME=/root http_proxy="${http_proxy:-}" https_proxy="${https_proxy:-}" BELT_LIB=/lib-built /src/tools/install
