@@ -290,5 +290,5 @@ pub fn refusal_of(
     if room != 0 {
         return room;
     }
-    frame_number::refusal_of(settings.frame)
+    refusal::refusal_number(frame_number::refusal_of(settings.frame))
 }
