@@ -61,7 +61,7 @@ pub struct SlotOrder {
 
 // A row of the table of refusals (0: none), and the quantized number.
 #[repr(C)]
-#[derive(Clone, Copy)]
+#[derive(Clone, Copy, Debug, PartialEq, Eq)]
 pub struct Quantized {
     pub refusal: u32,
     pub value: i32,

@@ -37,7 +37,7 @@ const PRIOR_OUT: u32 = 8;
 
 // A row of the table of refusals (0: none), and the bits written.
 #[repr(C)]
-#[derive(Clone, Copy)]
+#[derive(Clone, Copy, Debug, PartialEq, Eq)]
 pub struct Written {
     pub refusal: u32,
     pub bits: usize,

@@ -34,7 +34,7 @@ const ENDS_FIRST: u32 = 9;
 
 // A row of the table of refusals (0: none), the seven types and models, and the bits consumed.
 #[repr(C)]
-#[derive(Clone, Copy)]
+#[derive(Clone, Copy, Debug, PartialEq, Eq)]
 pub struct Models {
     pub refusal: u32,
     pub types: [u8; 7],

@@ -21,7 +21,7 @@ const TOO_SHORT: u32 = 3;
 
 // The refusal's number, 0 for none, and how many pels each plane has.
 #[repr(C)]
-#[derive(Clone, Copy)]
+#[derive(Clone, Copy, Debug, PartialEq, Eq)]
 pub struct Made {
     pub refusal: u32,
     pub pels: usize,

@@ -39,7 +39,7 @@ const PRIOR_OUT: u32 = 8;
 // A row of the table of refusals (0: none); how many lengths are listed; the ordinals whose code has 4
 // bits, 5 and so on, and zeros behind the last length.
 #[repr(C)]
-#[derive(Clone, Copy)]
+#[derive(Clone, Copy, Debug, PartialEq, Eq)]
 pub struct PriceList {
     pub refusal: u32,
     pub lengths: usize,
@@ -48,7 +48,7 @@ pub struct PriceList {
 
 // A row of the table of refusals (0: none), and the bits that a frame's header takes.
 #[repr(C)]
-#[derive(Clone, Copy)]
+#[derive(Clone, Copy, Debug, PartialEq, Eq)]
 pub struct Price {
     pub refusal: u32,
     pub bits: usize,

@@ -42,7 +42,7 @@ pub struct Refitting {
 
 // A row of the table of refusals (0: none), and the quantized model, x first.
 #[repr(C)]
-#[derive(Clone, Copy)]
+#[derive(Clone, Copy, Debug, PartialEq, Eq)]
 pub struct Quantized {
     pub refusal: u32,
     pub params: [i32; 6],

@@ -19,7 +19,7 @@ const NO_SUCH_CODE: u32 = 4;
 const PRIOR_OUT: u32 = 8;
 
 #[repr(C)]
-#[derive(Clone, Copy)]
+#[derive(Clone, Copy, Debug, PartialEq, Eq)]
 pub struct Run {
     pub prior: [i32; 42],
     pub flag: u8,

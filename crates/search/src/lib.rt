@@ -18,7 +18,7 @@ pub mod refusals; // refusals.rt: the rows of the table
 
 // The refusal's number, 0 for none, how many samples were found, and how many rows were added.
 #[repr(C)]
-#[derive(Clone, Copy)]
+#[derive(Clone, Copy, Debug, PartialEq, Eq)]
 pub struct Searched {
     pub refusal: u32,
     pub samples: usize,

@@ -21,7 +21,7 @@ const OFF_THE_GRID: u32 = 7;
 // A row of the table of refusals (0: none); whether a decoder keeps the warp; the shear numbers,
 // whether it does or not.
 #[repr(C)]
-#[derive(Clone, Copy)]
+#[derive(Clone, Copy, Debug, PartialEq, Eq)]
 pub struct Shear {
     pub refusal: u32,
     pub valid: u32,

@@ -46,7 +46,7 @@ pub struct Trimmed {
 // A row of the table of refusals (0: none), how many samples the last fit used, and its model on the
 // grid, x first.
 #[repr(C)]
-#[derive(Clone, Copy)]
+#[derive(Clone, Copy, Debug, PartialEq, Eq)]
 pub struct TrimmedModel {
     pub refusal: u32,
     pub used: u32,
