@@ -4,6 +4,8 @@
 #![tactic(auto)]
 
 ghost use Rattle.std.specs.Prelude.{◌≡◌, length};
+ghost use Rattle.laws.specs.Call.{left};
+ghost use Rattle.run.specs.Run.{run_of};
 ghost use Rattle.job_task.specs.Task.{lend};
 ghost use Rattle.job_outcome.specs.Outcome.{ended};
 ghost use Rattle.run_job.specs.Store.{stored_in_run, stored_in_run_left};
@@ -13,6 +15,7 @@ ghost use Rattle.run_job.specs.Words.{asked_of, WordsDoneIn};
 
 use block::Stored;
 use job::{Report, Settings};
+use job_task::{Handed, Pair};
 use run::Run;
 
 #[repr(C)]
@@ -46,16 +49,20 @@ pub fn store(run: Run, frame: u16, words: &[u32], classes: &[u8], blocks: &mut [
 fn with_flag(settings: Settings, flag: u8) -> Settings
     ensures { result ≡ with_flag settings flag }
 {
-    Settings {
-        frame: settings.frame,
-        gm_type: settings.gm_type,
-        reference: settings.reference,
-        flag,
-        trim: settings.trim,
-        elect: settings.elect,
-        set: settings.set,
-        start: settings.start,
+    Settings { flag, ..settings }
+}
+
+// An accepted job's seven models are the next prior; a refused one moves nothing.
+fn stepped(run: Run, report: Report) -> JobDone
+    ensures same { result.report ≡ report }
+    ensures run_after { result.run ≡ left report.refusal (run_of report.models run.flag run.form) run }
+{
+    if report.refusal != 0 {
+        return JobDone { report, run };
     }
+    let moved = report.models;
+    let next = run::step_to(run, moved);
+    JobDone { report, run: next }
 }
 
 // A job with the run's prior, flag and form: the flag of its settings isn't looked at.
@@ -82,29 +89,22 @@ pub fn job_in_run(
         result.run }
 {
     let prior = run.prior;
-    let report = job::job_in(
+    let pair = Pair {
         input,
         reference,
         width,
         height,
-        with_flag(settings, run.flag),
-        run.form,
+    };
+    let handed = Handed {
+        settings: with_flag(settings, run.flag),
+        form: run.form,
         classes,
         types,
         models,
-        &prior,
-        input_half,
-        ref_half,
-        words,
-        blocks,
-        header,
-    );
-    if report.refusal != 0 {
-        return JobDone { report, run };
-    }
-    let moved = report.models;
-    let next = run::step_to(run, moved);
-    JobDone { report, run: next }
+        prior: &prior,
+    };
+    let report = job::job_in(pair, handed, input_half, ref_half, words, blocks, header);
+    stepped(run, report)
 }
 
 // A job of words with the run's prior, flag and form: the flag of its settings isn't looked at.
@@ -125,22 +125,14 @@ pub fn job_of_words_in_run(
         result.run }
 {
     let prior = run.prior;
-    let form = run.form;
-    let report = words_job::job_of_words_in(
-        words,
-        with_flag(settings, run.flag),
-        form,
+    let handed = Handed {
+        settings: with_flag(settings, run.flag),
+        form: run.form,
         classes,
         types,
         models,
-        &prior,
-        blocks,
-        header,
-    );
-    if report.refusal != 0 {
-        return JobDone { report, run };
-    }
-    let moved = report.models;
-    let after = run::step_to(run, moved);
-    JobDone { report, run: after }
+        prior: &prior,
+    };
+    let report = words_job::job_of_words_in(words, handed, blocks, header);
+    stepped(run, report)
 }
