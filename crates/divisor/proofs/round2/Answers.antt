@@ -9,10 +9,10 @@ use Rattle.divisor.specs.Rounding.{round2}
 use Rattle.divisor.proofs.round2.Goals as goal
 
 pub nonzero_div-result-2 : goal.nonzero_div-result-2
-nonzero_div-result-2 c = rw c.power_of_two-divisor.ensures (pow_pos c.args.n)
+nonzero_div-result-2 c = rw c.wide_power-divisor.ensures (pow_pos c.args.n)
 
 pub returns : goal.returns
 unfolding round2
 returns c = let a = c.args in
-    rw c.power_of_two-divisor.ensures
+    rw c.wide_power-divisor.ensures
     (record { is = refl; small = omega (arith, c.requires.small, pow_mono {j = 32} c.requires.places, div-le_self (a.x + 2 ^ a.n / 2) (2 ^ a.n)) })
