@@ -52,20 +52,14 @@ fn is_identity(params: [i32; 6]) -> bool
 fn invalid_shear(gm_type: u8, params: [i32; 6]) -> bool
     ensures { result ≡ invalid_shear gm_type params }
 {
-    if gm_type < ROTZOOM {
-        return false;
-    }
-    let shear = shear::setup_shear(gm_type, &params);
-    shear.valid == 0
+    gm_type >= ROTZOOM && shear::setup_shear(gm_type, &params).valid == 0
 }
 
+#[tactic(auto, unfolding(crate::specs::Elect::unfit))]
 pub fn unfit(gm_type: u8, params: [i32; 6]) -> bool
     ensures { result ≡ unfit gm_type params }
 {
-    if is_identity(params) {
-        return true;
-    }
-    invalid_shear(gm_type, params)
+    is_identity(params) || invalid_shear(gm_type, params)
 }
 
 // ---- who is held
@@ -73,11 +67,10 @@ pub fn unfit(gm_type: u8, params: [i32; 6]) -> bool
 pub fn nobody(energy: f64) -> Elected
     ensures { result ≡ nobody energy }
 {
-    let params = identity_params();
     Elected {
         refusal: 0,
         gm_type: IDENTITY,
-        params,
+        params: identity_params(),
         score: energy,
     }
 }
@@ -86,11 +79,10 @@ pub fn nobody(energy: f64) -> Elected
 pub fn stopped(number: u32) -> Elected
     ensures { result ≡ stopped number }
 {
-    let params = [0i32; 6];
     Elected {
         refusal: number,
         gm_type: IDENTITY,
-        params,
+        params: [0; 6],
         score: 0.0,
     }
 }
@@ -98,13 +90,8 @@ pub fn stopped(number: u32) -> Elected
 fn beats(err: f64, held: Elected) -> bool
     ensures { result ≡ beats err held }
 {
-    if held.gm_type == IDENTITY {
-        return true;
-    }
-    if err <= CLASS_UPGRADE_RATIO * held.score {
-        return CLASS_UPGRADE_MIN_GAIN < held.score - err;
-    }
-    false
+    held.gm_type == IDENTITY
+        || (err <= CLASS_UPGRADE_RATIO * held.score && CLASS_UPGRADE_MIN_GAIN < held.score - err)
 }
 
 pub fn held_after(energy: f64, held: Elected, gm_type: u8, params: [i32; 6], err: f64) -> Elected
@@ -127,13 +114,9 @@ pub fn held_after(energy: f64, held: Elected, gm_type: u8, params: [i32; 6], err
 pub fn as_stored(held: Elected) -> Elected
     ensures { result ≡ as_stored held }
 {
-    let own = held.params;
-    let params = quantize::row_first(held.gm_type, own);
     Elected {
-        refusal: held.refusal,
-        gm_type: held.gm_type,
-        params,
-        score: held.score,
+        params: quantize::row_first(held.gm_type, held.params),
+        ..held
     }
 }
 

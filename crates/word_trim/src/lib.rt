@@ -29,10 +29,8 @@ fn residuals(fitted: Fitted, words: &[u32], squares: &mut [f64])
 {
     let m = trim::continuous_fit(fitted);
     let centres = sample::centres();
-    let mut i = 0usize;
-    while i < words.len() {
+    for i in 0..words.len() {
         squares[i] = score::residual(m, sample::sample_by(&centres, words[i]));
-        i += 1;
     }
 }
 
@@ -44,13 +42,11 @@ fn keep(words: &[u32], squares: &[f64], limit: f64, kept: &mut [u32]) -> usize
     ensures kept_len_unchanged { length kept.new ≡ length kept.old }
 {
     let mut n = 0usize;
-    let mut i = 0usize;
-    while i < words.len() {
+    for i in 0..words.len() {
         kept[n] = words[i];
         if squares[i] <= limit {
             n += 1;
         }
-        i += 1;
     }
     n
 }

@@ -10,6 +10,3 @@ use Rattle.held_trim.proofs.count_under.Given as goal
 
 abbrev pub invariant-loop-i : goal.invariant-loop-i
 invariant-loop-i l = (l.i ≤ l.n) × (l.count ≤ l.i) × (fold (count_step l.squares l.limit) (drop l.i (up_to l.n)) l.count ≡ fold (count_step l.squares l.limit) (up_to l.n) 0)
-
-abbrev pub decreases-loop-i : goal.decreases-loop-i
-decreases-loop-i l = l.n - l.i

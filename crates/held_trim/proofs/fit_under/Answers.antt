@@ -31,9 +31,9 @@ returns-then-gm_type-eq-TRANSLATION c = let s = c.before in
     let a = s.args in
     let sums = c.translation_under in
     let ends = c.translation_ends in
-    let kept = sums_of (sample_at a.numbers.now) (under a.squares.now a.limit a.n) in
+    let kept = sums_of (sample_at a.samples.now) (under a.squares.now a.limit (length a.samples.now)) in
     rw (eq-eqb _ _ c.if-gm_type-eq-TRANSLATION.true)
-    (ended translation_of a.squares.now a.limit a.n a.used sums.result (translation_totals kept) ends.result s.requires sums.ensures ends.ensures)
+    (ended translation_of a.squares.now a.limit (length a.samples.now) a.used sums.result (translation_totals kept) ends.result s.requires sums.ensures ends.ensures)
 
 pub returns-then-gm_type-eq-ROTZOOM : goal.returns-then-gm_type-eq-ROTZOOM
 unfolding rot_zoom_from
@@ -41,9 +41,9 @@ returns-then-gm_type-eq-ROTZOOM c = let s = c.before in
     let a = s.args in
     let sums = c.rotzoom_under in
     let ends = c.rotzoom_ends in
-    let kept = sums_of (sample_at a.numbers.now) (under a.squares.now a.limit a.n) in
+    let kept = sums_of (sample_at a.samples.now) (under a.squares.now a.limit (length a.samples.now)) in
     rw (ne_eqb _ _ c.if-gm_type-eq-TRANSLATION.false, eq-eqb _ _ c.if-gm_type-eq-ROTZOOM.true)
-    (ended rot_zoom_of a.squares.now a.limit a.n a.used sums.result (rot_zoom_totals kept) ends.result s.requires sums.ensures ends.ensures)
+    (ended rot_zoom_of a.squares.now a.limit (length a.samples.now) a.used sums.result (rot_zoom_totals kept) ends.result s.requires sums.ensures ends.ensures)
 
 pub returns : goal.returns
 unfolding affine_from
@@ -51,6 +51,6 @@ returns c = let s = c.before in
     let a = s.args in
     let sums = c.affine_under in
     let ends = c.affine_ends in
-    let kept = sums_of (sample_at a.numbers.now) (under a.squares.now a.limit a.n) in
+    let kept = sums_of (sample_at a.samples.now) (under a.squares.now a.limit (length a.samples.now)) in
     rw (ne_eqb _ _ c.if-gm_type-eq-TRANSLATION.false, ne_eqb _ _ c.if-gm_type-eq-ROTZOOM.false)
-    (ended affine_of a.squares.now a.limit a.n a.used sums.result (affine_totals kept) ends.result s.requires sums.ensures ends.ensures)
+    (ended affine_of a.squares.now a.limit (length a.samples.now) a.used sums.result (affine_totals kept) ends.result s.requires sums.ensures ends.ensures)

@@ -1,3 +1,4 @@
+use lib.ListN.{length}
 use mathlib.Core.Path.{refl, ap, ◌∙◌}
 use Rattle.laws.specs.Loops.{fold}
 use Rattle.fit.specs.Sums.{no_sums, rot_zoom_totals}
@@ -15,17 +16,17 @@ loop-i-init c = refl
 pub loop-i-preserved : goal.loop-i-preserved
 loop-i-preserved c = let a = c.args in
     let l = c.loop-i in
-    index-again (under_step rot_zoom_step a.numbers.now a.squares.now a.limit) c.loop-i-test.true
+    index-again (under_step rot_zoom_step a.samples.now a.squares.now a.limit) c.loop-i-test.true
     (elim c.if-squares-i.branch [
-      | then-squares-i w ↦ turn-taken rot_zoom_step a.numbers.now a.squares.now a.limit l.i l.t c.if-squares-i.t w.if-squares-i.true (w.t-is ∙ w.rotzoom_step-t.ensures ∙ ap (rot_zoom_step l.t) w.sample_at.ensures)
-      | else-squares-i w ↦ turn-passed rot_zoom_step a.numbers.now a.squares.now a.limit l.i l.t c.if-squares-i.t w.if-squares-i.false w.t-is
+      | then-squares-i w ↦ turn-taken rot_zoom_step a.samples.now a.squares.now a.limit l.i l.t c.if-squares-i.t w.if-squares-i.true (w.t-is ∙ w.rotzoom_step-t.ensures)
+      | else-squares-i w ↦ turn-passed rot_zoom_step a.samples.now a.squares.now a.limit l.i l.t c.if-squares-i.t w.if-squares-i.false w.t-is
     ])
     l.invariant
 
 pub returns : goal.returns
 returns c = let a = c.args in
-    let steps = under_step rot_zoom_step a.numbers.now a.squares.now a.limit in
+    let steps = under_step rot_zoom_step a.samples.now a.squares.now a.limit in
     index-done steps c.loop-i-test.false c.loop-i.invariant
-    ∙ ap (fold steps (up_to a.n)) c.rotzoom_begin-t.ensures
-    ∙ under-fold rot_zoom_step a.numbers.now a.squares.now a.limit a.n (rot_zoom_totals no_sums)
-    ∙ rot_zoom-sums (sample_at a.numbers.now) (under a.squares.now a.limit a.n)
+    ∙ ap (fold steps (up_to (length a.samples.now))) c.rotzoom_begin-t.ensures
+    ∙ under-fold rot_zoom_step a.samples.now a.squares.now a.limit (length a.samples.now) (rot_zoom_totals no_sums)
+    ∙ rot_zoom-sums (sample_at a.samples.now) (under a.squares.now a.limit (length a.samples.now))

@@ -1,5 +1,6 @@
 -- `held_trim::rotzoom_under`: what is left to add, from here as from the first sample; where the square is above the limit nothing is added.
 -- Assumes nothing.
+use lib.ListN.{length}
 use Prim.Native.Nat.{◌-◌}
 use mathlib.Core.Path.{◌≡◌}
 use lib.ListN.{drop}
@@ -10,7 +11,4 @@ use Rattle.trim.proofs.Under.{under_step}
 use Rattle.held_trim.proofs.rotzoom_under.Given as goal
 
 abbrev pub invariant-loop-i : goal.invariant-loop-i
-invariant-loop-i l = fold (under_step rot_zoom_step l.numbers l.squares l.limit) (drop l.i (up_to l.n)) l.t ≡ fold (under_step rot_zoom_step l.numbers l.squares l.limit) (up_to l.n) l.initial.t
-
-abbrev pub decreases-loop-i : goal.decreases-loop-i
-decreases-loop-i l = l.n - l.i
+invariant-loop-i l = fold (under_step rot_zoom_step l.samples l.squares l.limit) (drop l.i (up_to (length l.samples))) l.t ≡ fold (under_step rot_zoom_step l.samples l.squares l.limit) (up_to (length l.samples)) l.initial.t

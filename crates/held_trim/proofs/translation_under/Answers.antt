@@ -1,3 +1,4 @@
+use lib.ListN.{length}
 use mathlib.Core.Path.{refl, ap, ◌∙◌}
 use Rattle.laws.specs.Loops.{fold}
 use Rattle.fit.specs.Sums.{no_sums, translation_totals}
@@ -15,17 +16,17 @@ loop-i-init c = refl
 pub loop-i-preserved : goal.loop-i-preserved
 loop-i-preserved c = let a = c.args in
     let l = c.loop-i in
-    index-again (under_step translation_step a.numbers.now a.squares.now a.limit) c.loop-i-test.true
+    index-again (under_step translation_step a.samples.now a.squares.now a.limit) c.loop-i-test.true
     (elim c.if-squares-i.branch [
-      | then-squares-i w ↦ turn-taken translation_step a.numbers.now a.squares.now a.limit l.i l.t c.if-squares-i.t w.if-squares-i.true (w.t-is ∙ w.translation_step-t.ensures ∙ ap (translation_step l.t) w.sample_at.ensures)
-      | else-squares-i w ↦ turn-passed translation_step a.numbers.now a.squares.now a.limit l.i l.t c.if-squares-i.t w.if-squares-i.false w.t-is
+      | then-squares-i w ↦ turn-taken translation_step a.samples.now a.squares.now a.limit l.i l.t c.if-squares-i.t w.if-squares-i.true (w.t-is ∙ w.translation_step-t.ensures)
+      | else-squares-i w ↦ turn-passed translation_step a.samples.now a.squares.now a.limit l.i l.t c.if-squares-i.t w.if-squares-i.false w.t-is
     ])
     l.invariant
 
 pub returns : goal.returns
 returns c = let a = c.args in
-    let steps = under_step translation_step a.numbers.now a.squares.now a.limit in
+    let steps = under_step translation_step a.samples.now a.squares.now a.limit in
     index-done steps c.loop-i-test.false c.loop-i.invariant
-    ∙ ap (fold steps (up_to a.n)) c.translation_begin-t.ensures
-    ∙ under-fold translation_step a.numbers.now a.squares.now a.limit a.n (translation_totals no_sums)
-    ∙ translation-sums (sample_at a.numbers.now) (under a.squares.now a.limit a.n)
+    ∙ ap (fold steps (up_to (length a.samples.now))) c.translation_begin-t.ensures
+    ∙ under-fold translation_step a.samples.now a.squares.now a.limit (length a.samples.now) (translation_totals no_sums)
+    ∙ translation-sums (sample_at a.samples.now) (under a.squares.now a.limit (length a.samples.now))

@@ -11,6 +11,3 @@ use Rattle.named_samples.proofs.translation_named.Given as goal
 
 abbrev pub invariant-loop-i : goal.invariant-loop-i
 invariant-loop-i l = fold_from l.set l.samples l.classes translation_step l.i l.t ≡ fold translation_step (named_samples l.set l.samples l.classes) l.initial.t
-
-abbrev pub decreases-loop-i : goal.decreases-loop-i
-decreases-loop-i l = length l.samples - l.i
