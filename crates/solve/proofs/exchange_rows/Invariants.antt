@@ -8,6 +8,3 @@ use Rattle.solve.proofs.exchange_rows.Given as goal
 
 abbrev pub invariant-loop-k : goal.invariant-loop-k
 invariant-loop-k l = run (exchange_at l.first l.second) l.k l.size l.a ≡ run (exchange_at l.first l.second) l.initial.k l.size l.initial.a
-
-abbrev pub decreases-loop-k : goal.decreases-loop-k
-decreases-loop-k l = l.size - l.k

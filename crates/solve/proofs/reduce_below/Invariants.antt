@@ -8,6 +8,3 @@ use Rattle.solve.proofs.reduce_below.Given as goal
 
 abbrev pub invariant-loop-row : goal.invariant-loop-row
 invariant-loop-row l = run (reduce_row l.size l.col) l.row l.size (system l.a l.b) ≡ run (reduce_row l.size l.col) l.initial.row l.size (system l.initial.a l.initial.b)
-
-abbrev pub decreases-loop-row : goal.decreases-loop-row
-decreases-loop-row l = l.size - l.row

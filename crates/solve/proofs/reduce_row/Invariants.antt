@@ -8,6 +8,3 @@ use Rattle.solve.proofs.reduce_row.Given as goal
 
 abbrev pub invariant-loop-k : goal.invariant-loop-k
 invariant-loop-k l = run (reduce_at l.col l.row l.factor) l.k l.size l.a ≡ run (reduce_at l.col l.row l.factor) l.initial.k l.size l.initial.a
-
-abbrev pub decreases-loop-k : goal.decreases-loop-k
-decreases-loop-k l = l.size - l.k
