@@ -125,7 +125,7 @@ pub fn as_stored(held: Elected) -> Elected
 pub fn elect_refusal(flag: u8, samples: usize) -> u32
     ensures { result ≡ elect_refusal flag samples }
 {
-    let first = fit::list_refusal(samples);
+    let first = refusal::refusal_number(fit::list_refusal(samples));
     if first != 0 {
         return first;
     }

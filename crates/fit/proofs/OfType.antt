@@ -9,7 +9,7 @@ use lib.ListN.{length}
 use Rattle.laws.specs.Binary64.{◌⊕◌, one}
 use Rattle.sample.specs.declared.MotionSample.{MotionSample}
 use Rattle.std.specs.Prelude.{Ok, Err}
-use Rattle.solve.specs.Elimination.{Outcome, solvable, singular, unless_singular}
+use Rattle.solve.specs.Elimination.{Outcome, unless_singular}
 use Rattle.solve.specs.Solution.{Solution, solved, number_of}
 use Rattle.fit.specs.declared.Fitted.{Fitted}
 use Rattle.fit.specs.declared.Fitted.TheVariants.{Refused, RotZoom, Affine}

@@ -33,6 +33,11 @@ pub const AFFINE: u8 = 3;
 // From so many words on a table of all motions spares more than it costs.
 const LONG_LIST: usize = 256;
 
+// Rows of the rules' table that callers name by their numbers.
+pub const TOO_MANY: u32 = 1;
+
+pub const NO_SUCH_CODE: u32 = 4;
+
 // A fitted model, its numbers by the slots of the standard. A rotation-zoom's m4 is −m3 and its m5 is
 // m2.
 #[derive(Clone, Copy)]

@@ -203,7 +203,7 @@ fn model_refusal(fitted: Fitted, flag: u8) -> u32
 fn quantize_refusal(fitted: Fitted, flag: u8, samples: usize) -> u32
     ensures { result ≡ quantize_refusal fitted flag samples }
 {
-    let first = fit::list_refusal(samples);
+    let first = refusal::refusal_number(fit::list_refusal(samples));
     if first != 0 {
         return first;
     }

@@ -75,7 +75,7 @@ pub fn score_step(m: ContinuousModel, acc: f64, s: MotionSample) -> f64
 pub fn score_of(acc: f64, samples: usize) -> Score
     ensures { result ≡ score_of acc samples }
 {
-    let refusal = fit::list_refusal(samples);
+    let refusal = refusal::refusal_number(fit::list_refusal(samples));
     if refusal != 0 {
         return Score {
             refusal,
@@ -135,7 +135,8 @@ fn residual_sum(m: ContinuousModel, words: &[u32]) -> f64
 pub fn mean_sq_residual(params: [i32; 6], words: &[u32]) -> Score
     ensures { result ≡ mean_sq_residual params words.now }
 {
-    if fit::list_refusal(words.len()) != 0 {
+    let refusal = refusal::refusal_number(fit::list_refusal(words.len()));
+    if refusal != 0 {
         return score_of(0.0, words.len());
     }
     score_of(

@@ -165,11 +165,7 @@ fn back_substitute(size: usize, a: &[f64; 16], b: &[f64; 4]) -> [f64; 4]
 
 // A matrix of three or four rows, four entries to a row, and its right side: the answer has the unknowns,
 // zeros after them.
-pub fn solve_linear(
-    size: usize,
-    a: &mut [f64; 16],
-    b: &mut [f64; 4],
-) -> Result<[f64; 4], Singular>
+pub fn solve_linear(size: usize, a: &mut [f64; 16], b: &mut [f64; 4]) -> Result<[f64; 4], Singular>
     requires { size ≤ 4 }
     ensures answer { solution_of result ≡ solved size (system a.old b.old) }
     ensures system_after { eliminating (system a.new b.new) (outcome_of result) ≡ eliminated size (system a.old b.old) }

@@ -216,7 +216,7 @@ fn few_refusal(gm_type: u8, samples: usize) -> u32
 pub fn list_refusal(gm_type: u8, samples: usize) -> u32
     ensures { result ≡ list_refusal gm_type samples }
 {
-    let first = fit::fit_refusal(gm_type, samples);
+    let first = refusal::refusal_number(fit::fit_refusal(gm_type, samples));
     if first != 0 {
         return first;
     }
@@ -226,7 +226,7 @@ pub fn list_refusal(gm_type: u8, samples: usize) -> u32
 pub fn model_refusal(gm_type: u8, flag: u8, samples: usize) -> u32
     ensures { result ≡ model_refusal gm_type flag samples }
 {
-    let first = fit::fit_refusal(gm_type, samples);
+    let first = refusal::refusal_number(fit::fit_refusal(gm_type, samples));
     if first != 0 {
         return first;
     }

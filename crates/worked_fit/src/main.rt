@@ -8,9 +8,9 @@ use fit::Fitted;
 use fit_numbers::FitAnswer;
 use lent_fit::{Params, ToQuantize};
 use lent_trim::ToTrim;
+use refusal::Refusal;
 use replay::List;
 use sample::MotionSample;
-use solve::Outcome;
 use std::io;
 use std::rt::Files;
 use trim::Trimmed;
@@ -373,26 +373,24 @@ fn next_entries(list: &mut List) -> Entries {
     Entries { a, b }
 }
 
-fn refusal_of_outcome(outcome: Outcome) -> u32 {
-    match outcome {
-        Outcome::Solved => 0,
-        Outcome::Singular => fit::SINGULAR,
-    }
-}
-
 fn replay_system(list: &mut List) -> bool {
     let size = (replay::next_word(list) % 5) as usize;
     let entries = next_entries(list);
     let mut a = entries.a;
     let mut b = entries.b;
-    let mut x = [0.0f64; 4];
-    let outcome = solve::solve_linear(size, &mut a, &mut b, &mut x);
+    let solved = solve::solve_linear(size, &mut a, &mut b);
+    let number = if solved.is_ok() {
+        0
+    } else {
+        Refusal::Singular.number()
+    };
+    let x = solved.unwrap_or([0.0; 4]);
     let refusal = replay::next_word(list);
     let x0 = replay::next_bits(list);
     let x1 = replay::next_bits(list);
     let x2 = replay::next_bits(list);
     let x3 = replay::next_bits(list);
-    refusal_of_outcome(outcome) == refusal
+    number == refusal
         && replay::same_float(x[0], x0)
         && replay::same_float(x[1], x1)
         && replay::same_float(x[2], x2)

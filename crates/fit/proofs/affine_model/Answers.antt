@@ -6,7 +6,7 @@ use lib.Ieee.{Float}
 use Rattle.laws.specs.Binary64.{nought}
 use Rattle.solve.specs.Elimination.{system, solvable}
 use Rattle.solve.specs.Solution.{Solution, solved}
-use Rattle.fit.specs.Fitted.{affine_model, affine_u, affine_v}
+use Rattle.fit.specs.Fitted.{affine_model, affine_u}
 use Rattle.fit.proofs.affine_model.Goals as goal
 
 pub returns : goal.returns

@@ -11,11 +11,11 @@ use Rattle.score.specs.Score.{continuous_model, score_step}
 use Rattle.score.specs.Inner.{residual_sum}
 use Rattle.score.proofs.mean_sq_residual.Goals as goal
 
-pub returns-then-list_refusal-ne0 : goal.returns-then-list_refusal-ne0
-returns-then-list_refusal-ne0 c = let a = c.args in
+pub returns-then-refusal-ne0 : goal.returns-then-refusal-ne0
+returns-then-refusal-ne0 c = let a = c.args in
     c.score_of.ensures
     ∙ refused-whatever-the-sum nought (fold (reading (score_step (continuous_model a.params)) sample_of) a.words.now nought) (length a.words.now)
-    (λ e. c.if-list_refusal-ne0.true (c.list_refusal.ensures ∙ e))
+    (λ e. c.if-refusal-ne0.true (c.refusal_number-refusal.ensures ∙ c.list_refusal.ensures ∙ e))
 
 pub returns : goal.returns
 unfolding residual_sum

@@ -1,6 +1,5 @@
 -- `solve::back_substitute`: what is left to find, from here as from the last row.
 -- Assumes nothing.
-use Prim.Native.Nat.{◌-◌}
 use Rattle.laws.specs.Loops.{run}
 use mathlib.Core.Path.{◌≡◌}
 use Rattle.solve.specs.Elimination.{system}

@@ -1,6 +1,5 @@
 -- `solve::eliminate`: what is left to eliminate, from here as from the first column; a refused column is the last.
 -- Assumes nothing.
-use Prim.Native.Nat.{◌-◌}
 use Rattle.laws.specs.Loops.{run}
 use mathlib.Core.Path.{◌≡◌}
 use Rattle.solve.specs.Elimination.{system, eliminating, column_step, solvable}

@@ -1,6 +1,5 @@
 -- `solve::eliminate_column`: the pivot found is the definition's, and its magnitude decides.
 -- Assumes nothing.
-use native.Mathlib.Omega.{arith}
 use Rattle.solve.proofs.Rows.{column-refused, column-passed}
 use Rattle.solve.specs.Elimination.{system}
 use Rattle.solve.proofs.eliminate_column.Goals as goal

@@ -1,6 +1,5 @@
 -- `solve::exchange`: a pivot that stands needs no exchange, and any other exchanges matrix and right side.
 -- Assumes nothing.
-use native.Mathlib.Omega.{arith}
 use lib.Ieee.{nan}
 use Rattle.solve.proofs.Rows.{stands, both-exchanged}
 use Rattle.solve.specs.Elimination.{system}

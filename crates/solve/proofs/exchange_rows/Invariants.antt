@@ -1,6 +1,5 @@
 -- `solve::exchange_rows`: what is left to exchange, from here as from the first column.
 -- Assumes nothing.
-use Prim.Native.Nat.{◌-◌}
 use Rattle.laws.specs.Loops.{run}
 use mathlib.Core.Path.{◌≡◌}
 use Rattle.solve.specs.Elimination.{exchange_at}

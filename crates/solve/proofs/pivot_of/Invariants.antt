@@ -1,6 +1,6 @@
 -- `solve::pivot_of`: what is left to compare, from here as from the diagonal.
 -- Assumes nothing.
-use Prim.Native.Nat.{◌-◌, ◌<◌}
+use Prim.Native.Nat.{◌<◌}
 use Rattle.laws.specs.Loops.{run}
 use mathlib.Core.Path.{◌≡◌}
 use Rattle.solve.specs.Elimination.{pivot_step}

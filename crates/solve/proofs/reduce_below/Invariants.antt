@@ -1,6 +1,5 @@
 -- `solve::reduce_below`: what is left to reduce, from here as from the row below the diagonal.
 -- Assumes nothing.
-use Prim.Native.Nat.{◌-◌}
 use Rattle.laws.specs.Loops.{run}
 use mathlib.Core.Path.{◌≡◌}
 use Rattle.solve.specs.Elimination.{system, reduce_row}

@@ -1,6 +1,5 @@
 -- `solve::reduce_row`: what is left to reduce, from here as from the pivot's column.
 -- Assumes nothing.
-use Prim.Native.Nat.{◌-◌}
 use Rattle.laws.specs.Loops.{run}
 use mathlib.Core.Path.{◌≡◌}
 use Rattle.solve.specs.Elimination.{reduce_at}

@@ -1,4 +1,3 @@
-use native.Mathlib.Omega.{arith}
 use Rattle.laws.proofs.Loops.{again, done}
 use mathlib.Core.Path.{refl}
 use Rattle.solve.specs.Solution.{residue_step, residue_of}

@@ -1,6 +1,5 @@
 -- `solve::residue_of`: what is left to subtract, from here as from the diagonal.
 -- Assumes nothing.
-use Prim.Native.Nat.{◌-◌}
 use Rattle.laws.specs.Loops.{run}
 use mathlib.Core.Path.{◌≡◌}
 use Rattle.solve.specs.Solution.{residue_step}

@@ -1,6 +1,5 @@
 -- `solve::unknown_step`: the row's residue divided by its diagonal entry.
 -- Assumes nothing.
-use native.Mathlib.Omega.{arith}
 use Rattle.solve.proofs.unknown_step.Goals as goal
 
 pub returns : goal.returns

@@ -1,5 +1,6 @@
 -- `trim::model_refusal`: the fit's rows answer first, then the flag, then row 15.
 -- Assumes nothing.
+use mathlib.Core.Path.{◌∙◌}
 use borrow.Author.Tests.{lt-ltb, le-ltb}
 use Rattle.laws.specs.Refusal.{or_else}
 use Rattle.laws.proofs.Refusal.{or-else-refused}
@@ -8,12 +9,12 @@ use Rattle.trim.proofs.model_refusal.Goals as goal
 
 pub returns-then-first-ne0 : goal.returns-then-first-ne0
 returns-then-first-ne0 c = let a = c.args in
-    rw (← c.fit_refusal-first.ensures)
-    (or-else-refused c.fit_refusal-first.result (or_else (flag_refusal a.flag) (few_refusal a.gm_type a.samples)) c.if-first-ne0.true)
+    rw (← (c.refusal_number-first.ensures ∙ c.fit_refusal.ensures))
+    (or-else-refused c.refusal_number-first.result (or_else (flag_refusal a.flag) (few_refusal a.gm_type a.samples)) c.if-first-ne0.true)
 
 pub returns-then-flag-gt1 : goal.returns-then-flag-gt1
-returns-then-flag-gt1 c = rw (← c.fit_refusal-first.ensures, c.if-first-ne0.false, lt-ltb _ _ c.if-flag-gt1.true)
+returns-then-flag-gt1 c = rw (← (c.refusal_number-first.ensures ∙ c.fit_refusal.ensures), c.if-first-ne0.false, lt-ltb _ _ c.if-flag-gt1.true)
 
 pub returns : goal.returns
-returns c = rw (← c.fit_refusal-first.ensures, c.if-first-ne0.false, le-ltb _ _ c.if-flag-gt1.false)
+returns c = rw (← (c.refusal_number-first.ensures ∙ c.fit_refusal.ensures), c.if-first-ne0.false, le-ltb _ _ c.if-flag-gt1.false)
     c.few_refusal.ensures
