@@ -121,15 +121,15 @@ impl<'a> Model<'a> {
         write_global_param(cursor, header, self.gm_type, self.flag, slot, value, from)
     }
 
-    // The coefficients, in the standard's order: `grid::slots_of`.
+    // The coefficients, in the standard's order: `grid::slots_carried`.
     fn write_slots(self, cursor: BitCursor, header: &mut [u8]) -> BitCursor
         requires right { model_wrong self.gm_type self.flag self.params.now self.first ≡ false }
         requires room { Room header.old cursor.at (length (model_bits self.flag self.params.now self.prior.now self.gm_type self.first)) }
         ensures { Wrote header.old cursor.at (model_bits self.entry.flag self.entry.params.now self.entry.prior.now self.entry.gm_type self.entry.first) header.new result.at }
     {
-        let slots = grid::slots_of(self.gm_type);
+        let slots = grid::slots_carried(self.gm_type);
         let mut next = cursor;
-        for slot in &slots.order[..slots.count] {
+        for slot in slots {
             next = self.write_slot(next, header, *slot);
         }
         next
@@ -164,9 +164,9 @@ impl<'a> Model<'a> {
     fn length(self) -> usize
         ensures { (result ≡ model_count self.entry.flag self.entry.params.now self.entry.prior.now self.entry.gm_type self.entry.first) × (result ≤ 387) }
     {
-        let slots = grid::slots_of(self.gm_type);
+        let slots = grid::slots_carried(self.gm_type);
         let mut n = type_field(self.gm_type).n as usize;
-        for slot in &slots.order[..slots.count] {
+        for slot in slots {
             n += self.slot_length(*slot) as usize;
         }
         n

@@ -184,10 +184,10 @@ impl<'a> Reference<'a> {
         requires { cursor.at + 256 < 2 ^ 64 }
         ensures { NumbersAre result (slots_read (bit_at self.entry.header.now) self.entry.flag self.entry.prior.now gm_type self.entry.first (slots_of gm_type) cursor.at) cursor.at (length (slots_of gm_type)) }
     {
-        let slots = grid::slots_of(gm_type);
+        let slots = grid::slots_carried(gm_type);
         let mut values = [0i32; 6];
         let mut next = cursor;
-        for (i, slot) in slots.order[..slots.count].iter().enumerate() {
+        for (i, slot) in slots.iter().enumerate() {
             let read = self.read_slot(next, gm_type, *slot);
             values[i] = read.value;
             next = read.next;

@@ -16,19 +16,19 @@ loop-slot-init c = let t = c.type_field-n in
     (rw n, t.ensures.1)
 
 pub slot_length-requires : goal.slot_length-requires
-slot_length-requires c = let s = c.slots_of-slots.ensures in
-    rw s.order (slot-known c.args.self.gm_type c.loop-slot.slot-index (rw s.order at c.loop-slot-test.true))
+slot_length-requires c = let s = c.slots_carried-slots.ensures in
+    rw s (slot-known c.args.self.gm_type c.loop-slot.slot-index (rw s at c.loop-slot-test.true))
 
 pub loop-slot-preserved : goal.loop-slot-preserved
-loop-slot-preserved c = let s = c.slots_of-slots.ensures in
+loop-slot-preserved c = let s = c.slots_carried-slots.ensures in
     let l = c.loop-slot in
-    let e = rw (slots-left c.args.self.gm_type l.slot-index (rw s.order at c.loop-slot-test.true)) at l.invariant.0 in
-    let one = rw s.order at c.slot_length.ensures in
+    let e = rw (slots-left c.args.self.gm_type l.slot-index (rw s at c.loop-slot-test.true)) at l.invariant.0 in
+    let one = rw s at c.slot_length.ensures in
     (omega (arith, e, one.0), omega (arith, l.invariant.1, one.1))
 
 pub returns : goal.returns
 returns c = let l = c.loop-slot in
     let slots = slots_of c.args.self.gm_type in
-    let s = c.slots_of-slots.ensures in
-    let e = rw (drop_of_length-le slots (rw s.order at c.loop-slot-test.false)) at l.invariant.0 in
-    (omega (arith, e), omega (arith, l.invariant.1, rw s.order at l.auto.slot-index-end, six-slots-at-most c.args.self.gm_type))
+    let s = c.slots_carried-slots.ensures in
+    let e = rw (drop_of_length-le slots (rw s at c.loop-slot-test.false)) at l.invariant.0 in
+    (omega (arith, e), omega (arith, l.invariant.1, rw s at l.auto.slot-index-end, six-slots-at-most c.args.self.gm_type))

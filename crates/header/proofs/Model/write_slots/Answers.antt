@@ -12,12 +12,12 @@ loop-slot-init c = reached-first _ _ _
 
 pub loop-slot-preserved : goal.loop-slot-preserved
 loop-slot-preserved c = let m = c.args.self in
-    let s = c.slots_of-slots.ensures in
+    let s = c.slots_carried-slots.ensures in
     let l = c.loop-slot in
-    let within = rw s.order at c.loop-slot-test.true in
+    let within = rw s at c.loop-slot-test.true in
     reached-more (slot_bits m.flag m.params.now m.prior.now m.gm_type m.first (get_or (slots_of m.gm_type) l.slot-index 0)) (slots_bits m.flag m.params.now m.prior.now m.gm_type m.first (drop (l.slot-index + 1) (slots_of m.gm_type)))
-    (rw (slots-left m.gm_type l.slot-index within) at l.invariant) _ _ (rw s.order at c.write_slot-next.ensures)
+    (rw (slots-left m.gm_type l.slot-index within) at l.invariant) _ _ (rw s at c.write_slot-next.ensures)
 
 pub returns : goal.returns
-returns c = let done = rw c.slots_of-slots.ensures.order at c.loop-slot-test.false in
+returns c = let done = rw c.slots_carried-slots.ensures at c.loop-slot-test.false in
     reached-last (rw (drop_of_length-le (slots_of c.args.self.gm_type) done) at c.loop-slot.invariant)

@@ -14,21 +14,21 @@ loop-i-init c = let s = c.args.self in
     none_yet (bit_at s.header.now) s.flag s.prior.now c.args.gm_type s.first (slots_of c.args.gm_type) c.args.cursor.at
 
 pub read_slot-read-requires : goal.read_slot-read-requires
-read_slot-read-requires c = let s = c.slots_of-slots.ensures in
-    let within = rw s.order at c.loop-i-test.true in (
-      rw s.order (slot-known c.args.gm_type c.loop-i.i within),
+read_slot-read-requires c = let s = c.slots_carried-slots.ensures in
+    let within = rw s at c.loop-i-test.true in (
+      rw s (slot-known c.args.gm_type c.loop-i.i within),
       omega (arith, c.loop-i.invariant.near, c.requires, within, six-slots-at-most c.args.gm_type),
     )
 
 pub offset_bounds-values-i : goal.offset_bounds-values-i
-offset_bounds-values-i c = omega (arith, rw c.slots_of-slots.ensures.order at c.loop-i-test.true, six-slots-at-most c.args.gm_type)
+offset_bounds-values-i c = omega (arith, rw c.slots_carried-slots.ensures at c.loop-i-test.true, six-slots-at-most c.args.gm_type)
 
 pub bounds-values-i : goal.bounds-values-i
-bounds-values-i c = omega (arith, rw c.slots_of-slots.ensures.order at c.loop-i-test.true, six-slots-at-most c.args.gm_type)
+bounds-values-i c = omega (arith, rw c.slots_carried-slots.ensures at c.loop-i-test.true, six-slots-at-most c.args.gm_type)
 
 pub loop-i-preserved : goal.loop-i-preserved
 loop-i-preserved c = let s = c.args.self in
-    let o = c.slots_of-slots.ensures.order in
+    let o = c.slots_carried-slots.ensures in
     let l = c.loop-i in
     let r = c.read_slot-read in
     let within = rw o at c.loop-i-test.true in
@@ -40,4 +40,4 @@ pub returns : goal.returns
 returns c = let s = c.args.self in
     let l = c.loop-i in
     all_read (bit_at s.header.now) s.flag s.prior.now c.args.gm_type s.first (slots_of c.args.gm_type) c.args.cursor.at l.values l.next.at l.i _
-    (six-slots-at-most c.args.gm_type) (rw c.slots_of-slots.ensures.order at c.loop-i-test.false) l.invariant refl refl
+    (six-slots-at-most c.args.gm_type) (rw c.slots_carried-slots.ensures at c.loop-i-test.false) l.invariant refl refl
