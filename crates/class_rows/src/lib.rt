@@ -76,9 +76,5 @@ pub fn refused_model(number: u32) -> Quantized
 pub fn refused_trimmed_model(number: u32) -> TrimmedModel
     ensures { result ≡ refused_trimmed_model number }
 {
-    TrimmedModel {
-        refusal: number,
-        used: 0,
-        params: [0; 6],
-    }
+    trim::refused_model(number)
 }

@@ -6,10 +6,12 @@
 #![tactic(auto)]
 
 ghost use Rattle.std.specs.Prelude.{◌≡◌};
+ghost use Rattle.refusal.specs.Number.{refusal_number};
 ghost use Rattle.elect.specs.Elect.{identity_params, is_identity, invalid_shear, unfit, nobody, stopped, beats, held_after, elect_refusal, as_stored};
 
-use fit::{NO_SUCH_CODE, ROTZOOM};
+use fit::ROTZOOM;
 use grid::IDENTITY;
+use refusal::Refusal;
 
 // A field of less energy than this stands still.
 pub const MIN_MOTION_ENERGY: f64 = 0.25;
@@ -122,15 +124,12 @@ pub fn as_stored(held: Elected) -> Elected
 
 // ---- the call
 
-pub fn elect_refusal(flag: u8, samples: usize) -> u32
-    ensures { result ≡ elect_refusal flag samples }
+pub fn elect_refusal(flag: u8, samples: usize) -> Result<(), Refusal>
+    ensures { refusal_number result ≡ elect_refusal flag samples }
 {
-    let first = refusal::refusal_number(fit::list_refusal(samples));
-    if first != 0 {
-        return first;
-    }
+    fit::list_refusal(samples)?;
     if flag > 1 {
-        return NO_SUCH_CODE;
+        return Err(Refusal::NoSuchCode);
     }
-    0
+    Ok(())
 }

@@ -7,19 +7,20 @@ ghost use Rattle.std.specs.Prelude.{◌≡◌, ◌≤◌, length};
 ghost use Rattle.laws.specs.Buffer.{onto};
 ghost use Rattle.laws.specs.Loops.{fold};
 ghost use Rattle.sample.specs.Word.{most_samples};
-ghost use Rattle.fit.specs.Sums.{reading, sums_of, translation_totals, rot_zoom_totals, affine_totals, itself};
+ghost use Rattle.fit.specs.Sums.{reading, sums_of, itself};
 ghost use Rattle.fit.specs.Fitted.{fit_from};
 ghost use Rattle.quantize.specs.Quantize.{quantized_from};
 ghost use Rattle.quantize.specs.Inner.{refit_step};
 ghost use Rattle.trim.specs.Trim.{trimmed_from, trimmed_model_from};
 ghost use Rattle.trim.specs.Inner.{sample_at, up_to, squares_from, under, refused_cut, cut_of};
-ghost use Rattle.trim.specs.Inner.{model_as, Under, Untrimmed, Squared, Cuts};
+ghost use Rattle.trim.specs.Inner.{model_as, model_refusal, Under, Untrimmed, Squared, Cuts};
 
-use fit::{AffineSums, Fitted, ROTZOOM, RotZoomSums, TRANSLATION, TranslationSums};
+use fit::{AffineSums, FitSums, Fitted, ROTZOOM, RotZoomSums, TRANSLATION, TranslationSums};
 use quantize::{Quantized, Refitting};
-use sample::MotionSample;
+use refusal::Refusal;
+use sample::{MOST_SAMPLES, MotionSample};
 use score::ContinuousModel;
-use trim::{Cut, INFINITE, NOT_FINITE, Trimmed, TrimmedModel};
+use trim::{Cut, INFINITE, Trimmed, TrimmedModel};
 
 // How far each sample lies from a fit, squared.
 fn residuals(fitted: Fitted, samples: &[MotionSample], squares: &mut [f64])
@@ -47,40 +48,15 @@ fn count_under(squares: &[f64], n: usize, limit: f64) -> usize
     count
 }
 
-fn translation_under(samples: &[MotionSample], squares: &[f64], limit: f64) -> TranslationSums
+// The sums of a fit.
+fn sums_under<S: FitSums>(samples: &[MotionSample], squares: &[f64], limit: f64) -> S
     requires { (length samples.now ≤ most_samples) × (length samples.now ≤ length squares.now) }
-    ensures { result ≡ translation_totals (sums_of (sample_at samples.now) (under squares.now limit (length samples.now))) }
+    ensures { result ≡ S.totals (sums_of (sample_at samples.now) (under squares.now limit (length samples.now))) }
 {
-    let mut t = fit::translation_begin();
+    let mut t = S::begin();
     for i in 0..samples.len() {
         if squares[i] <= limit {
-            t = fit::translation_step(t, samples[i]);
-        }
-    }
-    t
-}
-
-fn rotzoom_under(samples: &[MotionSample], squares: &[f64], limit: f64) -> RotZoomSums
-    requires { (length samples.now ≤ most_samples) × (length samples.now ≤ length squares.now) }
-    ensures { result ≡ rot_zoom_totals (sums_of (sample_at samples.now) (under squares.now limit (length samples.now))) }
-{
-    let mut t = fit::rotzoom_begin();
-    for i in 0..samples.len() {
-        if squares[i] <= limit {
-            t = fit::rotzoom_step(t, samples[i]);
-        }
-    }
-    t
-}
-
-fn affine_under(samples: &[MotionSample], squares: &[f64], limit: f64) -> AffineSums
-    requires { (length samples.now ≤ most_samples) × (length samples.now ≤ length squares.now) }
-    ensures { result ≡ affine_totals (sums_of (sample_at samples.now) (under squares.now limit (length samples.now))) }
-{
-    let mut t = fit::affine_begin();
-    for i in 0..samples.len() {
-        if squares[i] <= limit {
-            t = fit::affine_step(t, samples[i]);
+            t = t.step(samples[i]);
         }
     }
     t
@@ -97,13 +73,11 @@ fn fit_under(
     requires { Under squares.now limit (length samples.now) used }
     ensures { result ≡ fit_from (sample_at samples.now) gm_type (under squares.now limit (length samples.now)) }
 {
-    if gm_type == TRANSLATION {
-        return fit::translation_ends(translation_under(samples, squares, limit), used);
+    match gm_type {
+        TRANSLATION => sums_under::<TranslationSums>(samples, squares, limit).fit(used),
+        ROTZOOM => sums_under::<RotZoomSums>(samples, squares, limit).fit(used),
+        _ => sums_under::<AffineSums>(samples, squares, limit).fit(used),
     }
-    if gm_type == ROTZOOM {
-        return fit::rotzoom_ends(rotzoom_under(samples, squares, limit), used);
-    }
-    fit::affine_ends(affine_under(samples, squares, limit), used)
 }
 
 // The sums of the refit against a linear part, over the samples under a limit.
@@ -187,7 +161,7 @@ fn second(gm_type: u8, first: Fitted, samples: &[MotionSample], squares: &[f64])
     ensures { Cuts samples.now gm_type (length samples.now) squares.now result }
 {
     if !trim::all_finite(squares, samples.len()) {
-        return refused_cut(NOT_FINITE);
+        return refused_cut(Refusal::NotFinite.number());
     }
     let limit = trim::limit_of(squares, samples.len());
     let kept = count_under(squares, samples.len(), limit);
@@ -217,19 +191,19 @@ fn trim(gm_type: u8, samples: &[MotionSample], squares: &mut [f64]) -> Cut
 pub fn trimmed_fit(gm_type: u8, samples: &[MotionSample]) -> Trimmed
     ensures { result ≡ trimmed_from itself gm_type samples.now }
 {
-    let refusal = trim::list_refusal(gm_type, samples.len());
-    if refusal != 0 {
-        return Trimmed {
-            fitted: Fitted::Refused(refusal),
+    match trim::list_refusal(gm_type, samples.len()) {
+        Err(refusal) => Trimmed {
+            fitted: Fitted::Refused(refusal.number()),
             used: 0,
-        };
-    }
-    let mut squares = [0.0f64; 4096];
-    let cut = trim(gm_type, samples, &mut squares);
-    let fitted = cut.fitted;
-    Trimmed {
-        fitted,
-        used: cut.used,
+        },
+        Ok(()) => {
+            let mut squares = [0.0f64; MOST_SAMPLES];
+            let cut = trim(gm_type, samples, &mut squares);
+            Trimmed {
+                fitted: cut.fitted,
+                used: cut.used,
+            }
+        }
     }
 }
 
@@ -257,11 +231,17 @@ fn on_grid(
 pub fn trimmed_model(gm_type: u8, flag: u8, samples: &[MotionSample]) -> TrimmedModel
     ensures { result ≡ trimmed_model_from itself gm_type flag samples.now }
 {
-    let refusal = trim::model_refusal(gm_type, flag, samples.len());
-    if refusal != 0 {
-        return trim::refused_model(refusal);
+    match trim::model_refusal(gm_type, flag, samples.len()) {
+        Err(refusal) => trim::refused_model(refusal.number()),
+        Ok(()) => placed(gm_type, flag, samples),
     }
-    let mut squares = [0.0f64; 4096];
+}
+
+fn placed(gm_type: u8, flag: u8, samples: &[MotionSample]) -> TrimmedModel
+    requires { model_refusal gm_type flag (length samples.now) ≡ 0 }
+    ensures { result ≡ trimmed_model_from itself gm_type flag samples.now }
+{
+    let mut squares = [0.0f64; MOST_SAMPLES];
     let cut = trim(gm_type, samples, &mut squares);
     let fitted = cut.fitted;
     let number = fit::refusal_of(fitted);

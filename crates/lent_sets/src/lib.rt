@@ -16,7 +16,7 @@ ghost use Rattle.named_samples.specs.Named.{samples_of, named_samples};
 ghost use Rattle.lent_sets.specs.Inner.{Judges};
 
 use elect::Elected;
-use fit::{Fitted, ROTZOOM, TRANSLATION};
+use fit::{AffineSums, FitSums, Fitted, ROTZOOM, RotZoomSums, TRANSLATION, TranslationSums};
 use fit_numbers::FitAnswer;
 use lent_fit::{Params, ToQuantize};
 use lent_trim::ToTrim;
@@ -51,13 +51,11 @@ fn fit_named(kind: u8, set: u8, samples: &[[f64; 4]], classes: &[u8]) -> Fitted
     ensures { result ≡ fit_from itself kind (named_samples set samples.now classes.now) }
 {
     let n = class_set::count_named(set, classes);
-    if kind == TRANSLATION {
-        return fit::translation_ends(named_samples::translation_named(set, samples, classes), n);
+    match kind {
+        TRANSLATION => named_samples::sums_named::<TranslationSums>(set, samples, classes).fit(n),
+        ROTZOOM => named_samples::sums_named::<RotZoomSums>(set, samples, classes).fit(n),
+        _ => named_samples::sums_named::<AffineSums>(set, samples, classes).fit(n),
     }
-    if kind == ROTZOOM {
-        return fit::rotzoom_ends(named_samples::rotzoom_named(set, samples, classes), n);
-    }
-    fit::affine_ends(named_samples::affine_named(set, samples, classes), n)
 }
 
 pub fn belt_quantize_samples_by_class(

@@ -8,12 +8,12 @@ ghost use Rattle.std.specs.Prelude.{◌≡◌, ◌≤◌, length};
 ghost use Rattle.laws.specs.Binary64.{nought};
 ghost use Rattle.laws.specs.Chosen.{Front};
 ghost use Rattle.laws.specs.Loops.{fold};
-ghost use Rattle.fit.specs.Sums.{sums_of, translation_totals, rot_zoom_totals, affine_totals, itself};
+ghost use Rattle.fit.specs.Sums.{sums_of, itself};
 ghost use Rattle.score.specs.Score.{score_step};
 ghost use Rattle.quantize.specs.Inner.{refitting_step};
 ghost use Rattle.named_samples.specs.Named.{lent_sample, named_samples};
 
-use fit::{AffineSums, RotZoomSums, TranslationSums};
+use fit::FitSums;
 use quantize::Refitting;
 use sample::MotionSample;
 use score::ContinuousModel;
@@ -32,40 +32,15 @@ pub fn lent_sample(four: [f64; 4]) -> MotionSample
 
 // ---- sums over the named samples
 
-pub fn translation_named(set: u8, samples: &[[f64; 4]], classes: &[u8]) -> TranslationSums
+// Of a fit.
+pub fn sums_named<S: FitSums>(set: u8, samples: &[[f64; 4]], classes: &[u8]) -> S
     requires { length samples.now ≡ length classes.now }
-    ensures { result ≡ translation_totals (sums_of itself (named_samples set samples.now classes.now)) }
+    ensures { result ≡ S.totals (sums_of itself (named_samples set samples.now classes.now)) }
 {
-    let mut t = fit::translation_begin();
+    let mut t = S::begin();
     for i in 0..samples.len() {
         if class_set::names(set, classes[i]) {
-            t = fit::translation_step(t, lent_sample(samples[i]));
-        }
-    }
-    t
-}
-
-pub fn rotzoom_named(set: u8, samples: &[[f64; 4]], classes: &[u8]) -> RotZoomSums
-    requires { length samples.now ≡ length classes.now }
-    ensures { result ≡ rot_zoom_totals (sums_of itself (named_samples set samples.now classes.now)) }
-{
-    let mut t = fit::rotzoom_begin();
-    for i in 0..samples.len() {
-        if class_set::names(set, classes[i]) {
-            t = fit::rotzoom_step(t, lent_sample(samples[i]));
-        }
-    }
-    t
-}
-
-pub fn affine_named(set: u8, samples: &[[f64; 4]], classes: &[u8]) -> AffineSums
-    requires { length samples.now ≡ length classes.now }
-    ensures { result ≡ affine_totals (sums_of itself (named_samples set samples.now classes.now)) }
-{
-    let mut t = fit::affine_begin();
-    for i in 0..samples.len() {
-        if class_set::names(set, classes[i]) {
-            t = fit::affine_step(t, lent_sample(samples[i]));
+            t = t.step(lent_sample(samples[i]));
         }
     }
     t

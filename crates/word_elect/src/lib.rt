@@ -94,13 +94,12 @@ fn winner<L: Electorate>(list: L, flag: u8) -> Result<Elected, Refusal>
 pub fn elected<L: Electorate>(list: L, flag: u8) -> Elected
     ensures { result ≡ elected_from itself flag (L.samples list) }
 {
-    let refusal = elect::elect_refusal(flag, list.count());
-    if refusal != 0 {
-        return elect::stopped(refusal);
-    }
-    match winner(list, flag) {
-        Ok(held) => elect::as_stored(held),
+    match elect::elect_refusal(flag, list.count()) {
         Err(refusal) => elect::stopped(refusal.number()),
+        Ok(()) => match winner(list, flag) {
+            Err(refusal) => elect::stopped(refusal.number()),
+            Ok(held) => elect::as_stored(held),
+        },
     }
 }
 

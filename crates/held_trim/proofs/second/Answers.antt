@@ -18,7 +18,7 @@ returns-then-not-all_finite c = let s = c.before in
     let a = s.args in
     let test = c.all_finite in
     let infinite = sym test.ensures ∙ not-true test.result c.if-not-all_finite.true-raw in
-    rw c.refused_cut.ensures
+    rw (c.refused_cut.ensures, c.number.ensures)
     (infinite-cuts a.samples.now a.gm_type (length a.samples.now) a.squares.now a.first s.requires infinite)
 
 pub limit_of-limit-requires : goal.limit_of-limit-requires
