@@ -31,6 +31,9 @@ above-zero ShutterClosed = omega arith
 above-zero TooFar = omega arith
 above-zero NoClass = omega arith
 
+pub never-zero : (r : Refusal) → number_of r ≡ 0 → ⊥
+never-zero r e = let h = above-zero r in omega (arith, h, e)
+
 -- a group that refuses answers for the groups after it
 pub first-refused : (r : Refusal) (b : ℕ) → number_of r ≡ or_else (number_of r) b
-first-refused r b = or-else-refused (number_of r) b (λ e. let h = above-zero r in omega (arith, h, e))
+first-refused r b = or-else-refused (number_of r) b (never-zero r)

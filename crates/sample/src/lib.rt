@@ -87,11 +87,7 @@ pub fn word_of(row: u32, col: u32, v: u32, u: u32, class: u8) -> u32
 pub fn in_range(word: u32) -> bool
     ensures { result ≡ in_range word }
 {
-    if v_of(word) <= LAST_MOTION {
-        u_of(word) <= LAST_MOTION
-    } else {
-        false
-    }
+    v_of(word) <= LAST_MOTION && u_of(word) <= LAST_MOTION
 }
 
 // (R, C) as one number, R first.
@@ -106,18 +102,15 @@ pub fn storable_from(first: u32, words: &[u32]) -> bool
     ensures { result ≡ storable_from first words.now }
 {
     let mut least = first;
-    let mut i = 0;
-    while i < words.len() {
-        let word = words[i];
-        if !in_range(word) {
+    for word in words {
+        if !in_range(*word) {
             return false;
         }
-        let place = place_of(word);
+        let place = place_of(*word);
         if place < least {
             return false;
         }
         least = place + 1;
-        i += 1;
     }
     true
 }
@@ -153,13 +146,7 @@ pub fn sample_of(word: u32) -> MotionSample
 pub fn centres() -> [f64; 64]
     ensures { Tabled centre_of sides result }
 {
-    let mut table = [0.0f64; 64];
-    let mut place = 0u32;
-    while place < SIDES {
-        table[place as usize] = centre_of(place);
-        place += 1;
-    }
-    table
+    std::array::from_fn(|place| centre_of(place as u32))
 }
 
 // The sample of a word, its centre looked up.
@@ -181,13 +168,7 @@ pub fn sample_by(centres: &[f64; 64], word: u32) -> MotionSample
 pub fn motions() -> [f64; 512]
     ensures { Tabled pels_of motions result × (length result ≡ motions) }
 {
-    let mut table = [0.0f64; 512];
-    let mut stored = 0u32;
-    while stored < MOTIONS {
-        table[stored as usize] = pels_of(stored);
-        stored += 1;
-    }
-    table
+    std::array::from_fn(|stored| pels_of(stored as u32))
 }
 
 // A stored motion in pels, looked up where the table is whole.
