@@ -31,7 +31,7 @@ pub fn store(run: Run, frame: u16, words: &[u32], classes: &[u8], blocks: &mut [
     ensures value { result ≡ stored_in_run run frame words.now classes.now (length blocks.old) }
     ensures blocks_after { blocks.new ≡ stored_in_run_left run frame words.now classes.now blocks.old }
 {
-    let lists = frame_store::list_refusal(words, classes);
+    let lists = refusal::refusal_number(frame_store::list_refusal(words, classes));
     if lists != 0 {
         return Stored {
             refusal: lists,

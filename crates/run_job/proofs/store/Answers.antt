@@ -8,18 +8,18 @@ use Rattle.run_job.proofs.store.Goals as goal
 
 pub returns-then-lists-ne0 : goal.returns-then-lists-ne0
 returns-then-lists-ne0 c = let a = c.args in
-    let lists = c.list_refusal-lists in
-    let d = lists-refuse a.run a.frame a.words.now a.classes.now a.blocks.now lists.result lists.ensures c.if-lists-ne0.true in
+    let lists = c.refusal_number-lists.ensures ∙ c.list_refusal.ensures in
+    let d = lists-refuse a.run a.frame a.words.now a.classes.now a.blocks.now c.refusal_number-lists.result lists c.if-lists-ne0.true in
     record { value = d.answers; blocks_after = d.leaves }
 
 pub returns-then-refusal-ne0 : goal.returns-then-refusal-ne0
 returns-then-refusal-ne0 c = let a = c.args in
     let held = c.refusal_of-refusal in
-    let d = run-refuses a.run a.frame a.words.now a.classes.now a.blocks.now (sym c.list_refusal-lists.ensures ∙ c.if-lists-ne0.false) held.result held.ensures c.if-refusal-ne0.true in
+    let d = run-refuses a.run a.frame a.words.now a.classes.now a.blocks.now (sym (c.refusal_number-lists.ensures ∙ c.list_refusal.ensures) ∙ c.if-lists-ne0.false) held.result held.ensures c.if-refusal-ne0.true in
     record { value = d.answers; blocks_after = d.leaves }
 
 pub returns : goal.returns
 returns c = let a = c.args in
     let d =
-    form-decides a.run a.frame a.words.now a.classes.now a.blocks.now (sym c.list_refusal-lists.ensures ∙ c.if-lists-ne0.false) (sym c.refusal_of-refusal.ensures ∙ c.if-refusal-ne0.false) in
+    form-decides a.run a.frame a.words.now a.classes.now a.blocks.now (sym (c.refusal_number-lists.ensures ∙ c.list_refusal.ensures) ∙ c.if-lists-ne0.false) (sym c.refusal_of-refusal.ensures ∙ c.if-refusal-ne0.false) in
     record { value = c.store.ensures.value ∙ d.answers; blocks_after = c.store.ensures.blocks_after ∙ d.leaves }
