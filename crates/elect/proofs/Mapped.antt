@@ -1,10 +1,8 @@
 -- A list that is read as samples elects what those samples elect: energy, candidates and errors take what is read and nothing else.
 -- Assumes nothing.
-use Prim.Native.Nat.{ℕ, ◌≤◌, ◌<◌}
+use Prim.Native.Nat.{ℕ}
 use mathlib.Core.List.{List, [], ◌∷◌, map}
-use mathlib.Core.Logic.{⊎_elim}
-use mathlib.Core.Path.{◌≡◌, refl, sym, ap, ◌∙◌}
-use borrow.Author.Tests.{lt-ltb}
+use mathlib.Core.Path.{◌≡◌, refl, ap, ◌∙◌}
 use lib.Dec.{eqb}
 use lib.IntN.{ℤ}
 use lib.ListN.{length, length-map}
@@ -13,20 +11,12 @@ use Rattle.laws.specs.Binary64.{nought}
 use Rattle.laws.specs.Call.{answered}
 use Rattle.laws.specs.Loops.{fold}
 use Rattle.laws.specs.Refusal.{choose}
-use Rattle.laws.proofs.Call.{answered-accepted, answered-refused}
-use Rattle.laws.proofs.Cases.{lt-or-le}
-use Rattle.laws.proofs.Refusal.{or-else-quiet}
 use Rattle.sample.specs.declared.MotionSample.{MotionSample}
-use Rattle.sample.specs.Word.{most_samples}
 use Rattle.fit.specs.Sums.{reading, itself}
-use Rattle.fit.specs.Fitted.{list_refusal}
-use Rattle.fit.proofs.Accepted.{list-few}
 use Rattle.fit.proofs.SameSamples.{fold-map}
 use Rattle.score.specs.Score.{continuous_model, score_step, score_of}
 use Rattle.trim.specs.declared.TrimmedModel.{TrimmedModel}
-use Rattle.trim.specs.Trim.{flag_refusal}
-use Rattle.trim.specs.Inner.{samples_in}
-use Rattle.trim.proofs.Mapped.{model-mapped, length-samples_in}
+use Rattle.trim.proofs.Mapped.{model-mapped}
 use Rattle.elect.specs.declared.Elected.{Elected}
 use Rattle.elect.specs.Elect.{floor, identity_params, error_from, energy_from, candidate_from, unfit, nobody, stopped}
 use Rattle.elect.specs.Elect.{held_after, by_number, judged, turn, types, winner_from, elect_refusal, as_stored, elected_from}

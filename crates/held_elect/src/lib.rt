@@ -7,7 +7,6 @@ ghost use Rattle.fit.specs.Sums.{itself};
 ghost use Rattle.elect.specs.Elect.{elected_from};
 
 use elect::Elected;
-use lent_fit::Params;
 use sample::MotionSample;
 use trim::TrimmedModel;
 use word_elect::Electorate;
@@ -27,7 +26,7 @@ impl<'a> Electorate for Samples<'a> {
     }
 
     fn error_of(self, params: [i32; 6]) -> f64 {
-        lent_fit::belt_mean_sq_residual_samples(self.0, Params { numbers: params }).score
+        score::score_samples(params, self.0).score
     }
 }
 

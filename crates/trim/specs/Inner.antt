@@ -1,11 +1,11 @@
 -- A call's samples by their places, and what the functions below the public calls ask and answer; no public contract over words cites it.
 -- Assumes nothing.
-use Rattle.std.specs.Prelude.{ℕ, ◌+◌, ◌*◌, ◌≤◌, true, List, map, ◌≡◌, ltb, pos, length, get_or, set, replicate, T, Float}
+use Rattle.std.specs.Prelude.{ℕ, ◌≤◌, true, List, map, ◌≡◌, pos, length, get_or, replicate, T, Float}
 use Rattle.std.specs.Float.{nan, binary64}
 use Rattle.std.specs.Float.Ieee.{fits, le}
 use Rattle.laws.specs.Parts.{listing}
 use Rattle.laws.specs.Buffer.{onto}
-use Rattle.laws.specs.Refusal.{choose, or_else}
+use Rattle.laws.specs.Refusal.{or_else}
 use Rattle.laws.specs.Call.{answered}
 use Rattle.laws.specs.Binary64.{nought}
 use Rattle.sample.specs.declared.MotionSample.{MotionSample}

@@ -1,6 +1,6 @@
 -- `held_trim::count_under`: what is left to count, from here as from the first square.
 -- Assumes nothing.
-use Prim.Native.Nat.{◌-◌, ◌≤◌}
+use Prim.Native.Nat.{◌≤◌}
 use mathlib.Core.Path.{◌≡◌}
 use lib.ListN.{drop}
 use Rattle.laws.specs.Loops.{fold}

@@ -1,5 +1,5 @@
 use lib.ListN.{length}
-use mathlib.Core.Path.{refl, ap, ◌∙◌}
+use mathlib.Core.Path.{refl, ◌∙◌}
 use Rattle.quantize.specs.Inner.{refit_step}
 use Rattle.trim.proofs.Indices.{index-again, index-done}
 use Rattle.trim.proofs.Under.{under_step, under-fold, turn-taken, turn-passed}

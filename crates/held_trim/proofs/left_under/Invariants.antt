@@ -1,7 +1,6 @@
 -- `held_trim::left_under`: as the sums of a fit, with the step of the refit.
 -- Assumes nothing.
 use lib.ListN.{length}
-use Prim.Native.Nat.{◌-◌}
 use mathlib.Core.Path.{◌≡◌}
 use lib.ListN.{drop}
 use Rattle.laws.specs.Loops.{fold}

@@ -7,7 +7,7 @@ use lib.ListN.{length}
 use Rattle.fit.specs.Sums.{itself}
 use Rattle.trim.specs.Trim.{trimmed_as, trimmed_model_from}
 use Rattle.trim.specs.Inner.{sample_at, up_to, refused_model}
-use Rattle.trim.proofs.Answers.{model-few, model-untrimmed, model-refused, model-fit-refused, quiet-trim, used-counted, model-accepted}
+use Rattle.trim.proofs.Answers.{model-few, model-untrimmed, model-fit-refused, quiet-trim, used-counted, model-accepted}
 use Rattle.trim.proofs.Indices.{length-up_to, samples-whole}
 use Rattle.trim.proofs.Mapped.{model-mapped}
 use Rattle.held_trim.proofs.placed.Goals as goal

@@ -9,7 +9,6 @@ use Rattle.laws.specs.Buffer.{onto}
 use Rattle.laws.specs.Parts.{listing}
 use Rattle.laws.proofs.Filling.{fill-front}
 use Rattle.score.specs.declared.ContinuousModel.{ContinuousModel}
-use Rattle.score.specs.Score.{residual_of}
 use Rattle.trim.specs.Inner.{sample_at, square}
 use Rattle.trim.proofs.Indices.{map-listing}
 use Rattle.held_trim.proofs.residuals.Invariants.{square_by}

@@ -1,7 +1,6 @@
 -- `held_trim::sums_under`: what is left to add, from here as from the first sample; where the square is above the limit nothing is added.
 -- Assumes nothing.
 use lib.ListN.{length}
-use Prim.Native.Nat.{◌-◌}
 use mathlib.Core.Path.{◌≡◌}
 use lib.ListN.{drop}
 use Rattle.laws.specs.Loops.{fold}

@@ -1,15 +1,14 @@
 -- `held_trim::trimmed_model`: rows 1, 4 and 15 answer by the count and the flag, then the trim's own number; otherwise the last fit is on the grid.
 -- Assumes nothing.
 use Prim.Native.Nat.{ℕ}
-use mathlib.Core.List.{List}
 use mathlib.Core.Path.{sym, ap, ◌∙◌}
 use lib.ListN.{length}
 use Rattle.fit.specs.Sums.{itself}
-use Rattle.trim.specs.Trim.{trimmed_as, trimmed_model_from}
+use Rattle.trim.specs.Trim.{trimmed_model_from}
 use native.Mathlib.Omega.{arith}
 use Rattle.refusal.proofs.Rows.{above-zero}
 use Rattle.trim.specs.Inner.{sample_at, up_to, refused_model}
-use Rattle.trim.proofs.Answers.{model-few, model-untrimmed, model-refused, model-fit-refused, quiet-trim, used-counted, model-accepted}
+use Rattle.trim.proofs.Answers.{model-refused}
 use Rattle.trim.proofs.Indices.{length-up_to, samples-whole}
 use Rattle.trim.proofs.Mapped.{model-mapped}
 use Rattle.held_trim.proofs.trimmed_model.Goals as goal
