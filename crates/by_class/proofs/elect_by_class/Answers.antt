@@ -1,5 +1,5 @@
 -- `by_class::elect_by_class`: the rows' refusal, or the call over the named words in front of the buffer. Assumes nothing.
-use mathlib.Core.Path.{refl, sym, ◌∙◌}
+use mathlib.Core.Path.{refl, ◌∙◌}
 use lib.Dec.{ltb}
 use Rattle.sample.specs.Sample.{sample_of}
 use Rattle.elect.specs.Elect.{stopped, elected_from}

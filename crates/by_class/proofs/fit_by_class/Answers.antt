@@ -1,5 +1,5 @@
 -- `by_class::fit_by_class`: the rows' refusal, or the call over the named words in front of the buffer. Assumes nothing.
-use mathlib.Core.Path.{refl, sym, ◌∙◌}
+use mathlib.Core.Path.{refl, ◌∙◌}
 use Rattle.fit.specs.declared.Fitted.TheVariants.{Refused}
 use Rattle.fit.specs.Fitted.{no_type, fitted}
 use Rattle.class_set.proofs.Front.{front-count, front-there}

@@ -1,5 +1,5 @@
 -- `by_class::fit_trimmed_by_class`: the rows' refusal, or the call over the named words in front of the buffer. Assumes nothing.
-use mathlib.Core.Path.{refl, sym, ◌∙◌}
+use mathlib.Core.Path.{refl, ◌∙◌}
 use Rattle.sample.specs.Sample.{sample_of}
 use Rattle.fit.specs.Fitted.{no_type}
 use Rattle.trim.specs.Trim.{trimmed_from}

@@ -1,5 +1,5 @@
 -- `by_class::quantize_by_class`: the rows' refusal, or the call over the named words in front of the buffer. Assumes nothing.
-use mathlib.Core.Path.{refl, sym, ◌∙◌}
+use mathlib.Core.Path.{refl, ◌∙◌}
 use Rattle.quantize.specs.Quantize.{refused_model, quantized_model}
 use Rattle.class_set.proofs.Front.{front-count, front-there}
 use Rattle.class_rows.specs.Rows.{no_model_or_flag}

@@ -1,5 +1,5 @@
 -- `by_class::quantize_trimmed_by_class`: the rows' refusal, or the call over the named words in front of the buffer. Assumes nothing.
-use mathlib.Core.Path.{refl, sym, ◌∙◌}
+use mathlib.Core.Path.{refl, ◌∙◌}
 use Rattle.sample.specs.Sample.{sample_of}
 use Rattle.trim.specs.Trim.{trimmed_model_from}
 use Rattle.class_set.proofs.Front.{front-count, front-there}

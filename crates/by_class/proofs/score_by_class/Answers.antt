@@ -1,6 +1,6 @@
 -- `by_class::score_by_class`: the rows' refusal, or the call over the named words in front of the buffer. Assumes nothing.
 use mathlib.Core.Bool.{false}
-use mathlib.Core.Path.{refl, sym, ◌∙◌}
+use mathlib.Core.Path.{refl, ◌∙◌}
 use Rattle.score.specs.Score.{mean_sq_residual}
 use Rattle.class_set.proofs.Front.{front-count, front-there}
 use Rattle.by_class.specs.ByClass.{refused_score}

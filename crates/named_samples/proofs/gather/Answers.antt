@@ -1,18 +1,31 @@
 use borrow.Author.Rules.{rules}
-use Prim.Native.Nat.{◌+◌, ◌<◌, ◌≤◌}
+use Prim.Native.Nat.{ℕ, ◌+◌, ◌<◌, ◌≤◌}
+use mathlib.Core.Bool.{Bool, true, false}
 use mathlib.Core.List.{[], ◌++◌}
 use mathlib.Core.Path.{◌≡◌, sym, ap, ◌∙◌}
 use native.Mathlib.Omega.{arith}
 use lib.ListN.{length, take, drop, get_or, set, length-set, length-map}
 use Rattle.std.proofs.lemmas.List.{get_or-map}
+use Rattle.laws.specs.Refusal.{choose}
 use Rattle.laws.proofs.Chosen.{chosen-again, chosen-done}
 use Rattle.sample.specs.declared.MotionSample.{MotionSample}
 use Rattle.trim.specs.Inner.{no_sample}
 use Rattle.class_set.specs.Set.{names, chosen}
-use Rattle.class_set.proofs.Chosen.{Counts, counts-one, counts-none}
 use Rattle.named_samples.specs.Named.{lent_sample, samples_of}
 use Rattle.named_samples.proofs.gather.Goals.{then-names, else-names}
 use Rattle.named_samples.proofs.gather.Goals as goal
+
+-- one more where the class is named, none where it isn't
+record Counts (b : Bool) (n k m : ℕ) : Type 0 where
+  is : m ≡ choose b (n + 1) n
+  few : m ≤ k + 1
+
+module _ (b : Bool) (n k : ℕ) {m : ℕ} (few : n ≤ k) where
+  counts-one : b ≡ true → m ≡ n + 1 → Counts b n k m
+  counts-one t e = record { is = rw t e; few = omega arith }
+
+  counts-none : b ≡ false → m ≡ n → Counts b n k m
+  counts-none t e = record { is = rw t e; few = omega arith }
 
 pub loop-i-preserved : goal.loop-i-preserved
 loop-i-preserved c = let a = c.args in

@@ -1,8 +1,6 @@
 -- `named_samples::residuals_named`: as the sums of a fit, with the step of the score.
 -- Assumes nothing.
-use Prim.Native.Nat.{◌-◌}
 use mathlib.Core.Path.{◌≡◌}
-use lib.ListN.{length}
 use Rattle.laws.specs.Loops.{fold}
 use Rattle.score.specs.Score.{score_step}
 use Rattle.named_samples.specs.Named.{named_samples}

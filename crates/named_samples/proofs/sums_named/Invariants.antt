@@ -1,8 +1,6 @@
 -- `named_samples::sums_named`: what is left to add, from here as from the first sample; of a class that is not named nothing is added.
 -- Assumes nothing.
-use Prim.Native.Nat.{◌-◌}
 use mathlib.Core.Path.{◌≡◌}
-use lib.ListN.{length}
 use Rattle.laws.specs.Loops.{fold}
 use Rattle.named_samples.specs.Named.{named_samples}
 use Rattle.named_samples.proofs.Named.{fold_from}

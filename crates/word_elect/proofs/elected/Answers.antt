@@ -1,8 +1,7 @@
 -- `word_elect::elected`: rows 1 and 4 answer by the count and the flag, and what they let pass isn't too long.
 -- Assumes nothing.
-use Rattle.std.proofs.Common.{ℕ, ◌≤◌, length, refl, sym, ap, ◌∙◌, arith}
-use Rattle.laws.specs.Call.{answered}
-use Rattle.laws.proofs.Call.{answered-accepted, answered-refused}
+use Rattle.std.proofs.Common.{◌≤◌, length, sym, ap, ◌∙◌, arith}
+use Rattle.laws.proofs.Call.{answered-refused}
 use Rattle.laws.proofs.Refusal.{or-else-quiet}
 use Rattle.refusal.proofs.Rows.{above-zero}
 use Rattle.sample.specs.Word.{most_samples}
@@ -10,7 +9,6 @@ use Rattle.fit.specs.Sums.{itself}
 use Rattle.fit.specs.Fitted.{list_refusal}
 use Rattle.fit.proofs.Accepted.{list-few}
 use Rattle.trim.specs.Trim.{flag_refusal}
-use Rattle.elect.specs.declared.Elected.{Elected}
 use Rattle.elect.specs.Elect.{stopped, elect_refusal, as_stored, winner_from}
 use Rattle.word_elect.proofs.elected.Goals as goal
 
