@@ -38,7 +38,7 @@ pub fn store(run: Run, frame: u16, words: &[u32], classes: &[u8], blocks: &mut [
             blocks: 0,
         };
     }
-    let refusal = run::refusal_of(run);
+    let refusal = refusal::refusal_number(run::refusal_of(run));
     if refusal != 0 {
         return Stored { refusal, blocks: 0 };
     }

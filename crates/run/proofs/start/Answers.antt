@@ -1,15 +1,16 @@
 -- `run::start`: zeros where a code is wrong, otherwise identities with the flag and the form.
 -- Assumes nothing.
+use Prim.Native.Nat.{ℕ}
 use mathlib.Core.List.{List}
 use mathlib.Core.Path.{sym, ap, ◌∙◌}
 use lib.IntN.{ℤ}
-use Rattle.run.specs.Run.{run_of, moved}
+use Rattle.run.specs.Run.{run_of, no_run, moved}
 use Rattle.run.proofs.Moves.{start-refused, start-accepted}
 use Rattle.run.proofs.start.Goals as goal
 
 pub returns-then-codes_wrong : goal.returns-then-codes_wrong
 returns-then-codes_wrong c = let a = c.args in
-    ap (moved 4) c.no_run-run.ensures ∙ start-refused a.flag a.form (sym c.codes_wrong.ensures ∙ c.if-codes_wrong.true)
+    rw (c.no_run-run.ensures, c.number.ensures) (start-refused a.flag a.form (sym c.codes_wrong.ensures ∙ c.if-codes_wrong.true))
 
 pub returns : goal.returns
 returns c = let a = c.args in
