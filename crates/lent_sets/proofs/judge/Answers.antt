@@ -1,5 +1,5 @@
 -- `lent_sets::judge`: the rows' refusal, or the named samples where there is none. Assumes nothing.
-use mathlib.Core.Path.{refl, sym, ◌∙◌}
+use mathlib.Core.Path.{refl, sym}
 use native.Mathlib.Omega.{arith}
 use Rattle.std.proofs.lemmas.Result.{err_from_is_err_and}
 use Rattle.lent_sets.proofs.Answers.{lent-passed}
