@@ -4,7 +4,7 @@
 // (`MotionSample` of the Rust's global_motion.rs).
 #![tactic(auto)]
 
-ghost use Rattle.std.specs.Prelude.{◌≡◌, ◌<◌, length};
+ghost use Rattle.std.specs.Prelude.{◌≡◌, ℕ, ◌<◌, length};
 ghost use Rattle.sample.specs.Word.{row_of, col_of, v_of, u_of, class_of, word_of, in_range, place_of, sides, motions};
 ghost use Rattle.sample.specs.Sample.{sample_of, centre_of, pels_of};
 ghost use Rattle.sample.specs.Storable.{storable_from};
@@ -131,15 +131,27 @@ fn pels_of(stored: u32) -> f64
     (stored as i32 - MOTION_BIAS as i32) as f64 / 8.0
 }
 
+// The sample of a word, by what gives the centre of a place and the pels of a stored motion.
+fn sample_with<C: Fn(u32) -> f64, P: Fn(u32) -> f64>(word: u32, centre: C, pels: P) -> MotionSample
+    requires centre_given { (place : ℕ) → place < sides → C.pre centre place }
+    requires pels_given { (stored : ℕ) → stored < motions → P.pre pels stored }
+    ensures x { C.post centre (col_of word) result.x }
+    ensures y { C.post centre (row_of word) result.y }
+    ensures u { P.post pels (u_of word) result.u }
+    ensures v { P.post pels (v_of word) result.v }
+{
+    MotionSample {
+        x: centre(col_of(word)),
+        y: centre(row_of(word)),
+        u: pels(u_of(word)),
+        v: pels(v_of(word)),
+    }
+}
+
 pub fn sample_of(word: u32) -> MotionSample
     ensures { result ≡ sample_of word }
 {
-    MotionSample {
-        x: centre_of(col_of(word)),
-        y: centre_of(row_of(word)),
-        u: pels_of(u_of(word)),
-        v: pels_of(v_of(word)),
-    }
+    sample_with(word, centre_of, pels_of)
 }
 
 // The centres of all rows or columns of blocks, which a long list of words looks up.
@@ -154,14 +166,7 @@ pub fn sample_by(centres: &[f64; 64], word: u32) -> MotionSample
     requires { Tabled centre_of sides centres.now }
     ensures { result ≡ sample_of word }
 {
-    let row = row_of(word) as usize;
-    let col = col_of(word) as usize;
-    MotionSample {
-        x: centres[col],
-        y: centres[row],
-        u: pels_of(u_of(word)),
-        v: pels_of(v_of(word)),
-    }
+    sample_with(word, |place| centres[place as usize], pels_of)
 }
 
 // The motions in pels of all stored ones, which a longer list looks up too.
@@ -189,12 +194,9 @@ pub fn sample_from(centres: &[f64; 64], motions: &[f64], word: u32) -> MotionSam
     requires tabled_2 { Tabled pels_of (length motions.now) motions.now }
     ensures { result ≡ sample_of word }
 {
-    let row = row_of(word) as usize;
-    let col = col_of(word) as usize;
-    MotionSample {
-        x: centres[col],
-        y: centres[row],
-        u: motion_by(motions, u_of(word)),
-        v: motion_by(motions, v_of(word)),
-    }
+    sample_with(
+        word,
+        |place| centres[place as usize],
+        |stored| motion_by(motions, stored),
+    )
 }
