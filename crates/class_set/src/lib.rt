@@ -12,9 +12,6 @@ use class::LAST_CLASS;
 // Classes 0 to 4.
 pub const ALL_CLASSES: u8 = 31;
 
-// Row 19 of the rules' table.
-pub const NO_CLASS: u32 = 19;
-
 pub fn names(set: u8, class: u8) -> bool
     ensures { result ≡ names set class }
 {
