@@ -34,7 +34,8 @@ fn half_refusal(sides: Sides, pels: usize, room: usize) -> Result<(), Refusal>
     Ok(())
 }
 
-// The half plane of a plane, from the front of the lent buffer; answers the refusal's number, 0 for none.
+// The half plane of a plane, from the front of the lent buffer; answers the refusal's number, 0 for none, as
+// C's belt_half_plane hands it on.
 pub fn half_plane(plane: &[u16], width: usize, height: usize, out: &mut [u16]) -> u32
     ensures value { result ≡ half_refusal width height (length plane.now) (length out.old) }
     ensures out_after { out.new ≡ half_left plane.now width height out.old }

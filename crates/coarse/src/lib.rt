@@ -78,7 +78,8 @@ fn eight_offsets(y: usize, x: usize, columns: &[u32]) -> [u32; 8]
     costs
 }
 
-// Eight candidates side by side at once; one by one where one of them is below the best.
+// Eight candidates side by side at once; one by one where one of them is below the best. The block, its spread, the
+// window and the columns stay parameters: clauses over a struct of borrowed parts read no plainer.
 fn coarse_eight(
     best: Best,
     y: usize,

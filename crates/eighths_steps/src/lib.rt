@@ -14,6 +14,8 @@ use stage::{Best, STEP_SQUARE};
 
 const STEP_SIDE: usize = 3;
 
+// The corner, the block and the window's bytes stay parameters: clauses over a struct of borrowed parts name each part
+// at entry and at exit, and read no plainer.
 fn eighths_candidate(
     best: Best,
     k: usize,

@@ -76,7 +76,8 @@ fn lane(k: usize, row: &[u16], part: &[u16]) -> u32
     cost
 }
 
-// The same in 16 bits.
+// The same in 16 bits: a function of its own, since one over both widths needs a trait for two lines of body, and is
+// no plainer.
 fn low_lane(k: usize, row: &[u16], part: &[u16]) -> u16
     requires lane_row { LaneRow row.now part.now }
     requires at_most { AtMost 8191 row.now }
