@@ -47,6 +47,9 @@ struct Reference<'a> {
     ghost priors: { ValidPrior prior.now first },
 }
 
+// What a step reads stands beside the cursor behind it, in a struct of its own: `ParamIs` to `SevenIs` of
+// specs/Inner name each.
+
 // A number read, and the cursor behind it.
 #[derive(Clone, Copy)]
 struct Param {

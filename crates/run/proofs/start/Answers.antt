@@ -1,10 +1,9 @@
 -- `run::start`: zeros where a code is wrong, otherwise identities with the flag and the form.
 -- Assumes nothing.
-use Prim.Native.Nat.{ℕ}
 use mathlib.Core.List.{List}
 use mathlib.Core.Path.{sym, ap, ◌∙◌}
 use lib.IntN.{ℤ}
-use Rattle.run.specs.Run.{run_of, no_run, moved}
+use Rattle.run.specs.Run.{run_of, moved}
 use Rattle.run.proofs.Moves.{start-refused, start-accepted}
 use Rattle.run.proofs.start.Goals as goal
 
