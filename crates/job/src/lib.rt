@@ -163,7 +163,8 @@ pub fn job(
     job_in(pair, handed, input_half, ref_half, words, blocks, header)
 }
 
-// The same in the form that is handed.
+// The same in the form that is handed. The lent buffers stay apart: a struct of `&mut` asks each function
+// that takes it for a clause that its references are still the same.
 pub fn job_in(
     pair: Pair,
     handed: Handed,

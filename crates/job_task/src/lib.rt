@@ -37,7 +37,7 @@ const LAST_REFERENCE: u8 = 7;
 // made from (class c is bit c; 31: all of them), and the bit of the header's first byte at which writing
 // begins.
 #[repr(C)]
-#[derive(Clone, Copy)]
+#[derive(Clone, Copy, Debug, PartialEq, Eq)]
 pub struct Settings {
     pub frame: u16,
     pub gm_type: u8,

@@ -10,8 +10,8 @@ use Rattle.job_outcome.specs.Outcome.{Ended}
 use Rattle.job_outcome.specs.Done.{Done}
 use Rattle.job_outcome.specs.Words.{Finished}
 use Rattle.words_job.specs.Outcome as of_words
-use Rattle.run_job.specs.Words.{AskedOf, sheet_in_run, WordsDoneIn}
-use Rattle.run_job.specs.Job.{Asked, with_flag, in_run, DoneIn}
+use Rattle.run_job.specs.Words.{AskedOf, sheet_in_run}
+use Rattle.run_job.specs.Job.{Asked, with_flag, in_run}
 
 -- the job with these settings
 abbrev pub by : Run → Asked → Settings → Task

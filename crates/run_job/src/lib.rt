@@ -19,7 +19,7 @@ use job_task::{Handed, Pair};
 use run::Run;
 
 #[repr(C)]
-#[derive(Clone, Copy)]
+#[derive(Clone, Copy, Debug, PartialEq)]
 pub struct JobDone {
     pub report: Report,
     pub run: Run,
@@ -66,6 +66,7 @@ fn stepped(run: Run, report: Report) -> JobDone
 }
 
 // A job with the run's prior, flag and form: the flag of its settings isn't looked at.
+// Handed one by one, as C hands them (`belt_run_job`); so is a job of words.
 pub fn job_in_run(
     run: Run,
     input: &[u16],

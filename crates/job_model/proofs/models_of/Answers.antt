@@ -1,6 +1,5 @@
 -- `job_model::models_of`: the refusal of the job's own model decides, as in the definition.
 -- Assumes nothing.
-use mathlib.Core.Path.{sym, ◌∙◌}
 use borrow.Author.Rules.{rules}
 use Rattle.job_model.proofs.Composed.{refused-as, accepted-as}
 use Rattle.job_model.proofs.models_of.Goals as goal

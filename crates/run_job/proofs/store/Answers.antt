@@ -1,6 +1,6 @@
 -- `run_job::store`: the lists' rows, then the run's, then the frame is stored in the run's form.
 -- Assumes nothing.
-use mathlib.Core.Path.{◌≡◌, sym, ◌∙◌}
+use mathlib.Core.Path.{sym, ◌∙◌}
 use borrow.Author.Rules.{rules}
 use Rattle.frame_store.specs.Store.{list_refusal}
 use Rattle.run_job.proofs.Rows.{lists-refuse, run-refuses, form-decides}
