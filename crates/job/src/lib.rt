@@ -8,10 +8,9 @@
 ghost use Rattle.std.specs.Prelude.{◌≡◌, ◌≢◌, Ok, IfErr};
 ghost use Rattle.class_set.specs.Set.{chosen};
 ghost use Rattle.job_task.specs.Task.{task, task_of, lend};
-ghost use Rattle.job_task.specs.Rows.{early};
 ghost use Rattle.job_model.specs.Modelled.{modelled, modelled_in};
 ghost use Rattle.job_outcome.specs.Words as sheet;
-ghost use Rattle.job_outcome.specs.Outcome.{refused, ended, outcome};
+ghost use Rattle.job_outcome.specs.Outcome.{refused, ended};
 ghost use Rattle.job_outcome.specs.Done.{Done};
 ghost use Rattle.job.specs.Inner as inner;
 
@@ -96,34 +95,6 @@ pub fn finish(handed: Handed, words: &[u32], blocks: &mut [u8], header: &mut [u8
     }
 }
 
-// A job that no row before the search refuses.
-fn run(
-    pair: Pair,
-    handed: Handed,
-    input_half: &mut [u16],
-    ref_half: &mut [u16],
-    words: &mut [u32],
-    blocks: &mut [u8],
-    header: &mut [u8],
-) -> Report
-    requires { early (task_of pair handed)
-        (lend input_half.old ref_half.old words.old blocks.old header.old) ≡ 0 }
-    ensures { ended result (lend input_half.new ref_half.new words.new blocks.new header.new) ≡
-        outcome (task_of pair.entry handed.entry) (lend input_half.old ref_half.old words.old blocks.old header.old) }
-{
-    let found = search::collect_motion_samples(
-        pair.input,
-        pair.reference,
-        pair.width,
-        pair.height,
-        handed.classes,
-        input_half,
-        ref_half,
-        &mut *words,
-    );
-    finish(handed, &words[..found.samples], blocks, header)
-}
-
 // Handed one by one, as C hands them (`belt_job`, docs/RULES.md, 'Job').
 pub fn job(
     input: &[u16],
@@ -190,7 +161,19 @@ pub fn job_in(
         header: header.len(),
     };
     match handed.refusal_of(sizes) {
-        Ok(()) => run(pair, handed, input_half, ref_half, words, blocks, header),
         Err(refusal) => refused(refusal.number()),
+        Ok(()) => {
+            let found = search::collect_motion_samples(
+                pair.input,
+                pair.reference,
+                pair.width,
+                pair.height,
+                handed.classes,
+                input_half,
+                ref_half,
+                &mut *words,
+            );
+            finish(handed, &words[..found.samples], blocks, header)
+        }
     }
 }

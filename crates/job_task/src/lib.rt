@@ -50,7 +50,7 @@ pub struct Settings {
 }
 
 // The sides of the planes, and how long planes and lent buffers are.
-#[derive(Clone, Copy)]
+#[derive(Clone, Copy, Debug, PartialEq, Eq)]
 pub struct Sizes {
     pub width: usize,
     pub height: usize,
@@ -110,25 +110,6 @@ impl Settings {
     }
 }
 
-impl Sizes {
-    fn too_little(self, form: u32) -> bool
-        requires { Small self.width self.height }
-        ensures { result ≡ too_little self form }
-    {
-        if search::refusals::too_short(
-            self.width,
-            self.height,
-            self.input_half,
-            self.ref_half,
-            self.words,
-        ) {
-            return true;
-        }
-        let samples = self.height / BLOCK * (self.width / BLOCK);
-        self.blocks < BLOCK_BYTES * forms::blocks_of(form, samples) || self.header < MOST_BYTES
-    }
-}
-
 impl Handed<'_> {
     // Not six types, not 36 numbers of theirs, or not the prior's 42.
     pub fn wrong_others(self) -> bool
@@ -163,6 +144,21 @@ impl Handed<'_> {
             || 1 < self.settings.elect
             || class_set::names_over(self.settings.set)
             || forms::no_form(self.form)
+    }
+
+    fn too_little(self, sizes: Sizes) -> bool
+        requires { Small sizes.width sizes.height }
+        ensures { result ≡ too_little sizes self.entry.form }
+    {
+        let samples = sizes.height / BLOCK * (sizes.width / BLOCK);
+        search::refusals::too_short(
+            sizes.width,
+            sizes.height,
+            sizes.input_half,
+            sizes.ref_half,
+            sizes.words,
+        ) || sizes.blocks < BLOCK_BYTES * forms::blocks_of(self.form, samples)
+            || sizes.header < MOST_BYTES
     }
 
     // A class that the form can't hold.
@@ -233,7 +229,7 @@ impl Handed<'_> {
         requires { Small sizes.width sizes.height }
         ensures { refusal_number result ≡ judge (room_rows sizes self.entry.settings self.entry.form self.entry.classes.now) }
     {
-        if sizes.too_little(self.form) {
+        if self.too_little(sizes) {
             return Err(Refusal::TooShort);
         }
         if self.too_few_to_trim() {
