@@ -20,8 +20,8 @@ slice_bounds-finish-end c = let a = c.args in
     let l : Lent = lend a.input_half.now a.ref_half.now a.words.now a.blocks.now a.header.now in
     front-there (found_front j l (ready j l (sym c.in-Ok.ensures)) c.collect_motion_samples-found.ensures)
 
-pub slice_bounds-finish-end-2 : goal.slice_bounds-finish-end-2
-slice_bounds-finish-end-2 c = let a = c.args in
+pub slice_bounds-finish-end-in-Ok : goal.slice_bounds-finish-end-in-Ok
+slice_bounds-finish-end-in-Ok c = let a = c.args in
     let j : Task = task_of a.pair a.handed in
     let l : Lent = lend a.input_half.now a.ref_half.now a.words.now a.blocks.now a.header.now in
     front-count (found_front j l (ready j l (sym c.in-Ok.ensures)) c.collect_motion_samples-found.ensures)
