@@ -5,7 +5,10 @@
 
 ghost use Rattle.std.specs.Prelude.{◌≡◌, length};
 ghost use Rattle.laws.specs.Call.{left};
-ghost use Rattle.run.specs.Run.{run_of};
+ghost use Rattle.laws.specs.Refusal.{or_else};
+ghost use Rattle.refusal.specs.Number.{refusal_number};
+ghost use Rattle.frame_store.specs.Store.{list_refusal};
+ghost use Rattle.run.specs.Run.{run_of, run_refusal};
 ghost use Rattle.job_task.specs.Task.{lend};
 ghost use Rattle.job_outcome.specs.Outcome.{ended};
 ghost use Rattle.run_job.specs.Store.{stored_in_run, stored_in_run_left};
@@ -16,6 +19,7 @@ ghost use Rattle.run_job.specs.Words.{asked_of, WordsDoneIn};
 use block::Stored;
 use job::{Report, Settings};
 use job_task::{Handed, Pair};
+use refusal::Refusal;
 use run::Run;
 
 #[repr(C)]
@@ -25,24 +29,27 @@ pub struct JobDone {
     pub run: Run,
 }
 
+// The rows of the lists, then the run's.
+fn refusal_of(run: Run, words: &[u32], classes: &[u8]) -> Result<(), Refusal>
+    ensures { refusal_number result ≡ or_else (list_refusal words.now classes.now) (run_refusal run) }
+{
+    frame_store::list_refusal(words, classes)?;
+    run::refusal_of(run)
+}
+
 // Stores the words, class bits zero, and their classes as the blocks of this frame, in the run's form;
 // nothing in the run moves.
 pub fn store(run: Run, frame: u16, words: &[u32], classes: &[u8], blocks: &mut [u8]) -> Stored
     ensures value { result ≡ stored_in_run run frame words.now classes.now (length blocks.old) }
     ensures blocks_after { blocks.new ≡ stored_in_run_left run frame words.now classes.now blocks.old }
 {
-    let lists = refusal::refusal_number(frame_store::list_refusal(words, classes));
-    if lists != 0 {
-        return Stored {
-            refusal: lists,
+    match refusal_of(run, words, classes) {
+        Ok(()) => frame_store::store(run.form, frame, words, classes, blocks),
+        Err(refusal) => Stored {
+            refusal: refusal.number(),
             blocks: 0,
-        };
+        },
     }
-    let refusal = refusal::refusal_number(run::refusal_of(run));
-    if refusal != 0 {
-        return Stored { refusal, blocks: 0 };
-    }
-    frame_store::store(run.form, frame, words, classes, blocks)
 }
 
 // The settings with the run's flag for their own.
