@@ -1,7 +1,6 @@
 -- What the functions below the public calls ask and answer; no public contract cites it.
 -- Assumes nothing.
-use Rattle.std.specs.Prelude.{◌≡◌, ℕ, Result, Ok, Err, refl}
-use Rattle.laws.specs.Call.{answered}
+use Rattle.std.specs.Prelude.{◌≡◌, Result, Ok, Err, refl}
 use Rattle.sample.specs.declared.MotionSample.{MotionSample}
 use Rattle.fit.specs.declared.TranslationSums.{TranslationSums}
 use Rattle.fit.specs.declared.RotZoomSums.{RotZoomSums}
@@ -11,7 +10,6 @@ use Rattle.solve.specs.Elimination.{singular}
 use Rattle.solve.specs.Solution.{number_of}
 use Rattle.fit.specs.declared.Fitted.{Fitted}
 use Rattle.fit.specs.declared.Fitted.TheVariants.{Refused}
-use Rattle.fit.specs.Fitted.{list_refusal}
 use Rattle.fit.specs.Sums.{Summing, translation_totals, rot_zoom_totals, affine_totals, plus, su, sv, sx, sy, sxx, sxy, syy, sxu, syu, sxv, syv, q, p1, p2}
 
 -- a sample added to every sum of a fit
@@ -63,7 +61,3 @@ affine_moves sum s = refl
 abbrev pub or_singular : Result Fitted Singular → Fitted
 or_singular (Ok f) = f
 or_singular (Err _) = Refused (number_of singular)
-
--- how many samples of so many a walk takes: a list that is too long isn't walked
-abbrev pub taken : ℕ → ℕ
-taken samples = answered (λ refusal. 0) (list_refusal samples) samples

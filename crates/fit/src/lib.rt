@@ -15,7 +15,7 @@ ghost use Rattle.sample.specs.Word.{most_samples};
 ghost use Rattle.sample.specs.Sample.{sample_of, pels_of};
 ghost use Rattle.sample.specs.Inner.{Tabled};
 ghost use Rattle.fit.specs.Sums.{Summing, itself, sums_of, plus, no_sums, count_as, translation_totals, rot_zoom_totals, affine_totals};
-ghost use Rattle.fit.specs.Inner.{translation_step, rot_zoom_step, affine_step, or_singular, translation_moves, rot_zoom_moves, affine_moves, taken};
+ghost use Rattle.fit.specs.Inner.{translation_step, rot_zoom_step, affine_step, or_singular, translation_moves, rot_zoom_moves, affine_moves};
 ghost use Rattle.fit.specs.Fitted.{refusal_of, type_of, rot_zoom_system, affine_u, translation_of, rot_zoom_of, affine_of};
 ghost use Rattle.fit.specs.Fitted.{translation_fit, rot_zoom_fit, affine_fit, fit_of, fit_from, list_refusal, type_refusal, fit_refusal, fit_answer, fitted};
 
@@ -32,11 +32,6 @@ pub const AFFINE: u8 = 3;
 
 // From so many words on a table of all motions spares more than it costs.
 const LONG_LIST: usize = 256;
-
-// Rows of the rules' table that callers name by their numbers.
-pub const TOO_MANY: u32 = 1;
-
-pub const NO_SUCH_CODE: u32 = 4;
 
 // A fitted model, its numbers by the slots of the standard. A rotation-zoom's m4 is −m3 and its m5 is
 // m2.
@@ -267,42 +262,6 @@ impl FitSums for AffineSums {
     }
 }
 
-pub fn translation_begin() -> TranslationSums
-    ensures { result ≡ translation_totals no_sums }
-{
-    TranslationSums::begin()
-}
-
-pub fn rotzoom_begin() -> RotZoomSums
-    ensures { result ≡ rot_zoom_totals no_sums }
-{
-    RotZoomSums::begin()
-}
-
-pub fn affine_begin() -> AffineSums
-    ensures { result ≡ affine_totals no_sums }
-{
-    AffineSums::begin()
-}
-
-pub fn translation_step(t: TranslationSums, s: MotionSample) -> TranslationSums
-    ensures { result ≡ translation_step t s }
-{
-    t.step(s)
-}
-
-pub fn rotzoom_step(t: RotZoomSums, s: MotionSample) -> RotZoomSums
-    ensures { result ≡ rot_zoom_step t s }
-{
-    t.step(s)
-}
-
-pub fn affine_step(t: AffineSums, s: MotionSample) -> AffineSums
-    ensures { result ≡ affine_step t s }
-{
-    t.step(s)
-}
-
 // The sums of a list of words, each made into its sample.
 fn sums_of<S: FitSums>(words: &[u32]) -> S
     ensures { result ≡ S.totals (sums_of sample_of words.now) }
@@ -442,16 +401,6 @@ pub fn list_refusal(samples: usize) -> Result<(), Refusal>
     Ok(())
 }
 
-// How many samples of so many a walk takes: none of a list that is refused.
-pub fn list_taken(samples: usize) -> usize
-    ensures { result ≡ taken samples }
-{
-    match list_refusal(samples) {
-        Err(_) => 0,
-        Ok(()) => samples,
-    }
-}
-
 // The fit of the sums over so many samples, or the list's refusal.
 pub fn ends<S: FitSums>(sums: S, samples: usize) -> Fitted
     ensures { result ≡ fit_answer samples (S.made sums (count_as samples)) }
@@ -460,24 +409,6 @@ pub fn ends<S: FitSums>(sums: S, samples: usize) -> Fitted
         Err(refusal) => Fitted::Refused(refusal.number()),
         Ok(()) => sums.fit(samples),
     }
-}
-
-pub fn translation_ends(t: TranslationSums, samples: usize) -> Fitted
-    ensures { result ≡ fit_answer samples (translation_of t (count_as samples)) }
-{
-    ends(t, samples)
-}
-
-pub fn rotzoom_ends(t: RotZoomSums, samples: usize) -> Fitted
-    ensures { result ≡ fit_answer samples (rot_zoom_of t (count_as samples)) }
-{
-    ends(t, samples)
-}
-
-pub fn affine_ends(t: AffineSums, samples: usize) -> Fitted
-    ensures { result ≡ fit_answer samples (affine_of t (count_as samples)) }
-{
-    ends(t, samples)
 }
 
 // The fit of samples themselves, or their list's refusal; a list that is too long isn't walked.
