@@ -33,7 +33,7 @@ pub fn encode_global_motion(
     ensures header_after { header.new ≡ frame_after intra start types.now params.now flag prior.now header.old }
 {
     if intra {
-        let refusal = key_frame::key_refusal(start, types, params, flag);
+        let refusal = refusal::refusal_number(key_frame::key_refusal(start, types, params, flag));
         return Written {
             refusal,
             bits: KEY_BITS,

@@ -149,7 +149,7 @@ pub fn frame_price(intra: bool, types: &[u8], params: &[i32], flag: u8, prior: &
     ensures { result ≡ frame_price intra types.now params.now flag prior.now }
 {
     if intra {
-        let refusal = key_frame::key_refusal(0, types, params, flag);
+        let refusal = refusal::refusal_number(key_frame::key_refusal(0, types, params, flag));
         return Price { refusal, bits: 0 };
     }
     match inter_bits(Header {
