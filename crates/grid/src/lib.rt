@@ -8,7 +8,7 @@ ghost use Rattle.refusal.specs.Number.{refusal_number};
 ghost use Rattle.grid.specs.Grid.{param_bits, abs_bits, prec_bits, centre, negative, step, nearest_ordinal, signed, quantize, quantized, refusal, answer};
 ghost use Rattle.grid.specs.Slots.{slots_of};
 ghost use Rattle.grid.specs.Symbols.{symbols, symbol_of, number_of};
-ghost use Rattle.grid.specs.Inner.{off_grid, place_code, PriorIn, SymbolsIs, SymbolIs, PlacesAre, CodedIn, CodedIs, SlotsIs};
+ghost use Rattle.grid.specs.Inner.{off_grid, place_code, PriorIn, SymbolsIs, SymbolIs, PlacesAre, CodedIn, CodedIs};
 
 pub use byte_field::wide_power as power_of_two;
 use refusal::Refusal;
@@ -50,13 +50,6 @@ pub struct Coded {
     pub mx: u32,
     pub r: u32,
     pub t: u32,
-}
-
-// The slots that a type carries, in the order of reading: the first `count` of `order`.
-#[derive(Clone, Copy, Debug, PartialEq, Eq)]
-pub struct SlotOrder {
-    pub count: usize,
-    pub order: [u8; 6],
 }
 
 // A row of the table of refusals (0: none), and the quantized number.
@@ -356,25 +349,6 @@ pub fn slots_carried(gm_type: u8) -> &'static [u8]
         ROTZOOM => &[2, 3, 0, 1],
         _ => &[2, 3, 4, 5, 0, 1],
     }
-}
-
-pub fn slots_of(gm_type: u8) -> SlotOrder
-    ensures { SlotsIs gm_type result }
-{
-    if gm_type == IDENTITY {
-        let order = [0, 0, 0, 0, 0, 0];
-        return SlotOrder { count: 0, order };
-    }
-    if gm_type == TRANSLATION {
-        let order = [0, 1, 0, 0, 0, 0];
-        return SlotOrder { count: 2, order };
-    }
-    if gm_type == ROTZOOM {
-        let order = [2, 3, 0, 1, 0, 0];
-        return SlotOrder { count: 4, order };
-    }
-    let order = [2, 3, 4, 5, 0, 1];
-    SlotOrder { count: 6, order }
 }
 
 // The nearest codable number of a slot.
