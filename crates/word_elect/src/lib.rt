@@ -9,7 +9,7 @@ ghost use Rattle.sample.specs.Sample.{sample_of};
 ghost use Rattle.sample.specs.Word.{most_samples};
 ghost use Rattle.fit.specs.Sums.{itself};
 ghost use Rattle.elect.specs.Elect.{error_from, candidate_from, turn, winner_from, elected_from};
-ghost use Rattle.word_elect.specs.Turned.{turned};
+ghost use Rattle.word_elect.specs.Inner.{turned};
 
 use elect::{Elected, MIN_MOTION_ENERGY};
 use fit::{AFFINE, ROTZOOM, TRANSLATION};

@@ -31,7 +31,17 @@ const WORKED: [(u8, u8, u8, i32, u32, i32, &str); 7] = [
 ];
 
 fn main(rt: HostRuntime) -> io::Result<()> {
-    replay::replay_list(&rt, "grid.bin", "grid", |list, _| Ok(value_holds(list)))?;
+    let Some(mut list) = replay::open_list(&rt, "grid.bin")? else {
+        return Ok(());
+    };
+    let count = u64::from(list.next_word());
+    replay::try_cases(
+        &rt,
+        &mut list,
+        "grid",
+        count,
+        |list, _| Ok(value_holds(list)),
+    )?;
     for (gm_type, flag, slot, number, refusal, value, what) in WORKED {
         if grid::quantize_global_param(gm_type, flag, slot, number)
             != (Quantized { refusal, value })
