@@ -123,13 +123,21 @@ impl List {
         }
     }
 
-    // So many samples, of which the first are written out, and come round again.
+    // So many samples, of which the first are written out, and come round again; of none written all are zeros.
     pub fn next_samples(
         &mut self,
         count: usize,
         written: usize,
     ) -> Result<Vec<MotionSample>, AllocError> {
-        let listed = self.next_vec(written, |list| list.next_sample())?;
+        let mut listed = self.next_vec(written, |list| list.next_sample())?;
+        if listed.is_empty() {
+            listed.push(MotionSample {
+                x: 0.0,
+                y: 0.0,
+                u: 0.0,
+                v: 0.0,
+            })?;
+        }
         listed
             .iter()
             .copied()

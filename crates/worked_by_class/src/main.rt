@@ -9,7 +9,7 @@ use fit_numbers::FitAnswer;
 use lent_fit::{Params, ToQuantize};
 use lent_trim::ToTrim;
 use quantize::Quantized;
-use replay::List;
+use replay::{List, OVER};
 use score::Score;
 use std::alloc::{AllocError, Global};
 use std::{array, io};
@@ -155,6 +155,9 @@ fn numbers_of(word: u32) -> [f64; 4] {
 fn calls_hold(alloc: Global, list: &mut List, lent: bool) -> Result<bool, AllocError> {
     let count = list.next_size();
     let listed = list.next_size();
+    if count > OVER || listed > OVER {
+        return Ok(false);
+    }
     let words = list.next_vec(count, |list| list.next_word())?;
     let classes = list.next_vec(listed, |list| list.next_code())?;
     let a = Ask {

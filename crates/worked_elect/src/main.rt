@@ -2,7 +2,7 @@
 #![tactic(auto)]
 
 use elect::Elected;
-use replay::List;
+use replay::{List, OVER};
 use std::alloc::AllocError;
 use std::io;
 
@@ -18,8 +18,12 @@ fn agrees(list: &mut List, e: Elected) -> bool {
         && replay::bits_of([e.score]) == [score]
 }
 
+// A list of more than a call may be handed, and one, is wrong.
 fn words_hold(list: &mut List) -> Result<bool, AllocError> {
     let count = list.next_size();
+    if count > OVER {
+        return Ok(false);
+    }
     let words = list.next_vec(count, |list| list.next_word())?;
     let flag = list.next_code();
     Ok(agrees(list, word_elect::elect(flag, &words)))
@@ -28,7 +32,10 @@ fn words_hold(list: &mut List) -> Result<bool, AllocError> {
 fn samples_hold(list: &mut List) -> Result<bool, AllocError> {
     let count = list.next_size();
     let written = list.next_size();
-    let samples = list.next_samples(count, written)?;
+    if count > OVER {
+        return Ok(false);
+    }
+    let samples = list.next_samples(count, written.min(OVER))?;
     let flag = list.next_code();
     Ok(agrees(list, lent_elect::belt_elect_samples(&samples, flag)))
 }

@@ -9,7 +9,7 @@ use lent_trim::ToTrim;
 use quantize::Quantized;
 use refusal::Refusal;
 use replay::{IDENTITY, List, OVER};
-use sample::MotionSample;
+use sample::{MOST_SAMPLES, MotionSample};
 use score::Score;
 use std::alloc::{AllocError, Global};
 use std::{array, io};
@@ -160,9 +160,13 @@ fn flag_of(case: u64) -> u8 {
 // The words are remade from a seed.
 fn fit_holds(alloc: Global, list: &mut List, flag: u8) -> Result<bool, AllocError> {
     let mut state = list.next_word();
-    let mut words = vec![in alloc; 0u32; list.next_size()]?;
+    let count = list.next_size();
     let mask = list.next_word();
     let fixed = list.next_word();
+    if count > MOST_SAMPLES {
+        return Ok(false);
+    }
+    let mut words = vec![in alloc; 0u32; count]?;
     for word in words.iter_mut() {
         let high = generator::next_state(state);
         state = generator::next_state(high);
@@ -187,6 +191,9 @@ fn system_holds(list: &mut List) -> bool {
 // The words of one order.
 fn order_holds(list: &mut List, flag: u8) -> Result<bool, AllocError> {
     let count = list.next_size();
+    if count > MOST_SAMPLES {
+        return Ok(false);
+    }
     let words = list.next_vec(count, |list| list.next_word())?;
     Ok(Samples::Words(&words).all_plain_hold(list, flag))
 }
@@ -194,12 +201,18 @@ fn order_holds(list: &mut List, flag: u8) -> Result<bool, AllocError> {
 fn samples_hold(list: &mut List, flag: u8) -> Result<bool, AllocError> {
     let count = list.next_size();
     let written = list.next_size();
-    let samples = list.next_samples(count, written)?;
+    if count > OVER {
+        return Ok(false);
+    }
+    let samples = list.next_samples(count, written.min(OVER))?;
     Ok(Samples::Any(&samples).all_hold(list, flag))
 }
 
 fn trimmed_holds(list: &mut List) -> Result<bool, AllocError> {
     let count = list.next_size();
+    if count > OVER {
+        return Ok(false);
+    }
     let words = list.next_vec(count, |list| list.next_word())?;
     let gm_type = list.next_code();
     let flag = list.next_code();

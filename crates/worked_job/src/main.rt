@@ -10,7 +10,7 @@ ghost use Rattle.std.specs.Prelude.{◌<◌};
 use job::{Report, Settings};
 use replay::{List, UNTOUCHED_BYTE, UNTOUCHED_PEL, UNTOUCHED_WORD};
 use std::alloc::AllocError;
-use std::io;
+use std::{array, io};
 
 // ---- the planes
 
@@ -136,13 +136,16 @@ fn next_settings(list: &mut List) -> Settings {
 fn report_holds(list: &mut List, r: Report) -> bool {
     let refusal = list.next_word();
     let samples = list.next_size();
-    let types: [u8; 7] = list.next_codes();
+    let types: [u32; 7] = array::from_fn(|_| list.next_word());
     let models = list.next_numbers();
     let score = list.next_bits();
     let bits = list.next_size();
     r.refusal == refusal
         && r.samples == samples
-        && r.types == types
+        && r.types
+            .iter()
+            .zip(types)
+            .all(|(gm_type, wanted)| u32::from(*gm_type) == wanted)
         && r.models == models
         && replay::bits_of([r.score]) == [score]
         && r.bits == bits

@@ -19,10 +19,11 @@ struct Span {
 
 impl Span {
     fn place(self, at: usize) -> u32 {
-        self.from
-            .wrapping_add((at % 65536) as u32)
-            .min(self.last)
-            .max(self.first)
+        let place = self.from.wrapping_add((at % 65536) as u32);
+        if place < self.first {
+            return self.first;
+        }
+        place.min(self.last)
     }
 }
 
@@ -159,7 +160,7 @@ fn texture_holds(alloc: Global, list: &mut List) -> Result<bool, AllocError> {
 fn planes_hold(list: &mut List) -> Result<bool, AllocError> {
     let width = list.next_size();
     let height = list.next_size();
-    let pels = list.next_size();
+    let pels = list.next_size().min(6400);
     let input = list.next_vec(pels, |list| list.next_pel())?;
     let reference = list.next_vec(pels, |list| list.next_pel())?;
     let wanted = Searched {
