@@ -135,9 +135,9 @@ static const struct {
     {"belt_fit_by_class", fit_by_class, 23000},
     {"belt_fit_trimmed_by_class", fit_trimmed_by_class, 75000},
     {"belt_elect_by_class", elect_by_class, 75000},
-    {"belt_fit_trimmed_samples", fit_trimmed_samples, 170000},
-    {"belt_elect_samples", elect_samples, 170000},
-    {"belt_fit_samples_by_class", fit_samples_by_class, 1100},
+    {"belt_fit_trimmed_samples", fit_trimmed_samples, 36000},
+    {"belt_elect_samples", elect_samples, 36000},
+    {"belt_fit_samples_by_class", fit_samples_by_class, 1300},
     {"belt_fit_trimmed_samples_by_class", fit_trimmed_samples_by_class, 170000},
     {"belt_elect_samples_by_class", elect_samples_by_class, 170000},
 };
