@@ -18,8 +18,8 @@
 
    The library allocates nothing, keeps nothing between calls and has no state of its own: any number of threads
    may call it at once, each with its own buffers. BELT_STACK_BYTES and its kin say how much of the thread's stack a job
-   takes. Another call that trims or elects takes about 57 kB over words, 74 kB over words by a set of classes and 168 kB
-   over samples, by a set or not, for what it keeps of them and for residuals; another call by a set takes 22 kB over
+   takes. Another call that trims or elects takes about 57 kB over words, 74 kB over words by a set of classes, 35 kB
+   over samples and 168 kB over samples by a set, for what it keeps of them and for residuals; another call by a set takes 22 kB over
    words and about 1 kB over samples. The library expects the floating-point environment that a process begins with:
    rounding to nearest, traps off, subnormal numbers kept. It needs memcpy, memset and no other function.
 
@@ -62,7 +62,7 @@
 /* What a job takes of its thread's stack, at most, in a run too: of a type that is asked for; after trimming; of a type
    that is elected. The last is the most that a job takes. bindings/c/stack.c measures them. A thread of 128 kB, as musl
    makes them, has room for each. */
-#define BELT_STACK_BYTES_PLAIN 26000
+#define BELT_STACK_BYTES_PLAIN 27000
 #define BELT_STACK_BYTES_TRIM 78000
 #define BELT_STACK_BYTES_ELECT 78000
 #define BELT_STACK_BYTES BELT_STACK_BYTES_ELECT

@@ -7,49 +7,42 @@
 
 ghost use Rattle.std.specs.Prelude.{◌≡◌, length};
 ghost use Rattle.laws.specs.Refusal.{judge};
+ghost use Rattle.refusal.specs.Number.{refusal_number};
 ghost use Rattle.plane.specs.Inner.{Small};
 ghost use Rattle.search.specs.Search.{scene};
 ghost use Rattle.band.specs.Call.{wrong_lengths, not_there, half_refusal, half_left, plane_rows, band_rows_of, band_refusal, searched_band, words_left};
 
 use plane::{BLOCK, Sides};
+use refusal::Refusal;
 pub use search::Searched;
 use search::refusals;
 
-// The rows' numbers.
-const TOO_LARGE: u32 = 1;
-
-const WRONG_LENGTH: u32 = 2;
-
-const NOT_THERE: u32 = 5;
-
-const TOO_SHORT: u32 = 3;
-
 // ---- a half plane
 
-fn half_refusal(sides: Sides, pels: usize, room: usize) -> u32
-    ensures { result ≡ half_refusal sides.width sides.height pels room }
+fn half_refusal(sides: Sides, pels: usize, room: usize) -> Result<(), Refusal>
+    ensures { refusal_number result ≡ half_refusal sides.width sides.height pels room }
 {
     if refusals::too_large(sides.width, sides.height) {
-        return TOO_LARGE;
+        return Err(Refusal::TooLarge);
     }
     if pels != sides.height * sides.width {
-        return WRONG_LENGTH;
+        return Err(Refusal::WrongLength);
     }
     if room < sides.height / 2 * (sides.width / 2) {
-        return TOO_SHORT;
+        return Err(Refusal::TooShort);
     }
-    0
+    Ok(())
 }
 
-// The half plane of a plane, from the front of the lent buffer; answers the refusal's number, 0 for none.
+// The half plane of a plane, from the front of the lent buffer; answers the refusal's number, 0 for none, as
+// C's belt_half_plane hands it on.
 pub fn half_plane(plane: &[u16], width: usize, height: usize, out: &mut [u16]) -> u32
     ensures value { result ≡ half_refusal width height (length plane.now) (length out.old) }
     ensures out_after { out.new ≡ half_left plane.now width height out.old }
 {
     let sides = Sides { width, height };
-    let refusal = half_refusal(sides, plane.len(), out.len());
-    if refusal != 0 {
-        return refusal;
+    if let Err(refusal) = half_refusal(sides, plane.len(), out.len()) {
+        return refusal.number();
     }
     plane::downsample(plane, width, height, &mut *out);
     0
@@ -57,89 +50,68 @@ pub fn half_plane(plane: &[u16], width: usize, height: usize, out: &mut [u16]) -
 
 // ---- a band
 
-fn wrong_lengths(
-    sides: Sides,
+// How many values the planes have, and what stands for their half planes.
+#[derive(Clone, Copy)]
+struct Lengths {
     input: usize,
     reference: usize,
     input_half: usize,
     ref_half: usize,
-) -> bool
+}
+
+fn wrong_lengths(sides: Sides, has: Lengths) -> bool
     requires { Small sides.width sides.height }
-    ensures { result ≡ wrong_lengths sides.width sides.height input reference input_half ref_half }
+    ensures { result ≡ wrong_lengths sides.width sides.height has.input has.reference has.input_half has.ref_half }
 {
     let pels = sides.height * sides.width;
     let half = sides.height / 2 * (sides.width / 2);
-    if input != pels {
-        return true;
-    }
-    if reference != pels {
-        return true;
-    }
-    if input_half != half {
-        return true;
-    }
-    ref_half != half
+    has.input != pels || has.reference != pels || has.input_half != half || has.ref_half != half
 }
 
 fn not_there(height: usize, first: usize, end: usize) -> bool
     ensures { result ≡ not_there height first end }
 {
-    if end < first {
-        return true;
-    }
-    height / BLOCK < end
+    end < first || height / BLOCK < end
 }
 
 // Rows 1 and 2: planes, and what stands for half planes.
-fn planes_refusal(
-    sides: Sides,
-    input: usize,
-    reference: usize,
-    input_half: usize,
-    ref_half: usize,
-) -> u32
-    ensures { result ≡ judge (plane_rows sides.width sides.height input reference input_half ref_half) }
+fn planes_refusal(sides: Sides, has: Lengths) -> Result<(), Refusal>
+    ensures { refusal_number result ≡ judge (plane_rows sides.width sides.height has.input has.reference has.input_half has.ref_half) }
 {
     if refusals::too_large(sides.width, sides.height) {
-        return TOO_LARGE;
+        return Err(Refusal::TooLarge);
     }
-    if wrong_lengths(sides, input, reference, input_half, ref_half) {
-        return WRONG_LENGTH;
+    if wrong_lengths(sides, has) {
+        return Err(Refusal::WrongLength);
     }
-    0
+    Ok(())
 }
 
 // Rows 5 and 3: the band, and the room for its words.
-fn rows_refusal(sides: Sides, first: usize, end: usize, words: usize) -> u32
+fn rows_refusal(sides: Sides, first: usize, end: usize, words: usize) -> Result<(), Refusal>
     requires { Small sides.width sides.height }
-    ensures { result ≡ judge (band_rows_of sides.width sides.height first end words) }
+    ensures { refusal_number result ≡ judge (band_rows_of sides.width sides.height first end words) }
 {
     if not_there(sides.height, first, end) {
-        return NOT_THERE;
+        return Err(Refusal::NotThere);
     }
     if words < (end - first) * (sides.width / BLOCK) {
-        return TOO_SHORT;
+        return Err(Refusal::TooShort);
     }
-    0
+    Ok(())
 }
 
-// The first row that holds, 0 for none.
+// The first row that holds.
 fn band_refusal(
     sides: Sides,
-    input: usize,
-    reference: usize,
-    input_half: usize,
-    ref_half: usize,
+    has: Lengths,
     first: usize,
     end: usize,
     words: usize,
-) -> u32
-    ensures { result ≡ band_refusal sides.width sides.height input reference input_half ref_half first end words }
+) -> Result<(), Refusal>
+    ensures { refusal_number result ≡ band_refusal sides.width sides.height has.input has.reference has.input_half has.ref_half first end words }
 {
-    let planes = planes_refusal(sides, input, reference, input_half, ref_half);
-    if planes != 0 {
-        return planes;
-    }
+    planes_refusal(sides, has)?;
     rows_refusal(sides, first, end, words)
 }
 
@@ -161,22 +133,14 @@ pub fn search_band(
         (scene input.now reference.now width height input_half.now ref_half.now) first end words.old }
 {
     let sides = Sides { width, height };
-    let refusal = band_refusal(
-        sides,
-        input.len(),
-        reference.len(),
-        input_half.len(),
-        ref_half.len(),
-        first,
-        end,
-        words.len(),
-    );
-    if refusal != 0 {
-        return Searched {
-            refusal,
-            samples: 0,
-            rows: 0,
-        };
+    let has = Lengths {
+        input: input.len(),
+        reference: reference.len(),
+        input_half: input_half.len(),
+        ref_half: ref_half.len(),
+    };
+    if let Err(refusal) = band_refusal(sides, has, first, end, words.len()) {
+        return Searched::refused(refusal);
     }
     let samples = (end - first) * (width / BLOCK);
     let rows = search::blocks::fill_band(

@@ -22,10 +22,8 @@ fn one_by_one(cursor: BitCursor, buffer: &mut [u8], n: u32, value: u32) -> BitCu
     ensures { Wrote buffer.old cursor.at (field_bits n value) buffer.new result.at }
 {
     let mut next = cursor;
-    let mut left = n;
-    while 0 < left {
-        left -= 1;
-        next = next.write_bit(buffer, bit_of(value, left));
+    for k in (0..n).rev() {
+        next = next.write_bit(buffer, bit_of(value, k));
     }
     next
 }

@@ -14,20 +14,20 @@ use byte_field::BYTE;
 
 pub const BITS_OF_A_BYTE: usize = 8;
 
-#[derive(Clone, Copy)]
+#[derive(Clone, Copy, Debug, PartialEq, Eq)]
 pub struct BitCursor {
     pub at: usize,
 }
 
 // A width, and a number of no more bits.
-#[derive(Clone, Copy)]
+#[derive(Clone, Copy, Debug, PartialEq, Eq)]
 pub struct Field {
     pub n: u32,
     pub value: u32,
 }
 
 // A number read, and the cursor behind it.
-#[derive(Clone, Copy)]
+#[derive(Clone, Copy, Debug, PartialEq, Eq)]
 pub struct Read {
     pub value: u32,
     pub next: BitCursor,
@@ -46,7 +46,7 @@ fn with_bit(x: u8, k: u32, b: u32) -> u8
     requires { (k < 8) × (b < 2) }
     ensures { result ≡ with_bit x k b }
 {
-    let whole = byte_field::wide(x);
+    let whole = x as u32;
     let weight = byte_field::power(k);
     let without = whole - bit_of(whole, k) * weight;
     (without + b * weight) as u8
@@ -56,12 +56,8 @@ fn with_bit(x: u8, k: u32, b: u32) -> u8
 fn bit_at(bytes: &[u8], at: usize) -> u32
     ensures { (result ≡ bit_at bytes.now at) × (result < 2) }
 {
-    let byte = at / BITS_OF_A_BYTE;
-    let k = (7 - at % BITS_OF_A_BYTE) as u32;
-    if byte < bytes.len() {
-        return bit_of(byte_field::wide(bytes[byte]), k);
-    }
-    0
+    let byte = bytes.get(at / BITS_OF_A_BYTE).copied().unwrap_or(0);
+    bit_of(byte as u32, (7 - at % BITS_OF_A_BYTE) as u32)
 }
 
 // A whole byte, which isn't read.
@@ -95,6 +91,7 @@ fn store_word(buffer: &mut [u8], first: usize, n: u32, word: u64)
 {
     let mut at = first;
     let mut left = n;
+    // A while: bits are counted down by eight, and what is left in the end is a front.
     while BYTE <= left {
         left -= BYTE;
         store_byte(buffer, at, word >> left);
@@ -114,7 +111,7 @@ pub fn bit_length(n: u32) -> u32
 
 // What clause 4.10.7 computes of n: w, the number of its bits, and m, how many symbols have a code
 // of w - 1 bits.
-#[derive(Clone, Copy)]
+#[derive(Clone, Copy, Debug, PartialEq, Eq)]
 struct NsWidth {
     w: u32,
     m: u32,
@@ -136,9 +133,7 @@ pub fn ns_field(n: u32, v: u32) -> Field
     requires { (v < n) × (n ≤ 65536) }
     ensures { FieldIs result (ns_bits n v) × (result.n ≤ 17) }
 {
-    let width = ns_width(n);
-    let w = width.w;
-    let m = width.m;
+    let NsWidth { w, m } = ns_width(n);
     if v < m {
         return Field { n: w - 1, value: v };
     }
@@ -171,23 +166,17 @@ impl BitCursor {
         let at = self.at;
         let first = at / BITS_OF_A_BYTE;
         let used = (at % BITS_OF_A_BYTE) as u32;
+        if n == 0 {
+            return self;
+        }
         if used + n <= BYTE {
-            if n == 0 {
-                return BitCursor { at };
-            }
             store_inside(buffer, first, used, n, value);
-            return BitCursor {
-                at: at + n as usize,
-            };
-        }
-        if used == 0 {
+        } else if used == 0 {
             store_word(buffer, first, n, value as u64);
-            return BitCursor {
-                at: at + n as usize,
-            };
+        } else {
+            let word = byte_field::joined(buffer[first], used, n, value);
+            store_word(buffer, first, used + n, word);
         }
-        let word = byte_field::joined(buffer[first], used, n, value);
-        store_word(buffer, first, used + n, word);
         BitCursor {
             at: at + n as usize,
         }
@@ -244,19 +233,15 @@ impl BitCursor {
         requires { (0 < n) × (n ≤ 65536) × (self.at + 32 < 2 ^ 64) }
         ensures { ReadIs result (ns (bit_at bytes.now) self.at n).value (self.at + (ns (bit_at bytes.now) self.at n).bits) }
     {
-        let width = ns_width(n);
-        let w = width.w;
-        let m = width.m;
+        let NsWidth { w, m } = ns_width(n);
         let v = self.f(bytes, w - 1);
         if v.value < m {
             return v;
         }
-        let next = v.next;
-        let extra_bit = next.read_bit(bytes);
-        let end = extra_bit.next;
+        let extra_bit = v.next.read_bit(bytes);
         Read {
             value: 2 * v.value - m + extra_bit.value,
-            next: end,
+            next: extra_bit.next,
         }
     }
 }

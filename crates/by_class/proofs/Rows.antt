@@ -4,6 +4,7 @@ use Prim.Native.Nat.{ℕ, ◌≤◌}
 use mathlib.Core.Bool.{Bool, false, not}
 use mathlib.Core.List.{List, [], ◌∷◌}
 use mathlib.Core.Path.{◌≡◌, sym, ap, ◌∙◌}
+use native.Mathlib.Omega.{arith}
 use borrow.Author.Tests.{ltb-false}
 use lib.Dec.{eqb}
 use lib.ListN.{length, take}
@@ -15,6 +16,9 @@ use Rattle.sample.specs.Word.{most_samples}
 use Rattle.class.specs.Class.{last_class, class_over}
 use Rattle.class_set.specs.Set.{names_over, chosen}
 use Rattle.fit.specs.Fitted.{too_many}
+use Rattle.refusal.specs.declared.Refusal.{Refusal}
+use Rattle.refusal.specs.Number.{number_of}
+use Rattle.refusal.proofs.Rows.{above-zero}
 use Rattle.by_class.specs.ByClass.{by_class}
 use Rattle.class_rows.specs.Rows.{lets_pass, empty_refusal, set_refusal}
 
@@ -61,3 +65,9 @@ module _ {A : Type 0} (wrong : Bool) (set : ℕ) (xs : List A) (cs : List ℕ) {
     -- over the named elements, moved to the front
     pub call-accepted : {out : List A} {n : ℕ} → r ≡ 0 → Front (chosen set xs cs) out n → call (take n out) ≡ by_class refused wrong call set xs cs
     call-accepted z f = call-answered z (ap call f.front)
+
+-- ---- by the refusal that the rows answer
+
+module _ {A : Type 0} (wrong : Bool) (set : ℕ) (xs : List A) (cs : List ℕ) {b : Bool} (w : b ≡ wrong) (x : Refusal) (e : number_of x ≡ set_refusal b set (length xs) cs) where
+  pub named-refused : {k : ℕ} → k ≡ number_of x → {B : Type 0} (refused : ℕ → B) (call : List A → B) → refused k ≡ by_class refused wrong call set xs cs
+  named-refused {k} n refused call = call-refused wrong set xs cs w (n ∙ e) refused call (λ z. let h = above-zero x in absurd (omega (arith, h, n, z)))

@@ -8,25 +8,19 @@ ghost use Rattle.std.specs.Prelude.{◌+◌, ◌-◌, ◌*◌, ◌/◌, ◌%◌,
 pub const BYTE: u32 = 8;
 
 // 2 to the power of k.
-pub fn power(k: u32) -> u32
-    requires { k < 32 }
-    ensures { result ≡ 2 ^ k }
-{
-    1u32 << k
-}
-
-pub fn wide(x: u8) -> u32
-    ensures { result ≡ x }
-{
-    x as u32
-}
-
-// 2 to the power of k, among 64 bits.
 pub fn wide_power(k: u32) -> u64
     requires { k ≤ 32 }
     ensures { result ≡ 2 ^ k }
 {
     1u64 << k
+}
+
+// The same, among 32 bits.
+pub fn power(k: u32) -> u32
+    requires { k < 32 }
+    ensures { result ≡ 2 ^ k }
+{
+    wide_power(k) as u32
 }
 
 pub fn low_byte(word: u64) -> u8
@@ -61,7 +55,7 @@ pub fn with_inside(byte: u8, n: u32, behind: u32, value: u32) -> u8
     requires { behind + n ≤ 8 }
     ensures { result ≡ byte / 2 ^ (behind + n) * 2 ^ (behind + n) + (value % 2 ^ n * 2 ^ behind + byte % 2 ^ behind) }
 {
-    let whole = wide(byte);
+    let whole = byte as u32;
     let below = power(behind);
     let size = power(n);
     let mask = (size - 1) * below;

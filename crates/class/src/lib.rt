@@ -4,7 +4,7 @@
 #![tactic(auto)]
 
 ghost use Rattle.std.specs.Prelude.{◌≡◌};
-ghost use Rattle.laws.specs.Refusal.{either, both};
+ghost use Rattle.laws.specs.Refusal.{both};
 ghost use Rattle.sample.specs.Storable.{storable};
 ghost use Rattle.class.specs.Class.{class_over, all_bare};
 ghost use Rattle.class.specs.Inner.{word_right};
@@ -12,27 +12,13 @@ ghost use Rattle.class.specs.Inner.{word_right};
 // Film.
 pub const LAST_CLASS: u8 = 4;
 
-pub fn or(a: bool, b: bool) -> bool
-    ensures { result ≡ either a b }
-{
-    if a { true } else { b }
-}
-
-pub fn and(a: bool, b: bool) -> bool
-    ensures { result ≡ both a b }
-{
-    if a { b } else { false }
-}
-
 // Some class of the list is over `last`.
 pub fn some_over(last: u8, classes: &[u8]) -> bool
     ensures { result ≡ class_over last classes.now }
 {
     let mut over = false;
-    let mut i = 0;
-    while i < classes.len() {
-        over = or(over, last < classes[i]);
-        i += 1;
+    for class in classes {
+        over |= last < *class;
     }
     over
 }
@@ -42,8 +28,7 @@ pub fn some_over(last: u8, classes: &[u8]) -> bool
 pub fn word_right(least: u32, word: u32) -> bool
     ensures { result ≡ word_right least word }
 {
-    let placed = and(sample::in_range(word), least <= sample::place_of(word));
-    and(placed, sample::class_of(word) == 0)
+    sample::in_range(word) & (least <= sample::place_of(word)) & (sample::class_of(word) == 0)
 }
 
 // The words may be stored with their classes beside them: motions in range, (R, C) rising, no class
@@ -53,12 +38,9 @@ pub fn all_right(words: &[u32]) -> bool
 {
     let mut right = true;
     let mut least = 0;
-    let mut i = 0;
-    while i < words.len() {
-        let word = words[i];
-        right = and(right, word_right(least, word));
-        least = sample::place_of(word) + 1;
-        i += 1;
+    for word in words {
+        right &= word_right(least, *word);
+        least = sample::place_of(*word) + 1;
     }
     right
 }

@@ -1,17 +1,19 @@
--- The elements of the named classes: all of them where all five are named, as many as classes are named, at most all; and counting them.
+-- The elements of the named classes: all of them where all five are named, as many as classes are named, at most all; and how many pass.
 -- Assumes nothing.
-use Prim.Native.Nat.{ℕ, ◌+◌, ◌≤◌, ◌<◌}
+use Prim.Native.Nat.{ℕ, ◌≤◌}
 use mathlib.Core.Bool.{Bool, true, false}
 use mathlib.Core.List.{List, [], ◌∷◌, map}
-use mathlib.Core.Path.{◌≡◌, refl, sym, ap, ◌∙◌}
-use native.Mathlib.Nat.{add-zero}
+use mathlib.Core.Path.{◌≡◌, refl, sym, ap}
+use Rattle.std.specs.List.{count_by}
+use Rattle.std.specs.Prelude.{cond, ◌+◌}
+use Rattle.std.proofs.lemmas.List.Recursion.{is_count_by}
 use native.Mathlib.Omega.{arith}
 use borrow.Author.Tests.{ltb-false}
 use lib.Dec.{ltb}
-use lib.ListN.{length, drop, get_or, drop_of_length-le}
+use lib.ListN.{length}
 use Rattle.laws.specs.Refusal.{choose}
 use Rattle.laws.proofs.Refusal.{neither}
-use Rattle.laws.proofs.Chosen.{chosen-few, chosen-map, chosen-step}
+use Rattle.laws.proofs.Chosen.{chosen-few, chosen-map}
 use Rattle.class.specs.Class.{last_class, class_over}
 use Rattle.class_set.specs.Set.{all_classes, names, chosen, named_count}
 use Rattle.class_set.proofs.Named.{all_named}
@@ -50,30 +52,10 @@ pub read-chosen : {A B : Type 0} (read : A → B) (set : ℕ) (xs : List A) (cla
     → chosen set (map read xs) classes ≡ map read (chosen set xs classes)
 read-chosen read set xs classes = chosen-map (names set) read xs classes
 
--- ---- a test in code: one more where the class is named, none where it isn't
-
-pub record Counts (b : Bool) (n k m : ℕ) : Type 0 where
-  pub is : m ≡ choose b (n + 1) n
-  pub few : m ≤ k + 1
-
-module _ (b : Bool) (n k : ℕ) {m : ℕ} (few : n ≤ k) where
-  pub counts-one : b ≡ true → m ≡ n + 1 → Counts b n k m
-  counts-one t e = record { is = rw t e; few = omega arith }
-
-  pub counts-none : b ≡ false → m ≡ n → Counts b n k m
-  counts-none t e = record { is = rw t e; few = omega arith }
-
--- ---- the count: what is counted, with what is left to count, is the whole
-
-module _ (set : ℕ) (classes : List ℕ) (i n : ℕ) {t : ℕ} (e : n + length (chosen set (drop i classes) (drop i classes)) ≡ t) where
-  pub count-again : i < length classes
-      → choose (names set (get_or classes i 0)) (n + 1) n + length (chosen set (drop (i + 1) classes) (drop (i + 1) classes)) ≡ t
-  count-again h =
-      one (names set (get_or classes i 0)) (get_or classes i 0) (chosen set (drop (i + 1) classes) (drop (i + 1) classes)) ∙ sym (ap (λ (l : List ℕ). n + length l) (chosen-step (names set) classes classes i 0 0 h h)) ∙ e
-    where
-      one : (b : Bool) (x : ℕ) (l : List ℕ) → choose b (n + 1) n + length l ≡ n + length (choose b (x ∷ l) l)
-      one true x l = omega arith
-      one false x l = refl
-
-  pub count-done : length classes ≤ i → n ≡ t
-  count-done h = sym (add-zero n) ∙ ap (λ (l : List ℕ). n + length (chosen set l (drop i classes))) (sym (drop_of_length-le classes h)) ∙ e
+-- the classes that pass are counted as they are chosen
+pub count-is : (set : ℕ) (classes : List ℕ) → count_by (names set) classes ≡ named_count set classes
+count-is set classes = sym (is_count_by (named_count set) (names set) refl (λ c cs. longer (names set c) c (chosen set cs cs)) classes)
+  where
+    longer : (b : Bool) (c : ℕ) (cs : List ℕ) → length (choose b (c ∷ cs) cs) ≡ cond b (1 + length cs) (length cs)
+    longer true c cs = omega arith
+    longer false c cs = refl

@@ -12,16 +12,10 @@ use class::LAST_CLASS;
 // Classes 0 to 4.
 pub const ALL_CLASSES: u8 = 31;
 
-// Row 19 of the rules' table.
-pub const NO_CLASS: u32 = 19;
-
 pub fn names(set: u8, class: u8) -> bool
     ensures { result ≡ names set class }
 {
-    if class > LAST_CLASS {
-        return false;
-    }
-    (set >> class) % 2 == 1
+    class <= LAST_CLASS && (set >> class) % 2 == 1
 }
 
 // Row 4: the set names a class over the last.
@@ -38,15 +32,12 @@ pub fn choose(set: u8, words: &[u32], classes: &[u8], out: &mut [u32]) -> usize
     requires words_in_bounds { length words.now ≤ length out.old }
     ensures { Front (chosen set words.now classes.now) out.new result }
 {
-    let mut n = 0usize;
-    let mut i = 0usize;
-    while i < words.len() {
-        let class = classes[i];
-        out[n] = words[i];
-        if names(set, class) {
+    let mut n = 0;
+    for (word, class) in words.iter().zip(classes) {
+        out[n] = *word;
+        if names(set, *class) {
             n += 1;
         }
-        i += 1;
     }
     n
 }
@@ -54,13 +45,5 @@ pub fn choose(set: u8, words: &[u32], classes: &[u8], out: &mut [u32]) -> usize
 pub fn count_named(set: u8, classes: &[u8]) -> usize
     ensures { result ≡ named_count set classes.now }
 {
-    let mut n = 0usize;
-    let mut i = 0usize;
-    while i < classes.len() {
-        if names(set, classes[i]) {
-            n += 1;
-        }
-        i += 1;
-    }
-    n
+    classes.iter().filter(|class| names(set, **class)).count()
 }

@@ -32,7 +32,7 @@ fn coarse_candidate(best: Best, y: usize, x: usize, block: &[u16], window: &[u16
     if y * COARSE_SIDE + x == COARSE_SQUARE / 2 {
         return best;
     }
-    let by = Offset { y: y, x: x };
+    let by = Offset { y, x };
     let start = stage::offset_cost(by, COARSE_BIAS);
     let new = whole::sad_half(best.cost, start, block, window, by);
     stage::better(best, new, by)
@@ -46,10 +46,8 @@ fn coarse_ones(start: Best, y: usize, from: usize, to: usize, block: &[u16], win
     ensures { Next (8 * (to - from)) start.rows (run (coarse_turn block.now window.now) (y * 25 + from) (y * 25 + to) start) result }
 {
     let mut best = start;
-    let mut x = from;
-    while x < to {
+    for x in from..to {
         best = coarse_candidate(best, y, x, block, window);
-        x += 1;
     }
     best
 }
@@ -59,10 +57,8 @@ fn column_costs() -> [u32; 25]
     ensures { inner.Columns result }
 {
     let mut costs = [0u32; 25];
-    let mut x = 0;
-    while x < COARSE_SIDE {
-        costs[x] = stage::magnitude(x, COARSE_BIAS);
-        x += 1;
+    for (x, cost) in costs.iter_mut().enumerate() {
+        *cost = stage::magnitude(x, COARSE_BIAS);
     }
     costs
 }
@@ -76,15 +72,14 @@ fn eight_offsets(y: usize, x: usize, columns: &[u32]) -> [u32; 8]
 {
     let row = stage::magnitude(y, COARSE_BIAS);
     let mut costs = [0u32; 8];
-    let mut k = 0;
-    while k < LANES {
+    for k in 0..LANES {
         costs[k] = row + columns[x + k];
-        k += 1;
     }
     costs
 }
 
-// Eight candidates side by side at once; one by one where one of them is below the best.
+// Eight candidates side by side at once; one by one where one of them is below the best. The block, its spread, the
+// window and the columns stay parameters: clauses over a struct of borrowed parts read no plainer.
 fn coarse_eight(
     best: Best,
     y: usize,
@@ -102,11 +97,13 @@ fn coarse_eight(
     ensures { Next 64 best.rows (run (coarse_turn block.now window.now) (y * 25 + x) (y * 25 + (x + 8)) best) result }
 {
     let starts = eight_offsets(y, x, columns);
-    let by = Offset { y: y, x: x };
+    let by = Offset { y, x };
     let counted = lanes::sad_half(best.cost, starts, low, spread, window, by);
     if counted.below == 0 {
-        let rows = best.rows + counted.rows;
-        return Best { rows: rows, ..best };
+        return Best {
+            rows: best.rows + counted.rows,
+            ..best
+        };
     }
     coarse_ones(best, y, x, x + LANES, block, window)
 }
@@ -147,10 +144,8 @@ fn coarse_rows(start: Best, block: &[u16], window: &[u16]) -> Best
     lanes::spread(block, &mut spread);
     let columns = column_costs();
     let mut best = start;
-    let mut y = 0;
-    while y < COARSE_SIDE {
+    for y in 0..COARSE_SIDE {
         best = coarse_row(best, y, low, &columns, block, &spread, window);
-        y += 1;
     }
     best
 }

@@ -1,6 +1,6 @@
 -- A sum that ends early is below the best exactly if the whole one is, and then they are equal: no cost is below 0, so what reached the best stays there.
 -- Assumes nothing.
-use Prim.Native.Nat.{ℕ, zero, suc, ◌+◌, ◌*◌, ◌-◌, ◌≤◌, ◌<◌}
+use Prim.Native.Nat.{ℕ, zero, suc, ◌+◌, ◌*◌, ◌≤◌, ◌<◌}
 use mathlib.Core.Bool.{Bool, true, false}
 use mathlib.Core.List.{List, [], ◌∷◌, ◌++◌}
 use mathlib.Core.Path.{◌≡◌, refl, sym, ap, ◌∙◌}
@@ -126,13 +126,10 @@ stops {best} {start} {f} {n} {b} {i} {cost} {d} a l e m h k =
 
 -- every row was added
 pub all : {best start : ℕ} {f : ℕ → ℕ} {n b i cost : ℕ} → Left best start f n b i cost → n ≤ i → start + b * n ≤ 16777472 →
-    Sums n (ended best start 0 (listing f n)) (added cost i)
+    Sums n (ended best start 0 (listing f n)) (added cost n)
 all {best} {start} {f} {n} {b} {i} {cost} a l k =
+    let e : i ≡ n = omega (arith, a.within) in
     let most : b * i ≤ b * n = mul-le-mul_left b a.within in
     let left : ended best cost i [] ≡ ended best start 0 (listing f n) =
     ap (ended best cost i) (sym (drop_of_length-le (listing f n) {i = i} (rw (length-listing f n) l))) ∙ a.left in
-    record { same = left; few = a.within; small = omega (arith, a.small) }
-
--- the rows left get fewer
-pub fewer : (n i : ℕ) → i < n → n - (i + 1) < n - i
-fewer n i l = omega arith
+    record { same = ap (added cost) (sym e) ∙ left; few = omega arith; small = omega (arith, a.small) }

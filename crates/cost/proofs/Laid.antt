@@ -45,7 +45,7 @@ module _ {n side b : ℕ} {block window : List ℕ} {y x best start i cost : ℕ
   unfolding window_costs
   row-stops l is h k = stops a.rows l (is.same ∙ row_laid n side block window y x i) is.small h k
 
-  pub rows_all : n ≤ i → start + b * n ≤ 16777472 → Sums n (ended best start 0 (window_costs n side block window y x)) (added cost i)
+  pub rows_all : n ≤ i → start + b * n ≤ 16777472 → Sums n (ended best start 0 (window_costs n side block window y x)) (added cost n)
   unfolding window_costs
   rows_all l k = all a.rows l k
 

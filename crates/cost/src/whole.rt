@@ -12,30 +12,49 @@ pub const COARSE_WINDOW: usize = 32;
 
 pub const FINE_WINDOW: usize = 24;
 
-fn row_of_8(a: &[u16], b: &[u16]) -> u32
-    requires { Rows 8 a.now b.now }
-    ensures { Is (row_difference 8 a.now b.now) 524280 result }
+// By how much N pels differ from N others.
+pub fn row_difference<const N: usize>(a: &[u16], b: &[u16]) -> u32
+    requires few { N ≤ 16 }
+    requires rows { Rows N a.now b.now }
+    ensures { Is (row_difference N a.now b.now) 1048560 result }
 {
     let mut cost: u32 = 0;
-    let mut j = 0;
-    while j < HALF_BLOCK {
+    for j in 0..N {
         cost += plane::absolute_difference(a[j], b[j]);
-        j += 1;
     }
     cost
 }
 
-fn row_of_16(a: &[u16], b: &[u16]) -> u32
-    requires { Rows 16 a.now b.now }
-    ensures { Is (row_difference 16 a.now b.now) 1048560 result }
+// The cost of an N×N block laid on a window of a plane, from the offset cost on.
+fn sad<const N: usize, const SIDE: usize>(
+    best: u32,
+    start: u32,
+    block: &[u16],
+    window: &[u16],
+    at: Offset,
+) -> Added
+    requires few { N ≤ 16 }
+    requires small { SIDE ≤ 32 }
+    requires framed { Framed N SIDE block.now window.now at.y at.x }
+    requires start_bound { start ≤ 512 }
+    ensures { Sums N (ended best start 0 (window_costs N SIDE block.now window.now at.y at.x)) result }
 {
-    let mut cost: u32 = 0;
-    let mut j = 0;
-    while j < BLOCK {
-        cost += plane::absolute_difference(a[j], b[j]);
-        j += 1;
+    let mut cost = start;
+    for i in 0..N {
+        let a = i * N;
+        let b = (at.y + i) * SIDE + at.x;
+        cost += row_difference::<N>(&block[a..a + N], &window[b..b + N]);
+        if best <= cost {
+            return Added {
+                cost,
+                rows: i as u32 + 1,
+            };
+        }
     }
-    cost
+    Added {
+        cost,
+        rows: N as u32,
+    }
 }
 
 // The cost of an 8×8 block laid on a window of a half plane, from the offset cost on.
@@ -44,24 +63,7 @@ pub fn sad_half(best: u32, start: u32, block: &[u16], window: &[u16], at: Offset
     requires start_bound { start ≤ 512 }
     ensures { Sums 8 (ended best start 0 (window_costs 8 32 block.now window.now at.y at.x)) result }
 {
-    let mut cost = start;
-    let mut i = 0;
-    while i < HALF_BLOCK {
-        let a = i * HALF_BLOCK;
-        let b = (at.y + i) * COARSE_WINDOW + at.x;
-        cost += row_of_8(&block[a..a + HALF_BLOCK], &window[b..b + HALF_BLOCK]);
-        i += 1;
-        if best <= cost {
-            return Added {
-                cost: cost,
-                rows: i as u32,
-            };
-        }
-    }
-    Added {
-        cost: cost,
-        rows: i as u32,
-    }
+    sad::<HALF_BLOCK, COARSE_WINDOW>(best, start, block, window, at)
 }
 
 // The cost of a 16×16 block laid on a window of a plane, from the offset cost on.
@@ -70,22 +72,5 @@ pub fn sad_int(best: u32, start: u32, block: &[u16], window: &[u16], at: Offset)
     requires start_bound { start ≤ 512 }
     ensures { Sums 16 (ended best start 0 (window_costs 16 24 block.now window.now at.y at.x)) result }
 {
-    let mut cost = start;
-    let mut i = 0;
-    while i < BLOCK {
-        let a = i * BLOCK;
-        let b = (at.y + i) * FINE_WINDOW + at.x;
-        cost += row_of_16(&block[a..a + BLOCK], &window[b..b + BLOCK]);
-        i += 1;
-        if best <= cost {
-            return Added {
-                cost: cost,
-                rows: i as u32,
-            };
-        }
-    }
-    Added {
-        cost: cost,
-        rows: i as u32,
-    }
+    sad::<BLOCK, FINE_WINDOW>(best, start, block, window, at)
 }

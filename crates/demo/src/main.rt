@@ -9,8 +9,9 @@
 ghost use Rattle.std.specs.Prelude.{◌<◌};
 
 use class_set::ALL_CLASSES;
+use grid::{AFFINE, IDENTITY, ROTZOOM, TRANSLATION};
 use job::{Report, Settings};
-use std::io;
+use std::{array, fmt, io};
 
 const SIDE: usize = 64;
 
@@ -23,9 +24,6 @@ const SAMPLES: usize = 16;
 // The belt goes on beyond the frame: where its first pel lies.
 const FIRST: u32 = 1000;
 
-// The bits that 125 bytes hold.
-const MOST_BITS: usize = 1000;
-
 // The bit of the first byte at which the header begins.
 const START: usize = 0;
 
@@ -34,14 +32,6 @@ const FRAME: u16 = 7;
 const REFERENCE: u8 = 3;
 
 const HIGH_PRECISION: u8 = 1;
-
-const IDENTITY: u8 = 0;
-
-const TRANSLATION: u8 = 1;
-
-const ROTZOOM: u8 = 2;
-
-const AFFINE: u8 = 3;
 
 const FIBRE: u8 = 1;
 
@@ -53,11 +43,11 @@ const ONE: i32 = 65536;
 // ---- the belt
 
 // Patches of eight pels, one shade each.
-fn patch(row: u32, column: u32) -> u32
+fn patch(row: u32, column: u32) -> u16
     ensures { result < 1024 }
 {
     let state = generator::next_state(generator::next_state(row / 8) ^ column / 8);
-    generator::next_state(state) / 65536 % 1024
+    generator::upper_half(generator::next_state(state)) % 1024
 }
 
 // Four layers of patches, each shifted a little.
@@ -66,174 +56,105 @@ fn texture(row: u32, column: u32) -> u16
 {
     let two = patch(row, column) + patch(row + 2, column + 3);
     let four = two + patch(row + 4, column + 6) + patch(row + 6, column + 1);
-    (four / 4) as u16
+    four / 4
 }
 
-// Where the pel of the input at this row and column lies on the belt. It rests; or is moved by a pel down
-// and two to the right; or grown or slid by a sixteenth: each block of 16 then moves by whole pels.
-fn belt_row(gm_type: u8, row: u32) -> u32
-    ensures { result < 1000000 }
+// The pel at this row and column. The belt rests; or is moved by a pel down and two to the right; or grown
+// or slid by a sixteenth: each block of 16 then moves by whole pels.
+fn pel_at(gm_type: u8, row: u32, column: u32) -> u16
+    requires { (row < 1000) × (column < 1000) }
 {
-    if gm_type == TRANSLATION {
-        return row % 65536 + 1;
-    }
-    if gm_type == ROTZOOM {
-        return row % 65536 + row % 65536 / 16;
-    }
-    row % 65536
-}
-
-fn belt_column(gm_type: u8, row: u32, column: u32) -> u32
-    ensures { result < 1000000 }
-{
-    if gm_type == TRANSLATION {
-        return column % 65536 + 2 + FIRST;
-    }
-    if gm_type == ROTZOOM {
-        return column % 65536 + column % 65536 / 16 + FIRST;
-    }
-    if gm_type == AFFINE {
-        return column % 65536 + row % 65536 / 16 + FIRST;
-    }
-    column % 65536 + FIRST
-}
-
-fn word_of(at: usize) -> u32
-    ensures { result < 65536 }
-{
-    (at % 65536) as u32
-}
-
-fn input_pel(gm_type: u8, at: usize) -> u16 {
-    let row = word_of(at / SIDE);
-    let column = word_of(at % SIDE);
-    texture(belt_row(gm_type, row), belt_column(gm_type, row, column))
-}
-
-fn reference_pel(at: usize) -> u16 {
-    texture(word_of(at / SIDE), word_of(at % SIDE) + FIRST)
-}
-
-fn fill_frames(gm_type: u8, input: &mut [u16], reference: &mut [u16]) {
-    fill_input(gm_type, &mut *input);
-    fill_reference(&mut *reference);
-}
-
-fn fill_input(gm_type: u8, input: &mut [u16]) {
-    let mut i = 0;
-    while i < input.len() {
-        input[i] = input_pel(gm_type, i);
-        i += 1;
+    let right = column + FIRST;
+    match gm_type {
+        TRANSLATION => texture(row + 1, right + 2),
+        ROTZOOM => texture(row + row / 16, right + column / 16),
+        AFFINE => texture(row, right + row / 16),
+        _ => texture(row, right),
     }
 }
 
-fn fill_reference(reference: &mut [u16]) {
-    let mut i = 0;
-    while i < reference.len() {
-        reference[i] = reference_pel(i);
-        i += 1;
-    }
+fn frame_of(gm_type: u8) -> [u16; PELS] {
+    array::from_fn(|i| pel_at(gm_type, (i / SIDE) as u32, (i % SIDE) as u32))
 }
 
 // What lies on the belt: fibre, with film over a corner.
 fn load() -> [u8; SAMPLES] {
-    let mut classes = [FIBRE; SAMPLES];
-    classes[10] = FILM;
-    classes[11] = FILM;
-    classes[14] = FILM;
-    classes[15] = FILM;
-    classes
+    array::from_fn(|i| if i / 8 == 1 && i % 4 / 2 == 1 {
+        FILM
+    } else {
+        FIBRE
+    })
 }
 
 // The same motions as models, x first: blocks have their centres at 7.5 and every 16 pels from there.
 fn true_motion(gm_type: u8) -> [i32; 6] {
-    if gm_type == TRANSLATION {
-        return [131072, 65536, ONE, 0, 0, ONE];
+    match gm_type {
+        TRANSLATION => [131072, 65536, ONE, 0, 0, ONE],
+        ROTZOOM => [-30720, -30720, 69632, 0, 0, 69632],
+        AFFINE => [-30720, 0, ONE, 4096, 0, ONE],
+        _ => replay::IDENTITY,
     }
-    if gm_type == ROTZOOM {
-        return [-30720, -30720, 69632, 0, 0, 69632];
-    }
-    if gm_type == AFFINE {
-        return [-30720, 0, ONE, 4096, 0, ONE];
-    }
-    [0, 0, ONE, 0, 0, ONE]
 }
 
 // ---- what is printed
 
-fn magnitude_of(n: i32) -> u64 {
-    grid::magnitude(grid::from_centre(n, 0))
-}
-
-fn print_digit(rt: &impl Print, n: u64) -> io::Result<()> {
-    rt.print(n % 10)
+fn name_of(gm_type: u8) -> &'static str {
+    match gm_type {
+        IDENTITY => "IDENTITY",
+        TRANSLATION => "TRANSLATION",
+        ROTZOOM => "ROTZOOM",
+        AFFINE => "AFFINE",
+        _ => "",
+    }
 }
 
 // A number at 16 fraction bits, with four decimals.
-fn print_decimals(rt: &impl Print, n: i32) -> io::Result<()> {
-    if n < 0 {
-        rt.print(" -")?;
-    } else {
-        rt.print(" ")?;
+#[derive(Clone, Copy)]
+struct Decimals(i32);
+
+impl fmt::Display for Decimals {
+    fn fmt<W: fmt::Write>(&self, f: &mut fmt::Formatter<W>) -> fmt::Result {
+        let sign = if self.0 < 0 { "-" } else { "" };
+        let parts = (u64::from(self.0.unsigned_abs()) * 10000 + 32768) / 65536;
+        let whole = parts / 10000;
+        let rest = parts % 10000;
+        write!(f, "{sign}{whole}.{rest:04}")
     }
-    let parts = (magnitude_of(n) % 0x1_0000_0000 * 10000 + 32768) / 65536;
-    print!(rt; "{}.", parts / 10000)?;
-    print_digit(rt, parts / 1000)?;
-    print_digit(rt, parts / 100)?;
-    print_digit(rt, parts / 10)?;
-    print_digit(rt, parts)
+}
+
+fn nearest(x: f64) -> Decimals {
+    Decimals(grid_number::grid_number(x))
 }
 
 // The zoom and the turn in degrees of a model, by the first terms of their series in the tangent of the
 // turn, which is small here.
-fn zoom_of(model: [i32; 6]) -> i32 {
+fn zoom_of(model: [i32; 6]) -> Decimals {
     let along = model[2] as f64;
     let tangent = model[4] as f64 / along;
     let square = tangent * tangent;
-    grid_number::grid_number(along / 65536.0 * (1.0 + square * (0.5 - square * 0.125)))
+    nearest(along / 65536.0 * (1.0 + square * (0.5 - square * 0.125)))
 }
 
-fn degrees_of(model: [i32; 6]) -> i32 {
+fn degrees_of(model: [i32; 6]) -> Decimals {
     let tangent = model[4] as f64 / model[2] as f64;
     let square = tangent * tangent;
-    grid_number::grid_number(
-        57.29577951308232 * tangent * (1.0 - square * (0.3333333333333333 - square * 0.2)),
-    )
+    nearest(57.29577951308232 * tangent * (1.0 - square * (0.3333333333333333 - square * 0.2)))
 }
 
 // How far rows slide along each other, beyond a turn.
-fn slide_of(model: [i32; 6]) -> i32 {
-    grid_number::grid_number((model[3] as f64 + model[4] as f64) / 65536.0)
+fn slide_of(model: [i32; 6]) -> Decimals {
+    nearest((model[3] as f64 + model[4] as f64) / 65536.0)
 }
 
 fn print_motion(rt: &impl Print, name: &str, model: [i32; 6]) -> io::Result<()> {
-    rt.print(name)?;
-    print_decimals(rt, model[0])?;
-    rt.print(" right,")?;
-    print_decimals(rt, model[1])?;
-    rt.print(" down, zoom")?;
-    print_decimals(rt, zoom_of(model))?;
-    rt.print(", turn")?;
-    print_decimals(rt, degrees_of(model))?;
-    rt.print(" degrees, slide")?;
-    print_decimals(rt, slide_of(model))?;
-    rt.println("")
-}
-
-fn print_type(rt: &impl Print, gm_type: u8) -> io::Result<()> {
-    if gm_type == IDENTITY {
-        rt.print("IDENTITY")?;
-    }
-    if gm_type == TRANSLATION {
-        rt.print("TRANSLATION")?;
-    }
-    if gm_type == ROTZOOM {
-        rt.print("ROTZOOM")?;
-    }
-    if gm_type == AFFINE {
-        rt.print("AFFINE")?;
-    }
-    Ok(())
+    let right = Decimals(model[0]);
+    let down = Decimals(model[1]);
+    let zoom = zoom_of(model);
+    let turn = degrees_of(model);
+    let slide = slide_of(model);
+    println!(rt;
+        "{name} {right} right, {down} down, zoom {zoom}, turn {turn} degrees, slide {slide}"
+    )
 }
 
 // ---- the election, in words
@@ -245,23 +166,7 @@ struct Held {
     error: f64,
 }
 
-// Which of two types with errors under the gate: the one held, unless the later is clearly better.
-fn compare(rt: &impl Print, held: Held, gm_type: u8, error: f64) -> io::Result<Held> {
-    if error > 0.8 * held.error {
-        rt.println(": more than 0.8 of what the one held leaves, passed over")?;
-        return Ok(held);
-    }
-    if held.error - error <= 0.02 {
-        rt.println(": not more than 0.02 less than the one held, passed over")?;
-        return Ok(held);
-    }
-    rt.println(
-        ": at most 0.8 of what the one held leaves and more than 0.02 less, held in its place",
-    )?;
-    Ok(Held { gm_type, error })
-}
-
-// A type's trimmed fit on the grid, and what it leaves.
+// A type's trimmed fit on the grid, and what it leaves: the gate, or what the one held leaves, decides.
 fn explain_type(
     rt: &impl Print,
     held: Held,
@@ -270,80 +175,78 @@ fn explain_type(
     words: &[u32],
 ) -> io::Result<Held> {
     let candidate = word_trim::quantize_trimmed(gm_type, HIGH_PRECISION, words);
-    print_type(rt, gm_type)?;
-    if candidate.refusal != 0 {
-        print_count(
-            rt,
-            " is refused, passed over: row ",
-            candidate.refusal as usize,
-        )?;
+    let refusal = candidate.refusal;
+    let name = name_of(gm_type);
+    if refusal != 0 {
+        println!(rt; "{name} is refused, passed over: row {refusal}")?;
         return Ok(held);
     }
-    let own = candidate.params;
-    let left = score::mean_sq_residual(own, words);
-    rt.print(" leaves")?;
-    print_decimals(rt, grid_number::grid_number(left.score))?;
-    if gate < left.score {
-        rt.println(": more than that, passed over")?;
-        return Ok(held);
-    }
-    if held.gm_type == IDENTITY {
-        rt.println(": the first that doesn't leave more, held")?;
-        return Ok(Held {
-            gm_type,
-            error: left.score,
-        });
-    }
-    compare(rt, held, gm_type, left.score)
+    let error = score::mean_sq_residual(candidate.params, words).score;
+    let (is_held, why) = if gate < error {
+        (false, "more than that, passed over")
+    } else if held.gm_type == IDENTITY {
+        (true, "the first that doesn't leave more, held")
+    } else if error > 0.8 * held.error {
+        (
+            false,
+            "more than 0.8 of what the one held leaves, passed over",
+        )
+    } else if held.error - error <= 0.02 {
+        (
+            false,
+            "not more than 0.02 less than the one held, passed over",
+        )
+    } else {
+        (
+            true,
+            "at most 0.8 of what the one held leaves and more than 0.02 less, held in its place",
+        )
+    };
+    let left = nearest(error);
+    println!(rt; "{name} leaves {left}: {why}")?;
+    Ok(if is_held {
+        Held { gm_type, error }
+    } else {
+        held
+    })
 }
 
 fn explain(rt: &impl Print, words: &[u32]) -> io::Result<u8> {
-    let energy = score::mean_sq_residual(true_motion(IDENTITY), words);
-    let gate = 0.25 * energy.score;
-    rt.print("motion energy:")?;
-    print_decimals(rt, grid_number::grid_number(energy.score))?;
-    if energy.score < 0.25 {
-        rt.println(" square pels, under 0.25: no type is asked")?;
+    let error = score::mean_sq_residual(true_motion(IDENTITY), words).score;
+    let energy = nearest(error);
+    if error < 0.25 {
+        println!(rt; "motion energy: {energy} square pels, under 0.25: no type is asked")?;
         return Ok(IDENTITY);
     }
-    rt.print(" square pels; a model may leave")?;
-    print_decimals(rt, grid_number::grid_number(gate))?;
-    rt.println("")?;
-    let none = Held {
+    let gate = 0.25 * error;
+    let most = nearest(gate);
+    println!(rt; "motion energy: {energy} square pels; a model may leave {most}")?;
+    let mut held = Held {
         gm_type: IDENTITY,
-        error: energy.score,
+        error,
     };
-    let first = explain_type(rt, none, gate, TRANSLATION, words)?;
-    let second = explain_type(rt, first, gate, ROTZOOM, words)?;
-    let third = explain_type(rt, second, gate, AFFINE, words)?;
-    Ok(third.gm_type)
-}
-
-fn print_byte(rt: &impl Print, byte: u8) -> io::Result<()> {
-    print!(rt; "{byte:02x}")
+    for gm_type in [TRANSLATION, ROTZOOM, AFFINE] {
+        held = explain_type(rt, held, gate, gm_type, words)?;
+    }
+    Ok(held.gm_type)
 }
 
 fn print_bytes(rt: &impl Print, bytes: &[u8]) -> io::Result<()> {
     rt.print("header: ")?;
-    let mut i = 0;
-    while i < bytes.len() {
-        print_byte(rt, bytes[i])?;
-        i += 1;
+    for byte in bytes {
+        print!(rt; "{byte:02x}")?;
     }
     rt.println("")
 }
 
-fn print_count(rt: &impl Print, name: &str, n: usize) -> io::Result<()> {
-    println!(rt; "{name}{n}")
-}
-
 fn print_report(rt: &impl Print, r: Report, agree: usize) -> io::Result<()> {
-    print_count(rt, "samples that agree within an eighth: ", agree)?;
-    print_count(rt, "of samples: ", r.samples)?;
-    rt.print("score:")?;
-    print_decimals(rt, grid_number::grid_number(r.score))?;
-    rt.println(" square pels")?;
-    print_count(rt, "header bits: ", r.bits)
+    let samples = r.samples;
+    let score = nearest(r.score);
+    let bits = r.bits;
+    println!(rt; "samples that agree within an eighth: {agree}")?;
+    println!(rt; "of samples: {samples}")?;
+    println!(rt; "score: {score} square pels")?;
+    println!(rt; "header bits: {bits}")
 }
 
 fn print_block(rt: &impl Print, block: &[u8]) -> io::Result<()> {
@@ -353,43 +256,6 @@ fn print_block(rt: &impl Print, block: &[u8]) -> io::Result<()> {
 }
 
 // ---- read back
-
-fn same_words(a: &[u32], b: &[u32]) -> bool {
-    let mut i = 0;
-    while i < a.len() {
-        if i < b.len() {
-            if a[i] != b[i] {
-                return false;
-            }
-        }
-        i += 1;
-    }
-    true
-}
-
-fn same_classes(a: &[u8], b: &[u8]) -> bool {
-    let mut i = 0;
-    while i < a.len() {
-        if i < b.len() {
-            if a[i] != b[i] {
-                return false;
-            }
-        }
-        i += 1;
-    }
-    true
-}
-
-fn same_model(a: [i32; 6], b: [i32; 6]) -> bool {
-    let mut i = 0;
-    while i < 6 {
-        if a[i] != b[i] {
-            return false;
-        }
-        i += 1;
-    }
-    true
-}
 
 // The model of the job's reference, of seven as stored, x first.
 fn own_model(gm_type: u8, m: [i32; 42]) -> [i32; 6] {
@@ -401,93 +267,26 @@ fn own_model(gm_type: u8, m: [i32; 42]) -> [i32; 6] {
 
 // How many samples are within an eighth of a pel of the model.
 fn agreeing(model: [i32; 6], words: &[u32]) -> usize {
-    let mut n = 0;
-    let mut i = 0;
-    while i < words.len() {
-        let end = i + 1;
-        let one = score::mean_sq_residual(model, &words[i..end]);
-        if one.score <= 0.015625 {
-            n += 1;
-        }
-        i = end;
-    }
-    n
+    words
+        .iter()
+        .filter(|word| score::mean_sq_residual(model, &[**word]).score <= 0.015625)
+        .count()
 }
 
-fn blocks_agree(blocks: &[u8], words: &[u32], classes: &[u8]) -> bool {
+fn blocks_agree(blocks: &[u8], words: [u32; SAMPLES], classes: [u8; SAMPLES]) -> bool {
     let mut again = [0u32; SAMPLES];
     let mut sorted = [0u8; SAMPLES];
     let read = frame_read::read_both(blocks, &mut again, &mut sorted);
-    if read.refusal != 0 {
-        return false;
-    }
-    if read.frame != FRAME {
-        return false;
-    }
-    if read.samples != words.len() {
-        return false;
-    }
-    same_words(words, &again) && same_classes(classes, &sorted)
+    read.refusal == 0
+        && read.frame == FRAME
+        && read.samples == SAMPLES
+        && words == again
+        && classes == sorted
 }
 
-fn verdict(rt: &impl Print, is_right: bool) -> io::Result<()> {
-    if is_right {
-        return rt.println(
-            "verdict: the true motion was elected and measured, and what is stored reads back as it\n",
-        );
-    }
-    rt.println("verdict: WRONG\n")
-}
-
-fn finish(
-    rt: &impl Print,
-    gm_type: u8,
-    r: Report,
-    words: &[u32],
-    classes: &[u8],
-    blocks: &[u8],
-    header: &[u8],
-    prior: &[i32],
-) -> io::Result<()> {
-    let truth = true_motion(gm_type);
-    let types = r.types;
-    let models = r.models;
-    let elected = types[2];
-    let measured = own_model(elected, models);
-    let read = header_read::read_global_motion_params(header, START, HIGH_PRECISION, prior);
-    let kinds = read.types;
-    let params = read.params;
-    let stored = own_model(kinds[2], params);
-    let explained = explain(rt, words)?;
-    rt.print("elected: ")?;
-    print_type(rt, elected)?;
-    rt.println("")?;
-    print_motion(rt, "true:", truth)?;
-    print_motion(rt, "measured:", measured)?;
-    print_motion(rt, "header read:", stored)?;
-    print_report(rt, r, agreeing(measured, words))?;
-    let used = replay::least((replay::least(r.bits, MOST_BITS) + 7) / 8, header.len());
-    print_bytes(rt, &header[0..used])?;
-    print_block(rt, blocks)?;
-    verdict(
-        rt,
-        elected == gm_type
-            && explained == elected
-            && kinds[2] == elected
-            && same_model(truth, measured)
-            && same_model(measured, stored)
-            && blocks_agree(blocks, words, classes),
-    )
-}
-
-fn run(
-    rt: &impl Print,
-    gm_type: u8,
-    input: &[u16],
-    reference: &[u16],
-    prior: &[i32],
-    models: &[i32],
-) -> io::Result<()> {
+fn show(rt: &impl Print, gm_type: u8) -> io::Result<()> {
+    let name = name_of(gm_type);
+    println!(rt; "a belt of {name}")?;
     let settings = Settings {
         frame: FRAME,
         gm_type: 0,
@@ -499,51 +298,62 @@ fn run(
         start: START,
     };
     let classes = load();
-    let types = [0u8; 6];
+    let prior = replay::identity::<42>();
     let mut input_half = [0u16; HALF];
     let mut ref_half = [0u16; HALF];
     let mut words = [0u32; SAMPLES];
     let mut blocks = [0u8; 512];
     let mut header = [0u8; 125];
     let r = job::job(
-        input,
-        reference,
+        &frame_of(gm_type),
+        &frame_of(IDENTITY),
         SIDE,
         SIDE,
         settings,
         &classes,
-        &types,
-        models,
-        prior,
+        &[0; 6],
+        &replay::identity::<36>(),
+        &prior,
         &mut input_half,
         &mut ref_half,
         &mut words,
         &mut blocks,
         &mut header,
     );
-    if r.refusal != 0 {
-        return print_count(rt, "refused ", r.refusal as usize);
+    let refusal = r.refusal;
+    if refusal != 0 {
+        return println!(rt; "refused {refusal}");
     }
-    finish(rt, gm_type, r, &words, &classes, &blocks, &header, prior)
-}
-
-fn show(rt: &impl Print, gm_type: u8) -> io::Result<()> {
-    let mut input = [0u16; PELS];
-    let mut reference = [0u16; PELS];
-    let mut prior = [0i32; 42];
-    let mut models = [0i32; 36];
-    fill_frames(gm_type, &mut input, &mut reference);
-    replay::fill_identity(&mut prior);
-    replay::fill_identity(&mut models);
-    rt.print("a belt of ")?;
-    print_type(rt, gm_type)?;
-    rt.println("")?;
-    run(rt, gm_type, &input, &reference, &prior, &models)
+    let elected = r.types[2];
+    let truth = true_motion(gm_type);
+    let measured = own_model(elected, r.models);
+    let read = header_read::read_global_motion_params(&header, START, HIGH_PRECISION, &prior);
+    let stored = own_model(read.types[2], read.params);
+    let explained = explain(rt, &words)?;
+    let name = name_of(elected);
+    println!(rt; "elected: {name}")?;
+    print_motion(rt, "true:", truth)?;
+    print_motion(rt, "measured:", measured)?;
+    print_motion(rt, "header read:", stored)?;
+    print_report(rt, r, agreeing(measured, &words))?;
+    print_bytes(rt, replay::first(&header, r.bits.div_ceil(8)))?;
+    print_block(rt, &blocks)?;
+    let is_right = elected == gm_type
+        && explained == elected
+        && read.types[2] == elected
+        && truth == measured
+        && measured == stored
+        && blocks_agree(&blocks, words, classes);
+    rt.println(if is_right {
+        "verdict: the true motion was elected and measured, and what is stored reads back as it\n"
+    } else {
+        "verdict: WRONG\n"
+    })
 }
 
 fn main(rt: HostRuntime) -> io::Result<()> {
-    show(&rt, IDENTITY)?;
-    show(&rt, TRANSLATION)?;
-    show(&rt, ROTZOOM)?;
-    show(&rt, AFFINE)
+    for gm_type in [IDENTITY, TRANSLATION, ROTZOOM, AFFINE] {
+        show(&rt, gm_type)?;
+    }
+    Ok(())
 }

@@ -14,6 +14,7 @@ const DIV_LUT_BITS: u32 = 8;
 
 const DIV_LUT_PREC_BITS: u32 = 14;
 
+#[tactic(auto, unfolding(crate::specs::Rounding::round2))]
 fn round2(x: u64, n: u32) -> u64
     requires { Rounded x n }
     ensures is { result ≡ round2 x n }
@@ -23,6 +24,7 @@ fn round2(x: u64, n: u32) -> u64
     (x + divisor / 2) / divisor
 }
 
+#[tactic(auto, unfolding(crate::specs::Rounding::round2_signed))]
 pub fn round2_signed(x: i64, n: u32) -> i64
     requires { Rounded (nat_abs x) n }
     ensures is { result ≡ round2_signed x n }
@@ -44,10 +46,7 @@ fn floor_log2(d: u64) -> u32
     ensures is { result ≡ floor_log2 d }
     ensures range { Exponent result d }
 {
-    if d < 65536 {
-        return 15;
-    }
-    16
+    if d < 65536 { 15 } else { 16 }
 }
 
 // Where the table has what d holds beyond its highest bit.
@@ -61,6 +60,7 @@ fn lut_index(d: u64) -> usize
 }
 
 // Clause 7.11.3.7, its two outputs.
+#[tactic(auto, unfolding(crate::specs::Divisor::div_shift))]
 fn div_shift(d: i64) -> u32
     requires { Divisor (nat_abs d) }
     ensures is { result ≡ div_shift d }
@@ -69,6 +69,7 @@ fn div_shift(d: i64) -> u32
     floor_log2(grid::magnitude(d)) + DIV_LUT_PREC_BITS
 }
 
+#[tactic(auto, unfolding(crate::specs::Divisor::div_factor))]
 fn div_factor(d: i64) -> i64
     requires { Divisor (nat_abs d) }
     ensures is { result ≡ div_factor d }
@@ -79,6 +80,7 @@ fn div_factor(d: i64) -> i64
 }
 
 // A number divided by slot 2, rounded.
+#[tactic(auto, unfolding(crate::specs::Divisor::divided_by))]
 pub fn divided_by(p2: i64, x: i64) -> i64
     requires { Dividing p2 x }
     ensures is { result ≡ divided_by p2 x }

@@ -37,8 +37,7 @@ pub fn sad_subpel(
     let fy = ((motion.y + 1) % EIGHTHS) as u16;
     let fx = ((motion.x + 1) % EIGHTHS) as u16;
     let mut cost = 0;
-    let mut i = 0;
-    while i < BLOCK {
+    for i in 0..BLOCK {
         let a = i * BLOCK;
         let b = (y + i) * FINE_WINDOW + x;
         let row = eighths_row::predicted_row(
@@ -48,16 +47,15 @@ pub fn sad_subpel(
             &lows[b..b + TWO_ROWS],
         );
         cost += eighths_row::row_of_16(&block[a..a + BLOCK], row);
-        i += 1;
         if best <= cost {
             return Added {
-                cost: cost,
-                rows: i as u32,
+                cost,
+                rows: i as u32 + 1,
             };
         }
     }
     Added {
-        cost: cost,
-        rows: i as u32,
+        cost,
+        rows: BLOCK as u32,
     }
 }

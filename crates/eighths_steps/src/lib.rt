@@ -14,6 +14,8 @@ use stage::{Best, STEP_SQUARE};
 
 const STEP_SIDE: usize = 3;
 
+// The corner, the block and the window's bytes stay parameters: clauses over a struct of borrowed parts name each part
+// at entry and at exit, and read no plainer.
 fn eighths_candidate(
     best: Best,
     k: usize,
@@ -35,7 +37,7 @@ fn eighths_candidate(
     }
     let y = centre.y + k / STEP_SIDE * step - step;
     let x = centre.x + k % STEP_SIDE * step - step;
-    let by = Offset { y: y, x: x };
+    let by = Offset { y, x };
     let new = eighths::sad_subpel(best.cost, block, highs, lows, corner, by);
     stage::better(best, new, by)
 }
@@ -64,10 +66,8 @@ fn eighths_step(
         x: start.x,
     };
     let mut best = start;
-    let mut k = 0;
-    while k < STEP_SQUARE {
+    for k in 0..STEP_SQUARE {
         best = eighths_candidate(best, k, step, centre, corner, block, highs, lows);
-        k += 1;
     }
     best
 }

@@ -1,10 +1,8 @@
 -- A list that is read as samples elects what those samples elect: energy, candidates and errors take what is read and nothing else.
 -- Assumes nothing.
-use Prim.Native.Nat.{ℕ, ◌≤◌, ◌<◌}
+use Prim.Native.Nat.{ℕ}
 use mathlib.Core.List.{List, [], ◌∷◌, map}
-use mathlib.Core.Logic.{⊎_elim}
-use mathlib.Core.Path.{◌≡◌, refl, sym, ap, ◌∙◌}
-use borrow.Author.Tests.{lt-ltb}
+use mathlib.Core.Path.{◌≡◌, refl, ap, ◌∙◌}
 use lib.Dec.{eqb}
 use lib.IntN.{ℤ}
 use lib.ListN.{length, length-map}
@@ -13,20 +11,12 @@ use Rattle.laws.specs.Binary64.{nought}
 use Rattle.laws.specs.Call.{answered}
 use Rattle.laws.specs.Loops.{fold}
 use Rattle.laws.specs.Refusal.{choose}
-use Rattle.laws.proofs.Call.{answered-accepted, answered-refused}
-use Rattle.laws.proofs.Cases.{lt-or-le}
-use Rattle.laws.proofs.Refusal.{or-else-quiet}
 use Rattle.sample.specs.declared.MotionSample.{MotionSample}
-use Rattle.sample.specs.Word.{most_samples}
 use Rattle.fit.specs.Sums.{reading, itself}
-use Rattle.fit.specs.Fitted.{list_refusal}
-use Rattle.fit.proofs.Accepted.{list-few}
 use Rattle.fit.proofs.SameSamples.{fold-map}
 use Rattle.score.specs.Score.{continuous_model, score_step, score_of}
 use Rattle.trim.specs.declared.TrimmedModel.{TrimmedModel}
-use Rattle.trim.specs.Trim.{flag_refusal}
-use Rattle.trim.specs.Inner.{samples_in}
-use Rattle.trim.proofs.Mapped.{model-mapped, length-samples_in}
+use Rattle.trim.proofs.Mapped.{model-mapped}
 use Rattle.elect.specs.declared.Elected.{Elected}
 use Rattle.elect.specs.Elect.{floor, identity_params, error_from, energy_from, candidate_from, unfit, nobody, stopped}
 use Rattle.elect.specs.Elect.{held_after, by_number, judged, turn, types, winner_from, elect_refusal, as_stored, elected_from}
@@ -70,36 +60,3 @@ module _ {A : Type 0} (read : A → MotionSample) where
     elected-mapped =
         ap (λ (n : ℕ). answered stopped (elect_refusal flag n) (as_stored (winner_from itself flag samples))) (length-map xs read)
         ∙ ap (λ (w : Elected). answered stopped (elect_refusal flag (length xs)) (as_stored w)) winner-mapped
-
-  -- a list that is too long is refused, whatever it holds
-  long-elected : (flag : ℕ) (xs : List A) → most_samples < length xs → elected_from read flag xs ≡ stopped 1
-  long-elected flag xs h = rw (lt-ltb 4096 (length xs) h)
-
--- ---- numbers that hold a list's samples
-
-module _ {A : Type 0} (read : A → MotionSample) (xs : List A) (numbers : List Float) (held : length xs ≤ most_samples → samples_in numbers (length xs) ≡ map read xs) where
-  pub elected-unpacked : (flag : ℕ) → elected_from itself flag (samples_in numbers (length xs)) ≡ elected_from read flag xs
-  elected-unpacked flag =
-      ⊎_elim
-      (λ (h : most_samples < length xs). long-elected itself flag (samples_in numbers (length xs)) (rw (length-samples_in numbers (length xs)) h) ∙ sym (long-elected read flag xs h))
-      (λ (h : length xs ≤ most_samples). ap (λ (l : List MotionSample). elected_from itself flag l) (held h) ∙ elected-mapped read flag xs)
-      (lt-or-le most_samples (length xs))
-
--- ---- so many samples in numbers of a call's own
-
-module _ (flag : ℕ) (numbers : List Float) (n : ℕ) where
-  abbrev answer : Elected
-  answer = as_stored (winner_from itself flag (samples_in numbers n))
-
-  elected-counted : elected_from itself flag (samples_in numbers n) ≡ answered stopped (elect_refusal flag n) answer
-  elected-counted = ap (λ (k : ℕ). answered stopped (elect_refusal flag k) answer) (length-samples_in numbers n)
-
-  pub in-refused : (elect_refusal flag n ≡ 0 → ⊥) → stopped (elect_refusal flag n) ≡ elected_from itself flag (samples_in numbers n)
-  in-refused h = sym (elected-counted ∙ answered-refused stopped (elect_refusal flag n) answer h)
-
-  module _ (e : elect_refusal flag n ≡ 0) where
-    pub in-few : n ≤ most_samples
-    in-few = list-few n (or-else-quiet (list_refusal n) (flag_refusal flag) e).0
-
-    pub in-accepted : answer ≡ elected_from itself flag (samples_in numbers n)
-    in-accepted = sym (elected-counted ∙ answered-accepted stopped (elect_refusal flag n) answer e)

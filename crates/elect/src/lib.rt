@@ -6,10 +6,12 @@
 #![tactic(auto)]
 
 ghost use Rattle.std.specs.Prelude.{◌≡◌};
+ghost use Rattle.refusal.specs.Number.{refusal_number};
 ghost use Rattle.elect.specs.Elect.{identity_params, is_identity, invalid_shear, unfit, nobody, stopped, beats, held_after, elect_refusal, as_stored};
 
-use fit::{NO_SUCH_CODE, ROTZOOM};
+use fit::ROTZOOM;
 use grid::IDENTITY;
+use refusal::Refusal;
 
 // A field of less energy than this stands still.
 pub const MIN_MOTION_ENERGY: f64 = 0.25;
@@ -52,20 +54,14 @@ fn is_identity(params: [i32; 6]) -> bool
 fn invalid_shear(gm_type: u8, params: [i32; 6]) -> bool
     ensures { result ≡ invalid_shear gm_type params }
 {
-    if gm_type < ROTZOOM {
-        return false;
-    }
-    let shear = shear::setup_shear(gm_type, &params);
-    shear.valid == 0
+    gm_type >= ROTZOOM && shear::setup_shear(gm_type, &params).valid == 0
 }
 
+#[tactic(auto, unfolding(crate::specs::Elect::unfit))]
 pub fn unfit(gm_type: u8, params: [i32; 6]) -> bool
     ensures { result ≡ unfit gm_type params }
 {
-    if is_identity(params) {
-        return true;
-    }
-    invalid_shear(gm_type, params)
+    is_identity(params) || invalid_shear(gm_type, params)
 }
 
 // ---- who is held
@@ -73,11 +69,10 @@ pub fn unfit(gm_type: u8, params: [i32; 6]) -> bool
 pub fn nobody(energy: f64) -> Elected
     ensures { result ≡ nobody energy }
 {
-    let params = identity_params();
     Elected {
         refusal: 0,
         gm_type: IDENTITY,
-        params,
+        params: identity_params(),
         score: energy,
     }
 }
@@ -86,11 +81,10 @@ pub fn nobody(energy: f64) -> Elected
 pub fn stopped(number: u32) -> Elected
     ensures { result ≡ stopped number }
 {
-    let params = [0i32; 6];
     Elected {
         refusal: number,
         gm_type: IDENTITY,
-        params,
+        params: [0; 6],
         score: 0.0,
     }
 }
@@ -98,13 +92,8 @@ pub fn stopped(number: u32) -> Elected
 fn beats(err: f64, held: Elected) -> bool
     ensures { result ≡ beats err held }
 {
-    if held.gm_type == IDENTITY {
-        return true;
-    }
-    if err <= CLASS_UPGRADE_RATIO * held.score {
-        return CLASS_UPGRADE_MIN_GAIN < held.score - err;
-    }
-    false
+    held.gm_type == IDENTITY
+        || (err <= CLASS_UPGRADE_RATIO * held.score && CLASS_UPGRADE_MIN_GAIN < held.score - err)
 }
 
 pub fn held_after(energy: f64, held: Elected, gm_type: u8, params: [i32; 6], err: f64) -> Elected
@@ -127,27 +116,20 @@ pub fn held_after(energy: f64, held: Elected, gm_type: u8, params: [i32; 6], err
 pub fn as_stored(held: Elected) -> Elected
     ensures { result ≡ as_stored held }
 {
-    let own = held.params;
-    let params = quantize::row_first(held.gm_type, own);
     Elected {
-        refusal: held.refusal,
-        gm_type: held.gm_type,
-        params,
-        score: held.score,
+        params: quantize::row_first(held.gm_type, held.params),
+        ..held
     }
 }
 
 // ---- the call
 
-pub fn elect_refusal(flag: u8, samples: usize) -> u32
-    ensures { result ≡ elect_refusal flag samples }
+pub fn elect_refusal(flag: u8, samples: usize) -> Result<(), Refusal>
+    ensures { refusal_number result ≡ elect_refusal flag samples }
 {
-    let first = fit::list_refusal(samples);
-    if first != 0 {
-        return first;
-    }
+    fit::list_refusal(samples)?;
     if flag > 1 {
-        return NO_SUCH_CODE;
+        return Err(Refusal::NoSuchCode);
     }
-    0
+    Ok(())
 }

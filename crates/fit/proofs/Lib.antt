@@ -1,6 +1,4 @@
 pub mod Sums
-pub mod Systems
-pub mod Tables
 pub mod Types
 pub mod Refusals
 pub mod Accepted

@@ -8,9 +8,8 @@ use native.Mathlib.Omega.{arith}
 use lib.ListN.{length}
 use Rattle.laws.specs.Binary64.{◌⊕◌, one}
 use Rattle.sample.specs.declared.MotionSample.{MotionSample}
-use Rattle.solve.specs.declared.Outcome.{Outcome}
-use Rattle.solve.specs.declared.Outcome.TheVariants.{Solved, Singular}
-use Rattle.solve.specs.Elimination.{unless_singular}
+use Rattle.std.specs.Prelude.{Ok, Err}
+use Rattle.solve.specs.Elimination.{Outcome, unless_singular}
 use Rattle.solve.specs.Solution.{Solution, solved, number_of}
 use Rattle.fit.specs.declared.Fitted.{Fitted}
 use Rattle.fit.specs.declared.Fitted.TheVariants.{Refused, RotZoom, Affine}
@@ -22,8 +21,8 @@ pub record OfType (kind : ℕ) (f : Fitted) : Type 0 where
   pub same : refusal_of f ≡ 0 → type_of f ≡ kind
 
 guarded : (kind : ℕ) (o : Outcome) (f : Fitted) → OfType kind f → OfType kind (unless_singular o (Refused (number_of o)) f)
-guarded kind Solved f h = h
-guarded kind Singular f h = record { number = inr refl; same = λ e. absurd (omega arith) }
+guarded kind (Ok _) f h = h
+guarded kind (Err _) f h = record { number = inr refl; same = λ e. absurd (omega arith) }
 
 model-of-type : (kind : ℕ) (f : Fitted) → refusal_of f ≡ 0 → type_of f ≡ kind → OfType kind f
 model-of-type kind f e t = record { number = inl e; same = λ _. t }

@@ -5,9 +5,8 @@ use mathlib.Core.List.{List}
 use mathlib.Core.Logic.{◌⊎◌, inl, inr, ⊎_elim, ◌↔◌}
 use mathlib.Core.Path.{◌≡◌, refl, sym, ap, ◌∙◌}
 use native.Mathlib.Omega.{arith}
-use Rattle.solve.specs.declared.Outcome.{Outcome}
-use Rattle.solve.specs.declared.Outcome.TheVariants.{Solved, Singular}
-use Rattle.solve.specs.Elimination.{unless_singular}
+use Rattle.std.specs.Prelude.{Ok, Err}
+use Rattle.solve.specs.Elimination.{Outcome, solvable, singular, unless_singular}
 use Rattle.solve.specs.Solution.{solved, number_of}
 use Rattle.fit.specs.declared.Fitted.{Fitted}
 use Rattle.fit.specs.declared.Fitted.TheVariants.{Refused, RotZoom, Affine}
@@ -18,12 +17,12 @@ abbrev guarded : Outcome → Fitted → Fitted
 guarded o f = unless_singular o (Refused (number_of o)) f
 
 number-of-guarded : (o : Outcome) (f : Fitted) → refusal_of f ≡ 0 → refusal_of (guarded o f) ≡ number_of o
-number-of-guarded Solved f e = e
-number-of-guarded Singular f e = refl
+number-of-guarded (Ok _) f e = e
+number-of-guarded (Err _) f e = refl
 
-six-is-singular : (o : Outcome) → number_of o ≡ 6 → o ≡ Singular
-six-is-singular Solved e = absurd (omega arith)
-six-is-singular Singular e = refl
+six-is-singular : (o : Outcome) → number_of o ≡ 6 → o ≡ singular
+six-is-singular (Ok _) e = absurd (omega arith)
+six-is-singular (Err _) e = refl
 
 -- ---- one elimination
 
@@ -31,7 +30,7 @@ module _ (ws : List ℕ) where
   abbrev eliminated : Outcome
   eliminated = (solved 4 (rot_zoom_system (rot_zoom_sums ws) (count_of ws))).outcome
 
-  pub rotzoom-refuses : (refusal_of (rot_zoom_fit ws) ≡ 6) ↔ (eliminated ≡ Singular)
+  pub rotzoom-refuses : (refusal_of (rot_zoom_fit ws) ≡ 6) ↔ (eliminated ≡ singular)
   unfolding rot_zoom_from
   rotzoom-refuses = (
     (λ e. six-is-singular eliminated (sym (number-of-guarded eliminated (RotZoom _ _ _ _) refl) ∙ e)),
@@ -40,15 +39,15 @@ module _ (ws : List ℕ) where
 
 -- ---- two eliminations
 
-either-refuses : (o p : Outcome) (f : Fitted) → refusal_of f ≡ 0 → refusal_of (guarded o (guarded p f)) ≡ 6 → (o ≡ Singular) ⊎ (p ≡ Singular)
-either-refuses Singular p f z e = inl refl
-either-refuses Solved p f z e = inr (six-is-singular p (sym (number-of-guarded p f z) ∙ e))
+either-refuses : (o p : Outcome) (f : Fitted) → refusal_of f ≡ 0 → refusal_of (guarded o (guarded p f)) ≡ 6 → (o ≡ singular) ⊎ (p ≡ singular)
+either-refuses (Err _) p f z e = inl refl
+either-refuses (Ok _) p f z e = inr (six-is-singular p (sym (number-of-guarded p f z) ∙ e))
 
-refuses-either : (o p : Outcome) (f : Fitted) → refusal_of f ≡ 0 → (o ≡ Singular) ⊎ (p ≡ Singular) → refusal_of (guarded o (guarded p f)) ≡ 6
-refuses-either Singular p f z e = refl
-refuses-either Solved p f z e =
+refuses-either : (o p : Outcome) (f : Fitted) → refusal_of f ≡ 0 → (o ≡ singular) ⊎ (p ≡ singular) → refusal_of (guarded o (guarded p f)) ≡ 6
+refuses-either (Err _) p f z e = refl
+refuses-either (Ok _) p f z e =
     number-of-guarded p f z
-    ∙ ⊎_elim (λ (h : Solved ≡ Singular). let x : ◌≡◌ {A = ℕ} 0 6 = ap number_of h in absurd (omega arith)) (λ (h : p ≡ Singular). ap number_of h) e
+    ∙ ⊎_elim (λ (h : solvable ≡ singular). let x : ◌≡◌ {A = ℕ} 0 6 = ap number_of h in absurd (omega arith)) (λ (h : p ≡ singular). ap number_of h) e
 
 module _ (ws : List ℕ) where
   abbrev first : Outcome
@@ -57,7 +56,7 @@ module _ (ws : List ℕ) where
   abbrev second : Outcome
   second = (solved 3 (affine_v (affine_sums ws) (count_of ws))).outcome
 
-  pub affine-refuses : (refusal_of (affine_fit ws) ≡ 6) ↔ ((first ≡ Singular) ⊎ (second ≡ Singular))
+  pub affine-refuses : (refusal_of (affine_fit ws) ≡ 6) ↔ ((first ≡ singular) ⊎ (second ≡ singular))
   unfolding affine_from
   affine-refuses = (
     (λ e. either-refuses first second (Affine _ _ _ _ _ _) refl e),

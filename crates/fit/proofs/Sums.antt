@@ -16,6 +16,12 @@ module _ {A S : Type 0} (totals : Summing → S) (step : S → MotionSample → 
   sums_apart (x ∷ xs) start =
       ap (fold (reading step read) xs) (moves start (read x)) ∙ sums_apart xs (λ term. plus term (start term) (read x))
 
+-- the sums of a fit, folded as the library folds
+module _ {S : Type 0} (totals : Summing → S) (step : S → MotionSample → S)
+    (moves : (start : Summing) (s : MotionSample) → step (totals start) s ≡ totals (λ term. plus term (start term) s)) where
+  pub sums-folded : {A : Type 0} (read : A → MotionSample) (xs : List A) → fold (reading step read) xs (totals no_sums) ≡ totals (sums_of read xs)
+  sums-folded read xs = sums_apart totals step read moves xs no_sums
+
 module _ {A : Type 0} (read : A → MotionSample) (xs : List A) where
   pub translation-sums : fold (reading translation_step read) xs (translation_totals no_sums) ≡ translation_totals (sums_of read xs)
   unfolding translation_totals

@@ -1,13 +1,16 @@
 -- What the functions below the public calls ask and answer; no public contract cites it.
 -- Assumes nothing.
-use Rattle.std.specs.Prelude.{ℕ}
-use Rattle.laws.specs.Call.{answered}
+use Rattle.std.specs.Prelude.{◌≡◌, Result, Ok, Err, refl}
 use Rattle.sample.specs.declared.MotionSample.{MotionSample}
 use Rattle.fit.specs.declared.TranslationSums.{TranslationSums}
 use Rattle.fit.specs.declared.RotZoomSums.{RotZoomSums}
 use Rattle.fit.specs.declared.AffineSums.{AffineSums}
-use Rattle.fit.specs.Fitted.{list_refusal}
-use Rattle.fit.specs.Sums.{plus, su, sv, sx, sy, sxx, sxy, syy, sxu, syu, sxv, syv, q, p1, p2}
+use Rattle.solve.specs.declared.Singular.{Singular}
+use Rattle.solve.specs.Elimination.{singular}
+use Rattle.solve.specs.Solution.{number_of}
+use Rattle.fit.specs.declared.Fitted.{Fitted}
+use Rattle.fit.specs.declared.Fitted.TheVariants.{Refused}
+use Rattle.fit.specs.Sums.{Summing, translation_totals, rot_zoom_totals, affine_totals, plus, su, sv, sx, sy, sxx, sxy, syy, sxu, syu, sxv, syv, q, p1, p2}
 
 -- a sample added to every sum of a fit
 abbrev pub translation_step : TranslationSums → MotionSample → TranslationSums
@@ -41,6 +44,20 @@ affine_step t s =
       sv = plus sv t.sv s;
     }
 
--- how many samples of so many a walk takes: a list that is too long isn't walked
-abbrev pub taken : ℕ → ℕ
-taken samples = answered (λ refusal. 0) (list_refusal samples) samples
+-- each moves a sum by its own term alone
+pub translation_moves : (sum : Summing) (s : MotionSample) → translation_step (translation_totals sum) s ≡ translation_totals (λ term. plus term (sum term) s)
+unfolding translation_totals
+translation_moves sum s = refl
+
+pub rot_zoom_moves : (sum : Summing) (s : MotionSample) → rot_zoom_step (rot_zoom_totals sum) s ≡ rot_zoom_totals (λ term. plus term (sum term) s)
+unfolding rot_zoom_totals
+rot_zoom_moves sum s = refl
+
+pub affine_moves : (sum : Summing) (s : MotionSample) → affine_step (affine_totals sum) s ≡ affine_totals (λ term. plus term (sum term) s)
+unfolding affine_totals
+affine_moves sum s = refl
+
+-- a model that was solved for, or row 6
+abbrev pub or_singular : Result Fitted Singular → Fitted
+or_singular (Ok f) = f
+or_singular (Err _) = Refused (number_of singular)

@@ -5,7 +5,8 @@
 ghost use Rattle.std.specs.Prelude.{◌≡◌};
 ghost use Rattle.fit_numbers.specs.Numbers.{numbers_of, fitted_of};
 
-use fit::{AFFINE, Fitted, NO_SUCH_CODE, ROTZOOM, TRANSLATION};
+use fit::{AFFINE, Fitted, ROTZOOM, TRANSLATION};
+use refusal::Refusal;
 
 // A fitted model in numbers: two of a translation, four of a rotation-zoom, six of an affine model,
 // zeros after them.
@@ -19,25 +20,10 @@ pub struct FitAnswer {
 pub fn numbers_of(fitted: Fitted) -> FitAnswer
     ensures { result ≡ numbers_of fitted }
 {
-    match fitted {
-        Fitted::Refused(refusal) => {
-            let numbers = [0.0, 0.0, 0.0, 0.0, 0.0, 0.0];
-            FitAnswer { refusal, numbers }
-        }
-        Fitted::Translation { m0, m1 } => {
-            let numbers = [m0, m1, 0.0, 0.0, 0.0, 0.0];
-            FitAnswer {
-                refusal: 0,
-                numbers,
-            }
-        }
-        Fitted::RotZoom { m0, m1, m2, m3 } => {
-            let numbers = [m0, m1, m2, m3, 0.0, 0.0];
-            FitAnswer {
-                refusal: 0,
-                numbers,
-            }
-        }
+    let numbers = match fitted {
+        Fitted::Refused(_) => [0.0, 0.0, 0.0, 0.0, 0.0, 0.0],
+        Fitted::Translation { m0, m1 } => [m0, m1, 0.0, 0.0, 0.0, 0.0],
+        Fitted::RotZoom { m0, m1, m2, m3 } => [m0, m1, m2, m3, 0.0, 0.0],
         Fitted::Affine {
             m0,
             m1,
@@ -45,13 +31,11 @@ pub fn numbers_of(fitted: Fitted) -> FitAnswer
             m3,
             m4,
             m5,
-        } => {
-            let numbers = [m0, m1, m2, m3, m4, m5];
-            FitAnswer {
-                refusal: 0,
-                numbers,
-            }
-        }
+        } => [m0, m1, m2, m3, m4, m5],
+    };
+    FitAnswer {
+        refusal: fit::refusal_of(fitted),
+        numbers,
     }
 }
 
@@ -59,29 +43,25 @@ pub fn numbers_of(fitted: Fitted) -> FitAnswer
 pub fn fitted_of(kind: u8, numbers: [f64; 6]) -> Fitted
     ensures { result ≡ fitted_of kind numbers }
 {
-    if kind == TRANSLATION {
-        return Fitted::Translation {
+    match kind {
+        TRANSLATION => Fitted::Translation {
             m0: numbers[0],
             m1: numbers[1],
-        };
-    }
-    if kind == ROTZOOM {
-        return Fitted::RotZoom {
+        },
+        ROTZOOM => Fitted::RotZoom {
             m0: numbers[0],
             m1: numbers[1],
             m2: numbers[2],
             m3: numbers[3],
-        };
-    }
-    if kind == AFFINE {
-        return Fitted::Affine {
+        },
+        AFFINE => Fitted::Affine {
             m0: numbers[0],
             m1: numbers[1],
             m2: numbers[2],
             m3: numbers[3],
             m4: numbers[4],
             m5: numbers[5],
-        };
+        },
+        _ => Fitted::Refused(Refusal::NoSuchCode.number()),
     }
-    Fitted::Refused(NO_SUCH_CODE)
 }

@@ -8,57 +8,43 @@ ghost use Rattle.five_bytes.specs.Inner.{byte_of, five_of};
 
 use byte_field::BYTE;
 
-// A byte as a number, 0 past the end.
-fn byte_at(bytes: &[u8], at: usize) -> u64
-    ensures { (result ≡ byte_of bytes.now at) × (result < 256) }
+// A byte, 0 past the end.
+fn byte_at(bytes: &[u8], at: usize) -> u8
+    ensures { result ≡ byte_of bytes.now at }
 {
-    if at < bytes.len() {
-        return bytes[at] as u64;
-    }
-    0
+    bytes.get(at).copied().unwrap_or(0)
 }
 
-// A byte that is there.
-fn byte_in(bytes: &[u8], at: usize) -> u64
-    requires { at < length bytes.now }
-    ensures { (result ≡ byte_of bytes.now at) × (result < 256) }
+// Five bytes as a number, the first highest.
+fn number_of(five: [u8; 5]) -> u64
+    ensures is { result ≡ five_of five 0 }
+    ensures small { result < 2 ^ 40 }
 {
-    bytes[at] as u64
+    let [one, two, three, four, five] = five;
+    u64::from_be_bytes([0, 0, 0, one, two, three, four, five])
 }
 
-// Five bytes as a number, the first highest, with zeros past the end.
-fn five_padded(bytes: &[u8], first: usize) -> u64
-    requires { first + 5 < 2 ^ 64 }
-    ensures { (result ≡ five_of bytes.now first) × (result < 2 ^ 40) }
-{
-    let one = byte_at(bytes, first);
-    let two = one * 256 + byte_at(bytes, first + 1);
-    let three = two * 256 + byte_at(bytes, first + 2);
-    let four = three * 256 + byte_at(bytes, first + 3);
-    four * 256 + byte_at(bytes, first + 4)
-}
-
-// The same where all five are there.
-fn five_inside(bytes: &[u8], first: usize) -> u64
-    requires { first + 5 ≤ length bytes.now }
-    ensures { (result ≡ five_of bytes.now first) × (result < 2 ^ 40) }
-{
-    let one = byte_in(bytes, first);
-    let two = one * 256 + byte_in(bytes, first + 1);
-    let three = two * 256 + byte_in(bytes, first + 2);
-    let four = three * 256 + byte_in(bytes, first + 3);
-    four * 256 + byte_in(bytes, first + 4)
-}
-
-// The same: a field of 32 bits lies in them, wherever in the first it begins.
+// Five bytes as a number, with zeros past the end: a field of 32 bits lies in them, wherever in the first it begins.
 pub fn five_bytes(bytes: &[u8], first: usize) -> u64
     requires { first + 5 < 2 ^ 64 }
     ensures { (result ≡ five_of bytes.now first) × (result < 2 ^ 40) }
 {
     if first + 5 <= bytes.len() {
-        return five_inside(bytes, first);
+        return number_of([
+            bytes[first],
+            bytes[first + 1],
+            bytes[first + 2],
+            bytes[first + 3],
+            bytes[first + 4],
+        ]);
     }
-    five_padded(bytes, first)
+    number_of([
+        byte_at(bytes, first),
+        byte_at(bytes, first + 1),
+        byte_at(bytes, first + 2),
+        byte_at(bytes, first + 3),
+        byte_at(bytes, first + 4),
+    ])
 }
 
 // n bits of five bytes, from bit `used` on.

@@ -12,11 +12,10 @@ ghost use Rattle.frame_header.specs.Inner.{key_models};
 use grid::IDENTITY;
 use header::Written;
 use header_read::Models;
+use refusal::Refusal;
 
 // The bits of a key frame.
 const KEY_BITS: usize = 0;
-
-const NO_SUCH_CODE: u32 = 4;
 
 // Seven types and models in rising order of reference, as `header::encode_inter_global_motion` takes
 // them; of a key frame all are identities, and nothing is written.
@@ -33,7 +32,7 @@ pub fn encode_global_motion(
     ensures header_after { header.new ≡ frame_after intra start types.now params.now flag prior.now header.old }
 {
     if intra {
-        let refusal = key_frame::key_refusal(start, types, params, flag);
+        let refusal = refusal::refusal_number(key_frame::key_refusal(start, types, params, flag));
         return Written {
             refusal,
             bits: KEY_BITS,
@@ -50,7 +49,7 @@ fn key_models(flag: u8) -> Models
     if 1 < flag {
         let params = [0i32; 42];
         return Models {
-            refusal: NO_SUCH_CODE,
+            refusal: Refusal::NoSuchCode.number(),
             types,
             params,
             bits: 0,

@@ -60,10 +60,8 @@ pub fn full_pel(centre: Offset, block: &[u16], window: &[u16]) -> Best
         return stage::idle(first, FULL_SQUARE - 1);
     }
     let mut best = first;
-    let mut k = 0;
-    while k < FULL_SQUARE {
+    for k in 0..FULL_SQUARE {
         best = full_candidate(best, k, centre, block, window);
-        k += 1;
     }
     best
 }

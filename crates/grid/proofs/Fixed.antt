@@ -7,7 +7,7 @@ use native.Mathlib.Nat.{zero-mul}
 use native.Mathlib.Omega.{arith}
 use lib.Arith.{digits_div}
 use lib.Pow.{pow_pos}
-use lib.IntN.{ℤ, pos, neg_ℤ, nat_abs, ◌+ℤ◌, ◌*ℤ◌, +ℤ-neg_ℤ_cancel, +ℤ_idr}
+use lib.IntN.{ℤ, pos, neg_ℤ, nat_abs, ◌*ℤ◌, +ℤ-neg_ℤ_cancel, +ℤ_idr}
 use Rattle.grid.specs.Grid.{step, number, Ordinal, Codable, negative, signed, nearest_ordinal, ordinal_of, quantize}
 use Rattle.grid.proofs.Signs.{signed_parts, signed-times, negative-signed, keep-sign}
 

@@ -1,25 +1,22 @@
 -- A codable number's symbol is its place among the symbols, counted in steps from the least codable number; so at the rows of the table.
 -- Assumes nothing.
-use Prim.Native.Nat.{ℕ, zero, suc, ◌+◌, ◌*◌, ◌-◌, ◌/◌, ◌^◌, ◌≤◌, ◌<◌}
+use Prim.Native.Nat.{ℕ, ◌+◌, ◌*◌, ◌-◌, ◌/◌, ◌^◌, ◌≤◌}
 use mathlib.Core.Bool.{Bool, true, false}
-use mathlib.Core.Path.{◌≡◌, refl, sym, ap, subst, ◌∙◌}
+use mathlib.Core.Path.{◌≡◌, refl, sym, ap, ◌∙◌}
 use native.Mathlib.Nat.{add-mul}
 use native.Mathlib.Omega.{arith}
-use borrow.Author.Tests.{ltb-false, le-ltb}
-use lib.Dec.{ltb, eqb}
+use borrow.Author.Tests.{le-ltb}
 use lib.IntN.{ℤ, pos, nat_abs, ◌+ℤ◌, ◌-ℤ◌, ◌*ℤ◌, +ℤ-neg_ℤ_cancel}
 use lib.Pow.{shl-shr, pow_mono}
-use Rattle.laws.specs.Refusal.{choose}
 use Rattle.grid.specs.declared.Coded.{Coded}
-use Rattle.grid.specs.Grid.{step, number, abs_bits, prec_bits, centre, negative, signed, Codable}
-use Rattle.grid.specs.Symbols.{symbols, symbol_of, prior_reach, prior_out}
-use Rattle.grid.specs.Inner.{Prior, place_code, PlacesAre, CodedIn, CodedIs}
+use Rattle.grid.specs.Grid.{step, abs_bits, prec_bits, centre, negative, signed, Codable}
+use Rattle.grid.specs.Symbols.{symbols, symbol_of}
+use Rattle.grid.specs.Inner.{place_code, PlacesAre, CodedIn, CodedIs}
 use Rattle.grid.proofs.Bounds.{taken-from}
 use Rattle.grid.proofs.Fixed.{ordinal-of-number}
-use Rattle.grid.proofs.OffGrid.{steps-of-codable}
 use Rattle.grid.proofs.Signs.{signed_parts, signed-times}
-use Rattle.grid.proofs.Symbols.{symbol-below, row-reach, row-place-below, row-place-code}
-use Rattle.grid.proofs.Table.{table-row, abs_bits-range}
+use Rattle.grid.proofs.Symbols.{symbol-below, row-place-below, row-place-code}
+use Rattle.grid.proofs.Table.{abs_bits-range}
 
 -- steps raised by whole steps are as many steps
 raised-steps : (s : Bool) (k a e : ℕ) → k ≤ a → nat_abs (signed s (k * 2 ^ e) +ℤ pos (a * 2 ^ e)) ≡ nat_abs (signed s k +ℤ pos a) * 2 ^ e
@@ -53,17 +50,6 @@ module _ (abs prec c : ℕ) (z : ℤ) (g : Codable abs prec c z) where
 
 module _ (gm_type flag slot : ℕ) (z q : ℤ) (g : CodedIn gm_type flag slot z q) (abs prec c : ℕ)
     (ea : abs ≡ abs_bits gm_type flag slot) (ep : prec ≡ prec_bits gm_type flag slot) (ec : c ≡ centre slot) where
-  pub asked : Prior abs prec c z × Prior abs prec c q × (abs ≤ 12)
-  asked =
-      rw (ea, ep, ec) (
-        record { row = table-row gm_type flag slot; reach = (steps-of-codable (abs_bits gm_type flag slot) (prec_bits gm_type flag slot) (centre slot) z g.own).0 },
-        record {
-          row = table-row gm_type flag slot;
-          reach = rw (← row-reach gm_type flag slot) (ltb-false (prior_reach slot) (nat_abs (q -ℤ pos (centre slot))) g.prior.within);
-        },
-        (abs_bits-range gm_type flag slot).1,
-      )
-
   pub answered : (r : Coded) → PlacesAre abs prec c z q r → CodedIs gm_type flag slot z q r
   answered r p =
       let m : r.mx ≡ symbols (abs_bits gm_type flag slot) = rw ea at p.mx in
@@ -79,11 +65,6 @@ module _ (gm_type flag slot : ℕ) (z q : ℤ) (g : CodedIn gm_type flag slot z 
         few = omega (arith, m, pow_mono (abs_bits-range gm_type flag slot).1);
       }
 
--- the centre of slots 0 and 1, and the bits of the others
-pub low-centre : (slot : ℕ) → slot < 2 → 0 ≡ centre slot
-low-centre zero h = refl
-low-centre (suc zero) h = refl
-low-centre (suc (suc n)) h = absurd (omega arith)
-
+-- the bits of slots 2 to 5
 pub linear-bits : (gm_type flag slot : ℕ) → 2 ≤ slot → (12 ≡ abs_bits gm_type flag slot) × (15 ≡ prec_bits gm_type flag slot)
 linear-bits gm_type flag slot h = rw (le-ltb slot 2 h) (refl, refl)

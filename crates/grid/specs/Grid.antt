@@ -1,6 +1,6 @@
 -- The codable numbers of a slot and the quantization onto them: docs/RULES.md, 'Grid'; clause 5.9.25.
 -- Assumes nothing.
-use Rattle.std.specs.Prelude.{ℕ, ◌+◌, ◌*◌, ◌-◌, ◌/◌, ◌^◌, ◌≤◌, min, Bool, true, false, [], ◌∷◌, ◌≡◌, ltb, eqb, ℤ, pos, neg_ℤ, nat_abs, ◌+ℤ◌, ◌-ℤ◌, ◌*ℤ◌}
+use Rattle.std.specs.Prelude.{ℕ, ◌+◌, ◌-◌, ◌/◌, ◌^◌, ◌≤◌, min, Bool, true, false, [], ◌∷◌, ◌≡◌, ltb, eqb, ℤ, pos, neg_ℤ, nat_abs, ◌+ℤ◌, ◌-ℤ◌, ◌*ℤ◌}
 use Rattle.laws.specs.Refusal.{row, choose, either, judge}
 pub use Rattle.laws.specs.Signed.{negative}
 use Rattle.grid.specs.declared.ParamBits.{ParamBits}

@@ -1,12 +1,10 @@
 -- What the functions below the public calls ask and answer; no public contract cites it.
 -- Assumes nothing.
-use Rattle.std.specs.Prelude.{ℕ, ◌*◌, ◌/◌, ◌%◌, ◌^◌, ◌≤◌, ◌<◌, Bool, true, false, not, ◌≡◌, ltb, eqb, ℤ, pos, nat_abs, ◌+ℤ◌, ◌-ℤ◌, length, take}
+use Rattle.std.specs.Prelude.{ℕ, ◌*◌, ◌/◌, ◌%◌, ◌^◌, ◌≤◌, ◌<◌, Bool, true, false, not, ◌≡◌, ltb, eqb, ℤ, pos, nat_abs, ◌+ℤ◌, ◌-ℤ◌}
 use Rattle.laws.specs.Refusal.{choose}
 use Rattle.grid.specs.Grid.{step, abs_bits, prec_bits, centre, Row, Codable}
-use Rattle.grid.specs.Slots.{slots_of}
 use Rattle.grid.specs.Symbols.{symbols, symbol_of, place, prior_out}
 use Rattle.grid.specs.declared.Coded.{Coded}
-use Rattle.grid.specs.declared.SlotOrder.{SlotOrder}
 use Rattle.grid.specs.declared.SlotSymbols.{SlotSymbols}
 
 -- beyond the last codable number, or not a whole number of steps from the centre: a number that isn't its own quantization
@@ -61,9 +59,3 @@ pub record CodedIs (gm_type flag slot : ℕ) (z q : ℤ) (r : Coded) : Type 0 wh
   pub below : r.r < r.mx
   pub less : r.t < r.mx
   pub few : r.mx ≤ 8193
-
--- the slots of a type at the front of an array of six
-pub record SlotsIs (gm_type : ℕ) (r : SlotOrder) : Type 0 where
-  pub count : r.count ≡ length (slots_of gm_type)
-  pub order : take r.count r.order ≡ slots_of gm_type
-  pub six : length r.order ≡ 6

@@ -3,10 +3,15 @@
 // `global_param_bits` and `quantize_global_param` of frame_obu.rs.
 #![tactic(auto)]
 
-ghost use Rattle.std.specs.Prelude.{◌≡◌, ◌*◌, ◌^◌, ◌<◌, ◌≤◌, pos, nat_abs, ◌-ℤ◌, ◌+ℤ◌, ◌*ℤ◌};
-ghost use Rattle.grid.specs.Grid.{param_bits, abs_bits, prec_bits, centre, negative, step, nearest_ordinal, signed, quantize, quantized, Row, rejected, answer};
+ghost use Rattle.std.specs.Prelude.{◌≡◌, ◌+◌, ◌*◌, ◌-◌, ◌^◌, ◌<◌, ◌≤◌, pos, nat_abs, ◌-ℤ◌, ◌+ℤ◌, ◌*ℤ◌};
+ghost use Rattle.refusal.specs.Number.{refusal_number};
+ghost use Rattle.grid.specs.Grid.{param_bits, abs_bits, prec_bits, centre, negative, step, nearest_ordinal, signed, quantize, quantized, refusal, answer};
+ghost use Rattle.grid.specs.Slots.{slots_of};
 ghost use Rattle.grid.specs.Symbols.{symbols, symbol_of, number_of};
-ghost use Rattle.grid.specs.Inner.{off_grid, Symbol, Prior, place_code, PriorIn, SymbolsIs, SymbolIs, PlacesAre, CodedIn, CodedIs, SlotsIs};
+ghost use Rattle.grid.specs.Inner.{off_grid, place_code, PriorIn, SymbolsIs, SymbolIs, PlacesAre, CodedIn, CodedIs};
+
+pub use byte_field::wide_power as power_of_two;
+use refusal::Refusal;
 
 // Fraction bits of a model's numbers.
 const WARPEDMODEL_PREC_BITS: u32 = 16;
@@ -25,43 +30,31 @@ pub const ROTZOOM: u8 = 2;
 
 pub const AFFINE: u8 = 3;
 
-// Rows of the rules' table.
-const NO_SUCH_CODE: u32 = 4;
-
-const NO_SUCH_SLOT: u32 = 5;
-
 // absBits and precBits of a slot.
-#[derive(Clone, Copy)]
+#[derive(Clone, Copy, Debug, PartialEq, Eq)]
 pub struct ParamBits {
     pub abs_bits: u32,
     pub prec_bits: u32,
 }
 
 // S, and the place of the prior.
-#[derive(Clone, Copy)]
+#[derive(Clone, Copy, Debug, PartialEq, Eq)]
 pub struct SlotSymbols {
     pub mx: u32,
     pub r: u32,
 }
 
 // S, the place of the prior, and the symbol of the number.
-#[derive(Clone, Copy)]
+#[derive(Clone, Copy, Debug, PartialEq, Eq)]
 pub struct Coded {
     pub mx: u32,
     pub r: u32,
     pub t: u32,
 }
 
-// The slots that a type carries, in the order of reading: the first `count` of `order`.
-#[derive(Clone, Copy)]
-pub struct SlotOrder {
-    pub count: usize,
-    pub order: [u8; 6],
-}
-
 // A row of the table of refusals (0: none), and the quantized number.
 #[repr(C)]
-#[derive(Clone, Copy)]
+#[derive(Clone, Copy, Debug, PartialEq, Eq)]
 pub struct Quantized {
     pub refusal: u32,
     pub value: i32,
@@ -70,27 +63,15 @@ pub struct Quantized {
 pub fn global_param_bits(gm_type: u8, flag: u8, slot: u8) -> ParamBits
     ensures { result ≡ param_bits gm_type flag slot }
 {
-    if slot < 2 {
-        if gm_type == TRANSLATION {
-            if flag == 1 {
-                return ParamBits {
-                    abs_bits: 9,
-                    prec_bits: 3,
-                };
-            }
-            return ParamBits {
-                abs_bits: 8,
-                prec_bits: 2,
-            };
-        }
-        return ParamBits {
-            abs_bits: 12,
-            prec_bits: 6,
-        };
-    }
+    let (abs_bits, prec_bits) = match (slot, gm_type, flag) {
+        (0 | 1, TRANSLATION, 1) => (9, 3),
+        (0 | 1, TRANSLATION, _) => (8, 2),
+        (0 | 1, _, _) => (12, 6),
+        _ => (LINEAR_ABS_BITS, LINEAR_PREC_BITS),
+    };
     ParamBits {
-        abs_bits: LINEAR_ABS_BITS,
-        prec_bits: LINEAR_PREC_BITS,
+        abs_bits,
+        prec_bits,
     }
 }
 
@@ -98,21 +79,10 @@ pub fn global_param_bits(gm_type: u8, flag: u8, slot: u8) -> ParamBits
 pub fn centre_of(slot: u8) -> u32
     ensures { result ≡ centre slot }
 {
-    if slot == 2 {
-        return 65536;
+    match slot {
+        2 | 5 => 65536,
+        _ => 0,
     }
-    if slot == 5 {
-        return 65536;
-    }
-    0
-}
-
-// 2 to the power of a small exponent.
-pub fn power_of_two(exponent: u32) -> u64
-    requires { exponent ≤ 32 }
-    ensures { result ≡ 2 ^ exponent }
-{
-    1u64 << exponent
 }
 
 // A sign and a magnitude stand for a signed number in what follows.
@@ -126,11 +96,7 @@ pub fn magnitude(x: i64) -> u64
     requires { nat_abs x < 2 ^ 62 }
     ensures { result ≡ nat_abs x }
 {
-    if is_negative(x) {
-        (0 - x) as u64
-    } else {
-        x as u64
-    }
+    x.unsigned_abs()
 }
 
 pub fn with_sign(negative: bool, size: u64) -> i64
@@ -159,36 +125,6 @@ pub fn to_centre(num: i64, round: u32) -> i32
     (num + round as i64) as i32
 }
 
-// The nearest ordinal's magnitude, half away from zero, held to the largest.
-fn nearest_ordinal(abs_bits: u32, prec_bits: u32, size: u64) -> u64
-    requires { Row abs_bits prec_bits × (size < 2 ^ 62) }
-    ensures { result ≡ nearest_ordinal abs_bits prec_bits size }
-{
-    let step = power_of_two(WARPEDMODEL_PREC_BITS - prec_bits);
-    let limit = power_of_two(abs_bits);
-    let decoded = (size + step / 2) / step;
-    if decoded < limit { decoded } else { limit }
-}
-
-// How far the nearest codable number is from the centre.
-fn nearest_distance(abs_bits: u32, prec_bits: u32, size: u64) -> u64
-    requires { Row abs_bits prec_bits × (size < 2 ^ 62) }
-    ensures is { result ≡ nearest_ordinal abs_bits prec_bits size * step prec_bits }
-    ensures small { result ≤ 4194304 }
-{
-    nearest_ordinal(abs_bits, prec_bits, size) * power_of_two(WARPEDMODEL_PREC_BITS - prec_bits)
-}
-
-// The nearest codable number of a slot with these bits and centre.
-fn snap(abs_bits: u32, prec_bits: u32, round: u32, value: i32) -> i32
-    requires { Row abs_bits prec_bits × (round ≤ 65536) }
-    ensures { result ≡ quantize abs_bits prec_bits round value }
-{
-    let num = from_centre(value, round);
-    let distance = nearest_distance(abs_bits, prec_bits, magnitude(num));
-    to_centre(with_sign(is_negative(num), distance), round)
-}
-
 // A signed number of at most `middle` either way, counted from -middle up.
 fn lift(negative: bool, size: u64, middle: u64) -> u64
     requires { (size ≤ middle) × (middle ≤ 4194304) }
@@ -211,52 +147,151 @@ fn raised(num: i64, middle: u64) -> u64
     (num + middle as i64) as u64
 }
 
-// 2 ^ absBits steps: how far the codable numbers of a slot reach.
-fn reach_of(abs_bits: u32, prec_bits: u32) -> u64
-    requires { Row abs_bits prec_bits }
-    ensures is { result ≡ 2 ^ abs_bits * step prec_bits }
-    ensures small { result ≤ 4194304 }
-{
-    power_of_two(abs_bits) * power_of_two(WARPEDMODEL_PREC_BITS - prec_bits)
+// The grid of a slot: absBits, precBits and what ordinal 0 stands for.
+#[derive(Clone, Copy)]
+struct SlotGrid {
+    abs: u32,
+    prec: u32,
+    round: u32,
+    ghost fraction: { prec ≤ 16 },
+    ghost reach: { abs + (16 - prec) ≤ 22 },
+    ghost centred: { round ≤ 65536 },
 }
 
-// The symbol of a number: its nearest ordinal plus 2 ^ absBits.
-fn symbol_among(abs_bits: u32, prec_bits: u32, round: u32, value: i32) -> u32
-    requires { Row abs_bits prec_bits }
-    ensures { result ≡ symbol_of abs_bits prec_bits round value }
-{
-    let num = from_centre(value, round);
-    let ordinal = nearest_ordinal(abs_bits, prec_bits, magnitude(num));
-    lift(is_negative(num), ordinal, power_of_two(abs_bits)) as u32
-}
+impl SlotGrid {
+    fn of(gm_type: u8, flag: u8, slot: u8) -> Self
+        ensures abs { result.abs ≡ abs_bits gm_type flag slot }
+        ensures prec { result.prec ≡ prec_bits gm_type flag slot }
+        ensures round { result.round ≡ centre slot }
+    {
+        let ParamBits {
+            abs_bits,
+            prec_bits,
+        } = global_param_bits(gm_type, flag, slot);
+        SlotGrid {
+            abs: abs_bits,
+            prec: prec_bits,
+            round: centre_of(slot),
+        }
+    }
 
-// The place of a prior in range among a slot's symbols.
-fn place_among(abs_bits: u32, prec_bits: u32, round: u32, prior: i32) -> u32
-    requires { Prior abs_bits prec_bits round prior }
-    ensures { result ≡ place_code abs_bits prec_bits round prior }
-{
-    let num = from_centre(prior, round);
-    let above = raised(num, reach_of(abs_bits, prec_bits));
-    (above / power_of_two(WARPEDMODEL_PREC_BITS - prec_bits)) as u32
-}
+    // The distance of two codable numbers.
+    fn step(self) -> u64
+        ensures is { result ≡ step self.prec }
+        ensures some { 0 < result }
+        ensures small { result ≤ 65536 }
+    {
+        power_of_two(WARPEDMODEL_PREC_BITS - self.prec)
+    }
 
-// How far a symbol's number is from the centre.
-fn from_middle(abs_bits: u32, prec_bits: u32, symbol: u32) -> i64
-    requires { Row abs_bits prec_bits × (symbol < symbols abs_bits) }
-    ensures is { result ≡ (pos symbol -ℤ pos (2 ^ abs_bits)) *ℤ pos (step prec_bits) }
-    ensures small { nat_abs result ≤ 4194304 }
-{
-    let middle = power_of_two(abs_bits) as i64;
-    let step = power_of_two(WARPEDMODEL_PREC_BITS - prec_bits) as i64;
-    (symbol as i64 - middle) * step
-}
+    // The largest ordinal.
+    fn limit(self) -> u64
+        ensures is { result ≡ 2 ^ self.abs }
+        ensures small { result ≤ 4194304 }
+    {
+        power_of_two(self.abs)
+    }
 
-// The number that a symbol stands for.
-fn number_among(abs_bits: u32, prec_bits: u32, round: u32, symbol: u32) -> i32
-    requires { Symbol abs_bits prec_bits round symbol }
-    ensures { result ≡ number_of abs_bits prec_bits round symbol }
-{
-    to_centre(from_middle(abs_bits, prec_bits, symbol), round)
+    // How many symbols there are: S.
+    fn symbols(self) -> u32
+        ensures { result ≡ symbols self.abs }
+    {
+        (2 * self.limit() + 1) as u32
+    }
+
+    // How far the codable numbers reach.
+    fn reach(self) -> u64
+        ensures is { result ≡ 2 ^ self.abs * step self.prec }
+        ensures small { result ≤ 4194304 }
+    {
+        self.limit() * self.step()
+    }
+
+    // The nearest ordinal's magnitude, half away from zero, held to the largest.
+    fn ordinal(self, size: u64) -> u64
+        requires { size < 2 ^ 62 }
+        ensures is { result ≡ nearest_ordinal self.abs self.prec size }
+        ensures within { result ≤ 2 ^ self.abs }
+    {
+        let step = self.step();
+        let decoded = (size + step / 2) / step;
+        decoded.min(self.limit())
+    }
+
+    // How far the nearest codable number is from the centre.
+    fn distance(self, size: u64) -> u64
+        requires { size < 2 ^ 62 }
+        ensures is { result ≡ nearest_ordinal self.abs self.prec size * step self.prec }
+        ensures small { result ≤ 4194304 }
+    {
+        self.ordinal(size) * self.step()
+    }
+
+    // The nearest codable number.
+    fn nearest(self, value: i32) -> i32
+        ensures { result ≡ quantize self.abs self.prec self.round value }
+    {
+        let num = from_centre(value, self.round);
+        let distance = self.distance(magnitude(num));
+        to_centre(with_sign(is_negative(num), distance), self.round)
+    }
+
+    // The symbol of a number: its nearest ordinal plus 2 ^ absBits.
+    fn symbol(self, value: i32) -> u32
+        ensures { result ≡ symbol_of self.abs self.prec self.round value }
+    {
+        let num = from_centre(value, self.round);
+        let ordinal = self.ordinal(magnitude(num));
+        lift(is_negative(num), ordinal, self.limit()) as u32
+    }
+
+    // The place of a number in reach among the symbols.
+    fn place(self, value: i32) -> u32
+        requires { nat_abs (value -ℤ pos self.round) ≤ 2 ^ self.abs * step self.prec }
+        ensures { result ≡ place_code self.abs self.prec self.round value }
+    {
+        let above = raised(from_centre(value, self.round), self.reach());
+        (above / self.step()) as u32
+    }
+
+    // How far a symbol's number is from the centre.
+    fn from_middle(self, symbol: u32) -> i64
+        requires { symbol < symbols self.abs }
+        ensures { result ≡ (pos symbol -ℤ pos (2 ^ self.abs)) *ℤ pos (step self.prec) }
+    {
+        let middle = self.limit() as i64;
+        let step = self.step() as i64;
+        (symbol as i64 - middle) * step
+    }
+
+    // The number that a symbol stands for.
+    fn number(self, symbol: u32) -> i32
+        requires { symbol < symbols self.abs }
+        ensures { result ≡ number_of self.abs self.prec self.round symbol }
+    {
+        to_centre(self.from_middle(symbol), self.round)
+    }
+
+    // Of a number and its prior by their places, with S.
+    fn coded(self, value: i32, prior: i32) -> Coded
+        requires own { nat_abs (value -ℤ pos self.round) ≤ 2 ^ self.abs * step self.prec }
+        requires prior_in { nat_abs (prior -ℤ pos self.round) ≤ 2 ^ self.abs * step self.prec }
+        ensures { PlacesAre self.abs self.prec self.round value prior result }
+    {
+        Coded {
+            mx: self.symbols(),
+            r: self.place(prior),
+            t: self.place(value),
+        }
+    }
+
+    // Whether a number isn't codable: beyond the last codable one, or not a whole number of steps from the centre.
+    fn misses(self, value: i32) -> bool
+        ensures { result ≡ off_grid self.abs self.prec self.round value }
+    {
+        let size = magnitude(from_centre(value, self.round));
+        self.reach() < size || size % self.step() != 0
+    }
 }
 
 // S of a slot, and where its prior stands.
@@ -264,10 +299,10 @@ pub fn symbols_of(gm_type: u8, flag: u8, slot: u8, prior: i32) -> SlotSymbols
     requires { PriorIn slot prior }
     ensures { SymbolsIs gm_type flag slot prior result }
 {
-    let bits = global_param_bits(gm_type, flag, slot);
+    let grid = SlotGrid::of(gm_type, flag, slot);
     SlotSymbols {
-        mx: (2 * power_of_two(bits.abs_bits) + 1) as u32,
-        r: place_among(bits.abs_bits, bits.prec_bits, centre_of(slot), prior),
+        mx: grid.symbols(),
+        r: grid.place(prior),
     }
 }
 
@@ -275,20 +310,7 @@ pub fn symbols_of(gm_type: u8, flag: u8, slot: u8, prior: i32) -> SlotSymbols
 pub fn symbol_of(gm_type: u8, flag: u8, slot: u8, value: i32) -> u32
     ensures { SymbolIs gm_type flag slot value result }
 {
-    let bits = global_param_bits(gm_type, flag, slot);
-    symbol_among(bits.abs_bits, bits.prec_bits, centre_of(slot), value)
-}
-
-// Of a number and its prior by their places, with S.
-fn coded_among(abs_bits: u32, prec_bits: u32, round: u32, value: i32, prior: i32) -> Coded
-    requires { Prior abs_bits prec_bits round value × Prior abs_bits prec_bits round prior × (abs_bits ≤ 12) }
-    ensures { PlacesAre abs_bits prec_bits round value prior result }
-{
-    Coded {
-        mx: (2 * power_of_two(abs_bits) + 1) as u32,
-        r: place_among(abs_bits, prec_bits, round, prior),
-        t: place_among(abs_bits, prec_bits, round, value),
-    }
+    SlotGrid::of(gm_type, flag, slot).symbol(value)
 }
 
 // S, the place of the prior, and the symbol of a codable number, which is its place. Slots 2 to 5 have the same bits
@@ -298,16 +320,15 @@ pub fn coded_of(gm_type: u8, flag: u8, slot: u8, value: i32, prior: i32) -> Code
     ensures { CodedIs gm_type flag slot value prior result }
 {
     if slot < 2 {
-        let bits = global_param_bits(gm_type, flag, slot);
-        return coded_among(bits.abs_bits, bits.prec_bits, 0, value, prior);
+        return SlotGrid::of(gm_type, flag, slot).coded(value, prior);
     }
-    coded_among(
-        LINEAR_ABS_BITS,
-        LINEAR_PREC_BITS,
-        centre_of(slot),
-        value,
-        prior,
-    )
+    let round = centre_of(slot);
+    let linear = SlotGrid {
+        abs: LINEAR_ABS_BITS,
+        prec: LINEAR_PREC_BITS,
+        round,
+    };
+    linear.coded(value, prior)
 }
 
 // The number that a symbol of a slot stands for.
@@ -315,80 +336,58 @@ pub fn number_of(gm_type: u8, flag: u8, slot: u8, symbol: u32) -> i32
     requires { symbol < symbols (abs_bits gm_type flag slot) }
     ensures { result ≡ number_of (abs_bits gm_type flag slot) (prec_bits gm_type flag slot) (centre slot) symbol }
 {
-    let bits = global_param_bits(gm_type, flag, slot);
-    number_among(bits.abs_bits, bits.prec_bits, centre_of(slot), symbol)
+    SlotGrid::of(gm_type, flag, slot).number(symbol)
 }
 
-pub fn slots_of(gm_type: u8) -> SlotOrder
-    ensures { SlotsIs gm_type result }
+// The slots that a type carries, in the order of reading.
+pub fn slots_carried(gm_type: u8) -> &'static [u8]
+    ensures { result.now ≡ slots_of gm_type }
 {
-    if gm_type == IDENTITY {
-        let order = [0, 0, 0, 0, 0, 0];
-        return SlotOrder { count: 0, order };
+    match gm_type {
+        IDENTITY => &[],
+        TRANSLATION => &[0, 1],
+        ROTZOOM => &[2, 3, 0, 1],
+        _ => &[2, 3, 4, 5, 0, 1],
     }
-    if gm_type == TRANSLATION {
-        let order = [0, 1, 0, 0, 0, 0];
-        return SlotOrder { count: 2, order };
-    }
-    if gm_type == ROTZOOM {
-        let order = [2, 3, 0, 1, 0, 0];
-        return SlotOrder { count: 4, order };
-    }
-    let order = [2, 3, 4, 5, 0, 1];
-    SlotOrder { count: 6, order }
 }
 
 // The nearest codable number of a slot.
 pub fn nearest_number(gm_type: u8, flag: u8, slot: u8, value: i32) -> i32
     ensures { result ≡ quantized gm_type flag slot value }
 {
-    let bits = global_param_bits(gm_type, flag, slot);
-    snap(bits.abs_bits, bits.prec_bits, centre_of(slot), value)
-}
-
-// Whether a number isn't codable: beyond the last codable one, or not a whole number of steps from the centre.
-fn off_among(abs_bits: u32, prec_bits: u32, round: u32, value: i32) -> bool
-    requires { Row abs_bits prec_bits }
-    ensures { result ≡ off_grid abs_bits prec_bits round value }
-{
-    let size = magnitude(from_centre(value, round));
-    if reach_of(abs_bits, prec_bits) < size {
-        return true;
-    }
-    size % power_of_two(WARPEDMODEL_PREC_BITS - prec_bits) != 0
+    SlotGrid::of(gm_type, flag, slot).nearest(value)
 }
 
 // A number that isn't a codable one of its slot.
 pub fn off_grid(gm_type: u8, flag: u8, slot: u8, value: i32) -> bool
     ensures { result ≡ off_grid (abs_bits gm_type flag slot) (prec_bits gm_type flag slot) (centre slot) value }
 {
-    let bits = global_param_bits(gm_type, flag, slot);
-    off_among(bits.abs_bits, bits.prec_bits, centre_of(slot), value)
+    SlotGrid::of(gm_type, flag, slot).misses(value)
 }
 
-fn refused(number: u32) -> Quantized
-    ensures { result ≡ rejected number }
+fn judged(gm_type: u8, flag: u8, slot: u8) -> Result<(), Refusal>
+    ensures { refusal_number result ≡ refusal gm_type flag slot }
 {
-    Quantized {
-        refusal: number,
-        value: 0,
+    if AFFINE < gm_type || 1 < flag {
+        return Err(Refusal::NoSuchCode);
     }
+    if 5 < slot {
+        return Err(Refusal::NotThere);
+    }
+    Ok(())
 }
 
 pub fn quantize_global_param(gm_type: u8, flag: u8, slot: u8, value: i32) -> Quantized
     ensures { result ≡ answer gm_type flag slot value }
 {
-    if AFFINE < gm_type {
-        return refused(NO_SUCH_CODE);
-    }
-    if 1 < flag {
-        return refused(NO_SUCH_CODE);
-    }
-    if 5 < slot {
-        return refused(NO_SUCH_SLOT);
-    }
-    Quantized {
-        refusal: 0,
-        value: nearest_number(gm_type, flag, slot, value),
+    match judged(gm_type, flag, slot) {
+        Ok(()) => Quantized {
+            refusal: 0,
+            value: nearest_number(gm_type, flag, slot, value),
+        },
+        Err(refusal) => Quantized {
+            refusal: refusal.number(),
+            value: 0,
+        },
     }
 }

@@ -6,7 +6,8 @@ use mathlib.Core.List.{List, ◌++◌}
 use mathlib.Core.Path.{◌≡◌, ap, sym, ◌∙◌}
 use native.Mathlib.Omega.{arith}
 use lib.Dec.{lit<}
-use lib.ListN.{length, take, replicate, length-append}
+use lib.ListN.{length, take, drop, replicate, length-append}
+use Rattle.std.proofs.lemmas.List.{length-take-le}
 use Rattle.laws.specs.Buffer.{onto}
 use Rattle.bits.specs.Bits.{put_bits}
 use Rattle.bits.specs.Fields.{pad_bits, padding}
@@ -63,8 +64,8 @@ module _ (start before : ℕ) (old : List ℕ) (b : Begins start before old) (xs
       on-page : q ≡ put_bits (page_of before) start (xs ++ pad_bits (start + length xs))
       on-page = v.buffer ∙ rw (w.buffer, w.at, e, fresh) (sym (put_bits-append (page_of before) start xs (pad_bits (start + length xs))))
 
-      pub laid : AreBits xs → Bytes old → onto (take (k / 8) q) old ≡ bits_placed start xs old
-      laid bits bytes =
+      laid_onto : AreBits xs → Bytes old → onto (take (k / 8) q) old ≡ bits_placed start xs old
+      laid_onto bits bytes =
           let pad : List ℕ = pad_bits (start + length xs) in
           let n = length-field_bits (padding (start + length xs)) 0 in
           let l = length-append xs pad in
@@ -73,3 +74,7 @@ module _ (start before : ℕ) (old : List ℕ) (b : Begins start before old) (xs
           ∙ laid-front old (page_of before) start (xs ++ pad) m (bits-append xs pad bits (field_bits-are-bits (padding (start + length xs)) 0))
           (omega (arith, n, l, whole, b.low)) (omega (arith, whole, roomy)) (omega (arith, whole, b.low))
           bytes (page-bytes before b.byte) (alike-first (page_of before) old start (omega (arith, b.low)) b.front)
+
+      -- whole bytes copied
+      pub laid : AreBits xs → Bytes old → take (k / 8) q ++ drop (k / 8) old ≡ bits_placed start xs old
+      laid bits bytes = ap (λ (n : ℕ). take (k / 8) q ++ drop n old) (sym (length-take-le (k / 8) q enough.0)) ∙ laid_onto bits bytes

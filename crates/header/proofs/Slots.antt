@@ -1,18 +1,16 @@
--- What is left of a type's slots, from the i-th of an array that begins with them: the i-th slot, then the rest.
+-- What is left of a type's slots, from the i-th on: the i-th slot, then the rest.
 -- Assumes nothing.
 use Prim.Native.Nat.{ℕ, zero, suc, ◌+◌, ◌<◌}
 use mathlib.Core.Bool.{Bool, true, false}
 use mathlib.Core.List.{List, [], ◌∷◌}
-use mathlib.Core.Path.{◌≡◌, refl, ap, sym, subst, ◌∙◌}
+use mathlib.Core.Path.{◌≡◌, refl}
 use native.Mathlib.Numerals.{add-one}
 use native.Mathlib.Omega.{arith}
 use lib.Dec.{ltb, eqb}
 use lib.ListN.{length, get_or, drop}
-use lib.Seq.{get_or-take, drop-cons}
+use lib.Seq.{drop-cons}
 use Rattle.laws.specs.Refusal.{choose}
-use Rattle.grid.specs.Inner.{SlotsIs}
 use Rattle.grid.specs.Slots.{slots_of}
-use Rattle.grid.specs.declared.SlotOrder.{SlotOrder}
 use Rattle.grid.proofs.Slots.{slots-known, known_at}
 use Rattle.models.specs.Models.{carries}
 use Rattle.header.specs.Inner.{Carried}
@@ -38,19 +36,12 @@ by_tests false false false = (refl, (refl, (refl, (refl, (refl, (refl, tt))))))
 slots-carried : (gm_type : ℕ) → Each (carries gm_type) (slots_of gm_type)
 slots-carried gm_type = by_tests (eqb gm_type 0) (eqb gm_type 1) (eqb gm_type 2)
 
-module _ (gm_type : ℕ) (s : SlotOrder) (e : SlotsIs gm_type s) (i : ℕ) (h : i < s.count) where
-  pub slot-at : get_or s.order i 0 ≡ get_or (slots_of gm_type) i 0
-  slot-at = sym (get_or-take s.count s.order i 0 h) ∙ ap (λ (l : List ℕ). get_or l i 0) e.order
+module _ (gm_type i : ℕ) (h : i < length (slots_of gm_type)) where
+  pub slot-known : get_or (slots_of gm_type) i 0 < 6
+  slot-known = known_at (slots_of gm_type) i (slots-known gm_type)
 
-  pub slot-known : get_or s.order i 0 < 6
-  slot-known = subst (λ (k : ℕ). k < 6) (sym slot-at) (known_at (slots_of gm_type) i (slots-known gm_type))
+  pub slot-carried : Carried gm_type (get_or (slots_of gm_type) i 0)
+  slot-carried = record { known = slot-known; is = each_at (carries gm_type) (slots_of gm_type) i h (slots-carried gm_type) }
 
-  pub slot-carried : Carried gm_type (get_or s.order i 0)
-  slot-carried =
-      record {
-        known = slot-known;
-        is = rw slot-at (each_at (carries gm_type) (slots_of gm_type) i (omega (arith, e.count)) (slots-carried gm_type));
-      }
-
-  pub slots-left : drop i (slots_of gm_type) ≡ get_or s.order i 0 ∷ drop (i + 1) (slots_of gm_type)
-  slots-left = rw (add-one i, slot-at) (drop-cons (slots_of gm_type) i 0 (omega (arith, e.count)))
+  pub slots-left : drop i (slots_of gm_type) ≡ get_or (slots_of gm_type) i 0 ∷ drop (i + 1) (slots_of gm_type)
+  slots-left = rw (add-one i) (drop-cons (slots_of gm_type) i 0 h)

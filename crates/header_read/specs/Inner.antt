@@ -1,6 +1,8 @@
 -- What the functions below the public calls ask and answer; no public contract cites it.
 -- Assumes nothing.
-use Rattle.std.specs.Prelude.{ℕ, ◌+◌, ◌-◌, ◌*◌, ◌^◌, ◌≤◌, ◌<◌, false, ◌≡◌, List, ltb, ℤ, pos, nat_abs, length, get_or, take}
+use Rattle.std.specs.Prelude.{ℕ, ◌+◌, ◌-◌, ◌*◌, ◌^◌, ◌≤◌, ◌<◌, false, ◌≡◌, List, ltb, ℤ, pos, nat_abs, length, get_or, take, Result, Ok, Err}
+use Rattle.refusal.specs.Number.{number_of}
+use Rattle.refusal.specs.declared.Refusal.{Refusal}
 use Rattle.laws.specs.Call.{answered}
 use Rattle.laws.specs.Refusal.{choose, judge}
 use Rattle.models.specs.Models.{priors_out}
@@ -25,6 +27,11 @@ answer_of seven start bytes =
 -- the models that were read from position `at` of the bytes, or row 9
 abbrev pub within : List ℕ → ℕ → ReadModels → Models
 within header at t = answered no_models (judge (end_rows header at t)) (the_models t)
+
+-- an answer as the call gives it: a refusal by its number
+abbrev pub told : Result Models Refusal → Models
+told (Ok m) = m
+told (Err r) = no_models (number_of r)
 
 -- the six priors from `first` on are there and in range, and n positions from `at` on are numbers of the machine
 pub record Ready (qs : List ℤ) (first at n : ℕ) : Type 0 where

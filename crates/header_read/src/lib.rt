@@ -10,37 +10,45 @@ ghost use Rattle.bits.specs.Bits.{bit_at};
 ghost use Rattle.grid.specs.Inner.{PriorIn};
 ghost use Rattle.grid.specs.Slots.{slots_of};
 ghost use Rattle.laws.specs.Refusal.{judge};
+ghost use Rattle.refusal.specs.Number.{refusal_number};
 ghost use Rattle.header.specs.Coefficient.{coefficient};
 ghost use Rattle.header.specs.Reading.{slots_read, six_filled, model_read, reference_read, references_read, models_read};
+ghost use Rattle.header.specs.Inner.{ValidPrior};
 ghost use Rattle.header.specs.Writing.{slot_of};
 ghost use Rattle.header_read.specs.Called.{prior_rows, no_models, models};
-ghost use Rattle.header_read.specs.Inner.{answer_of, within, Ready, AllReady, PriorsReady, ParamIs, AllSmall, NumbersAre, TypeIs, ModelIs, SevenIs};
+ghost use Rattle.header_read.specs.Inner.{answer_of, within, told, PriorsReady, ParamIs, AllSmall, NumbersAre, TypeIs, ModelIs, SevenIs};
 
 use bits::{BITS_OF_A_BYTE, BitCursor};
 use grid::{AFFINE, IDENTITY, ROTZOOM, TRANSLATION};
 use models::{NUMBERS, REFERENCES, SLOTS};
+use refusal::Refusal;
 
 // The whole of a number at 16 fraction bits: slots 2 and 5 of the identity.
 const WHOLE: i32 = 65536;
 
-// Rows of the rules' table.
-const WRONG_LENGTH: u32 = 2;
-
-const NO_SUCH_CODE: u32 = 4;
-
-const PRIOR_OUT: u32 = 8;
-
-const ENDS_FIRST: u32 = 9;
-
 // A row of the table of refusals (0: none), the seven types and models, and the bits consumed.
 #[repr(C)]
-#[derive(Clone, Copy)]
+#[derive(Clone, Copy, Debug, PartialEq, Eq)]
 pub struct Models {
     pub refusal: u32,
     pub types: [u8; 7],
     pub params: [i32; 42],
     pub bits: usize,
 }
+
+// What is read with: the bytes, the flag, and where the six priors of a reference begin.
+#[derive(Clone, Copy)]
+struct Reference<'a> {
+    header: &'a [u8],
+    flag: u8,
+    prior: &'a [i32],
+    first: usize,
+    ghost places: { first + 6 ≤ length prior.now },
+    ghost priors: { ValidPrior prior.now first },
+}
+
+// What a step reads stands beside the cursor behind it, in a struct of its own: `ParamIs` to `SevenIs` of
+// specs/Inner name each.
 
 // A number read, and the cursor behind it.
 #[derive(Clone, Copy)]
@@ -98,51 +106,6 @@ fn read_global_param(
         value: grid::number_of(gm_type, flag, slot, read.value),
         next,
     }
-}
-
-// The slot of the model whose six numbers begin at `first`.
-fn read_slot(
-    cursor: BitCursor,
-    header: &[u8],
-    gm_type: u8,
-    flag: u8,
-    prior: &[i32],
-    first: usize,
-    slot: u8,
-) -> Param
-    requires { Ready prior.now first cursor.at 64 × (slot < 6) }
-    ensures { ParamIs result (coefficient (bit_at header.now) cursor.at gm_type flag slot (slot_of prior.now first slot)) cursor.at }
-{
-    let from = prior[first + slot as usize];
-    read_global_param(cursor, header, gm_type, flag, slot, from)
-}
-
-// The slots that a type carries, in their order.
-fn read_slots(
-    cursor: BitCursor,
-    header: &[u8],
-    gm_type: u8,
-    flag: u8,
-    prior: &[i32],
-    first: usize,
-) -> Numbers
-    requires { Ready prior.now first cursor.at 256 }
-    ensures { NumbersAre result (slots_read (bit_at header.now) flag prior.now gm_type first (slots_of gm_type) cursor.at) cursor.at (length (slots_of gm_type)) }
-{
-    let slots = grid::slots_of(gm_type);
-    let order = slots.order;
-    let count = slots.count;
-    let mut values = [0i32; 6];
-    let mut next = cursor;
-    let mut i = 0usize;
-    while i < count {
-        let read = read_slot(next, header, gm_type, flag, prior, first, order[i]);
-        let value = read.value;
-        values[i] = value;
-        next = read.next;
-        i += 1;
-    }
-    Numbers { values, next }
 }
 
 // is_global, is_rot_zoom, is_translation of clause 5.9.24.
@@ -210,38 +173,53 @@ fn six_filled(gm_type: u8, values: [i32; 6]) -> [i32; 6]
     ]
 }
 
-// The coefficients of a type.
-fn read_model(
-    cursor: BitCursor,
-    header: &[u8],
-    gm_type: u8,
-    flag: u8,
-    prior: &[i32],
-    first: usize,
-) -> Model
-    requires { Ready prior.now first cursor.at 256 }
-    ensures { ModelIs result (model_read (bit_at header.now) flag prior.now gm_type first cursor.at) cursor.at 138 }
-{
-    let read = read_slots(cursor, header, gm_type, flag, prior, first);
-    let values = read.values;
-    let next = read.next;
-    let six = six_filled(gm_type, values);
-    Model { gm_type, six, next }
-}
+impl<'a> Reference<'a> {
+    fn read_slot(self, cursor: BitCursor, gm_type: u8, slot: u8) -> Param
+        requires { (slot < 6) × (cursor.at + 64 < 2 ^ 64) }
+        ensures { ParamIs result (coefficient (bit_at self.entry.header.now) cursor.at gm_type self.entry.flag slot (slot_of self.entry.prior.now self.entry.first slot)) cursor.at }
+    {
+        let from = self.prior[self.first + slot as usize];
+        read_global_param(cursor, self.header, gm_type, self.flag, slot, from)
+    }
 
-// One reference: the type bits, then the coefficients.
-fn read_reference(cursor: BitCursor, header: &[u8], flag: u8, prior: &[i32], first: usize) -> Model
-    requires { Ready prior.now first cursor.at 512 }
-    ensures { ModelIs result (reference_read (bit_at header.now) flag prior.now first cursor.at) cursor.at 141 }
-{
-    let t = read_type(cursor, header);
-    let m = read_model(t.next, header, t.gm_type, flag, prior, first);
-    let six = m.six;
-    let next = m.next;
-    Model {
-        gm_type: t.gm_type,
-        six,
-        next,
+    // The slots that a type carries, in their order.
+    fn read_slots(self, cursor: BitCursor, gm_type: u8) -> Numbers
+        requires { cursor.at + 256 < 2 ^ 64 }
+        ensures { NumbersAre result (slots_read (bit_at self.entry.header.now) self.entry.flag self.entry.prior.now gm_type self.entry.first (slots_of gm_type) cursor.at) cursor.at (length (slots_of gm_type)) }
+    {
+        let slots = grid::slots_carried(gm_type);
+        let mut values = [0i32; 6];
+        let mut next = cursor;
+        for (i, slot) in slots.iter().enumerate() {
+            let read = self.read_slot(next, gm_type, *slot);
+            values[i] = read.value;
+            next = read.next;
+        }
+        Numbers { values, next }
+    }
+
+    // The coefficients of a type.
+    fn read_model(self, cursor: BitCursor, gm_type: u8) -> Model
+        requires { cursor.at + 256 < 2 ^ 64 }
+        ensures { ModelIs result (model_read (bit_at self.entry.header.now) self.entry.flag self.entry.prior.now gm_type self.entry.first cursor.at) cursor.at 138 }
+    {
+        let read = self.read_slots(cursor, gm_type);
+        let values = read.values;
+        let six = six_filled(gm_type, values);
+        Model {
+            gm_type,
+            six,
+            next: read.next,
+        }
+    }
+
+    // The type bits, then the coefficients.
+    fn read(self, cursor: BitCursor) -> Model
+        requires { cursor.at + 512 < 2 ^ 64 }
+        ensures { ModelIs result (reference_read (bit_at self.entry.header.now) self.entry.flag self.entry.prior.now self.entry.first cursor.at) cursor.at 141 }
+    {
+        let t = read_type(cursor, self.header);
+        self.read_model(t.next, t.gm_type)
     }
 }
 
@@ -250,29 +228,30 @@ fn store_six(params: &mut [i32], first: usize, six: [i32; 6])
     requires { first + 6 ≤ length params.old }
     ensures { params.new ≡ placed first six params.old }
 {
-    let mut i = 0usize;
-    while i < SLOTS {
-        params[first + i] = six[i];
-        i += 1;
-    }
+    params[first..first + SLOTS].copy_from_slice(&six);
 }
 
 // The seven references.
 fn read_references(cursor: BitCursor, header: &[u8], flag: u8, prior: &[i32]) -> Seven
-    requires { AllReady prior.now cursor.at }
+    requires { PriorsReady prior.now × (cursor.at + 2048 < 2 ^ 64) }
     ensures { SevenIs result (references_read (bit_at header.now) flag prior.now 7 0 cursor.at) cursor.at }
 {
     let mut types = [0u8; 7];
     let mut params = [0i32; 42];
     let mut next = cursor;
-    let mut r = 0usize;
-    while r < REFERENCES {
-        let model = read_reference(next, header, flag, prior, SLOTS * r);
+    for r in 0..REFERENCES {
+        let first = SLOTS * r;
+        let reference = Reference {
+            header,
+            flag,
+            prior,
+            first,
+        };
+        let model = reference.read(next);
         let six = model.six;
         types[r] = model.gm_type;
-        store_six(&mut params, SLOTS * r, six);
+        store_six(&mut params, first, six);
         next = model.next;
-        r += 1;
     }
     Seven {
         types,
@@ -285,44 +264,41 @@ fn read_references(cursor: BitCursor, header: &[u8], flag: u8, prior: &[i32]) ->
 pub fn no_models(refusal: u32) -> Models
     ensures { result ≡ no_models refusal }
 {
-    let types = [0u8; 7];
-    let params = [0i32; 42];
     Models {
         refusal,
-        types,
-        params,
+        types: [0; 7],
+        params: [0; 42],
         bits: 0,
     }
 }
 
 // What was read from bit `start` of so many bytes, or row 9 where they end first.
-fn answer(seven: Seven, start: usize, bytes: usize) -> Models
+fn answer(seven: Seven, start: usize, bytes: usize) -> Result<Models, Refusal>
     requires { (start ≤ seven.next.at) × (seven.next.at + 8 < 2 ^ 64) }
-    ensures { result ≡ answer_of seven start bytes }
+    ensures { told result ≡ answer_of seven start bytes }
 {
     let types = seven.types;
     let params = seven.params;
-    let next = seven.next;
-    let end = next.at;
+    let end = seven.next.at;
     if bytes < (end + 7) / BITS_OF_A_BYTE {
-        return no_models(ENDS_FIRST);
+        return Err(Refusal::BytesEnd);
     }
-    Models {
+    Ok(Models {
         refusal: 0,
         types,
         params,
         bits: end - start,
-    }
+    })
 }
 
 // From the byte of the position on, so that no position is too large a number.
-fn read_from(header: &[u8], at: usize, flag: u8, prior: &[i32]) -> Models
+fn read_from(header: &[u8], at: usize, flag: u8, prior: &[i32]) -> Result<Models, Refusal>
     requires { PriorsReady prior.now }
-    ensures { result ≡ within header.now at (models_read header.now at flag prior.now) }
+    ensures { told result ≡ within header.now at (models_read header.now at flag prior.now) }
 {
     let byte = at / BITS_OF_A_BYTE;
     if header.len() <= byte {
-        return no_models(ENDS_FIRST);
+        return Err(Refusal::BytesEnd);
     }
     let start = at % BITS_OF_A_BYTE;
     let bytes = header.len() - byte;
@@ -331,28 +307,34 @@ fn read_from(header: &[u8], at: usize, flag: u8, prior: &[i32]) -> Models
 }
 
 // Length, flag and priors.
-fn prior_refusal(flag: u8, prior: &[i32]) -> u32
-    ensures { result ≡ judge (prior_rows flag prior.now) }
+fn prior_refusal(flag: u8, prior: &[i32]) -> Result<(), Refusal>
+    ensures { refusal_number result ≡ judge (prior_rows flag prior.now) }
 {
     if prior.len() != NUMBERS {
-        return WRONG_LENGTH;
+        return Err(Refusal::WrongLength);
     }
     if 1 < flag {
-        return NO_SUCH_CODE;
+        return Err(Refusal::NoSuchCode);
     }
     if models::priors_out(prior) {
-        return PRIOR_OUT;
+        return Err(Refusal::PriorOut);
     }
-    0
+    Ok(())
+}
+
+fn judged_and_read(header: &[u8], at: usize, flag: u8, prior: &[i32]) -> Result<Models, Refusal>
+    ensures { told result ≡ models header.now at flag prior.now }
+{
+    prior_refusal(flag, prior)?;
+    read_from(header, at, flag, prior)
 }
 
 // global_motion_params of clause 5.9.24 for a frame that isn't intra, from bit `at` of the bytes on.
 pub fn read_global_motion_params(header: &[u8], at: usize, flag: u8, prior: &[i32]) -> Models
     ensures { result ≡ models header.now at flag prior.now }
 {
-    let refusal = prior_refusal(flag, prior);
-    if refusal != 0 {
-        return no_models(refusal);
+    match judged_and_read(header, at, flag, prior) {
+        Ok(models) => models,
+        Err(refusal) => no_models(refusal.number()),
     }
-    read_from(header, at, flag, prior)
 }

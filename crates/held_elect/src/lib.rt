@@ -1,84 +1,37 @@
-// An election over samples held as numbers in a call's own memory (docs/RULES.md, 'Election'), which lent
-// samples take: the turns of the three types, each after trimming.
+// An election over samples (docs/RULES.md, 'Election'), which lent samples take: that of `word_elect`, whose
+// candidates are the trimmed fits of the samples.
 #![tactic(auto)]
 
-ghost use Rattle.std.specs.Prelude.{◌≡◌, ◌≤◌};
-ghost use Rattle.sample.specs.Word.{most_samples};
+ghost use Rattle.std.specs.Prelude.{◌≡◌};
 ghost use Rattle.fit.specs.Sums.{itself};
-ghost use Rattle.trim.specs.Inner.{samples_in};
-ghost use Rattle.elect.specs.Elect.{error_from, unfit, nobody, stopped, turn, winner_from, elected_from};
+ghost use Rattle.elect.specs.Elect.{elected_from};
 
-use elect::{Elected, MIN_MOTION_ENERGY};
-use fit::{AFFINE, ROTZOOM, TRANSLATION};
-use trim::NOT_FINITE;
+use elect::Elected;
+use sample::MotionSample;
+use trim::TrimmedModel;
+use word_elect::Electorate;
 
-// The score of a model, x first, over the first n samples of the numbers.
-fn error_of(params: [i32; 6], numbers: &[f64; 16384], n: usize) -> f64
-    requires { n ≤ most_samples }
-    ensures { result ≡ error_from itself params (samples_in numbers.now n) }
-{
-    let m = score::continuous_of_params(params);
-    let mut acc = 0.0;
-    let mut i = 0usize;
-    while i < n {
-        acc = score::score_step(m, acc, held_trim::sample_at(numbers, i));
-        i += 1;
+#[derive(Clone, Copy)]
+struct Samples<'a>(&'a [MotionSample]);
+
+impl<'a> Electorate for Samples<'a> {
+    ghost samples = { λ held. held.0.now };
+
+    fn count(self) -> usize {
+        self.0.len()
     }
-    let scored = score::score_of(acc, n);
-    scored.score
+
+    fn candidate(self, flag: u8, gm_type: u8) -> TrimmedModel {
+        held_trim::trimmed_model(gm_type, flag, self.0)
+    }
+
+    fn error_of(self, params: [i32; 6]) -> f64 {
+        score::score_samples(params, self.0).score
+    }
 }
 
-// A type's candidate takes its turn: its trimmed fit on the grid, unless that is refused or unfit.
-fn turn(
-    flag: u8,
-    numbers: &[f64; 16384],
-    n: usize,
-    energy: f64,
-    held: Elected,
-    gm_type: u8,
-) -> Elected
-    requires { n ≤ most_samples }
-    ensures { result ≡ turn itself flag (samples_in numbers.now n) energy held gm_type }
+pub fn elected_in(flag: u8, samples: &[MotionSample]) -> Elected
+    ensures { result ≡ elected_from itself flag samples.now }
 {
-    if held.refusal != 0 {
-        return held;
-    }
-    let candidate = held_trim::trimmed_model(gm_type, flag, numbers, n);
-    if candidate.refusal == NOT_FINITE {
-        return elect::stopped(NOT_FINITE);
-    }
-    if candidate.refusal != 0 {
-        return held;
-    }
-    let params = candidate.params;
-    if elect::unfit(gm_type, params) {
-        return held;
-    }
-    elect::held_after(energy, held, gm_type, params, error_of(params, numbers, n))
-}
-
-// ---- the election
-
-fn winner(flag: u8, numbers: &[f64; 16384], n: usize) -> Elected
-    requires { n ≤ most_samples }
-    ensures { result ≡ winner_from itself flag (samples_in numbers.now n) }
-{
-    let energy = error_of(elect::identity_params(), numbers, n);
-    if energy < MIN_MOTION_ENERGY {
-        return elect::nobody(energy);
-    }
-    let first = turn(flag, numbers, n, energy, elect::nobody(energy), TRANSLATION);
-    let second = turn(flag, numbers, n, energy, first, ROTZOOM);
-    turn(flag, numbers, n, energy, second, AFFINE)
-}
-
-// Over the first n samples of the numbers.
-pub fn elected_in(flag: u8, numbers: &[f64; 16384], n: usize) -> Elected
-    ensures { result ≡ elected_from itself flag (samples_in numbers.now n) }
-{
-    let refusal = elect::elect_refusal(flag, n);
-    if refusal != 0 {
-        return elect::stopped(refusal);
-    }
-    elect::as_stored(winner(flag, numbers, n))
+    word_elect::elected(Samples(samples), flag)
 }

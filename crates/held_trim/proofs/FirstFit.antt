@@ -17,9 +17,9 @@ use Rattle.trim.specs.Inner.{sample_at, up_to, squares_from, under, Under, Untri
 use Rattle.trim.proofs.Indices.{length-up_to}
 use Rattle.trim.proofs.Under.{clear-under}
 
-module _ (numbers : List Float) (gm_type n : ℕ) (squares : List Float) (u : Untrimmed gm_type n squares) where
+module _ (given : List MotionSample) (gm_type n : ℕ) (squares : List Float) (u : Untrimmed gm_type n squares) where
   abbrev read : ℕ → MotionSample
-  read = sample_at numbers
+  read = sample_at given
 
   long : length squares ≡ most_samples
   long = ap (λ (l : List Float). length l) u.clear ∙ length-replicate most_samples nought
@@ -38,7 +38,7 @@ module _ (numbers : List Float) (gm_type n : ℕ) (squares : List Float) (u : Un
     pub first-is : f ≡ first_from read gm_type (up_to n)
     first-is = e ∙ ap (λ (l : List ℕ). fit_from read gm_type l) all
 
-    pub squared : refusal_of f ≡ 0 → (after : List Float) → after ≡ onto (squares_from read f (up_to n)) squares → Squared numbers gm_type n after f
+    pub squared : refusal_of f ≡ 0 → (after : List Float) → after ≡ onto (squares_from read f (up_to n)) squares → Squared given gm_type n after f
     squared q after h =
         record {
           few = u.few;

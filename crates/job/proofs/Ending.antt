@@ -27,8 +27,7 @@ use Rattle.job_task.specs.Task.{Task, Lent, lend, Sheet, sheet_of, search_task, 
 use Rattle.job_task.specs.Rows.{early}
 use Rattle.job_task.proofs.Ready.{Sound, Writes, Ready}
 use Rattle.job_task.proofs.Accepted.{ready}
-use Rattle.job_model.specs.declared.Modelled.{Modelled}
-use Rattle.job_model.specs.Modelled.{modelled, modelled_as, not_modelled}
+use Rattle.job_model.specs.Modelled.{Modelled, modelled, modelled_as, not_modelled}
 use Rattle.job_outcome.specs.declared.Report.{Report}
 use Rattle.job_outcome.specs.Words as sheet
 use Rattle.job_outcome.specs.Words.{Finished, finish, from_words}
@@ -39,6 +38,9 @@ use Rattle.job_outcome.proofs.Stages.{refused-early, refused-late, ends-accepted
 use Rattle.job_outcome.proofs.Samples.{words-length}
 use Rattle.job_outcome.proofs.Blocks.{stored}
 use Rattle.job_outcome.proofs.Written.{bits-written, header-written}
+use Rattle.refusal.specs.Number.{number_of}
+use Rattle.refusal.specs.declared.Refusal.{Refusal}
+use Rattle.refusal.proofs.Rows.{above-zero}
 use Rattle.job.specs.Inner.{Naming, report_of, written_out, finished}
 
 -- ---- the words that a model is of: the named ones are at most all, and as many as row 15 counts
@@ -172,6 +174,10 @@ module _ (s : Settings) (form : ℕ) (ts : List ℕ) (ms qs : List ℤ) (ws cs b
   pub finish-written : m.refusal ≡ 0 → {f : Finished} → f ≡ written_out m s form qs ws cs blocks header → f ≡ finished s form ts ms qs ws cs blocks header
   unfolding finished
   finish-written z q = rw (← e, z) q
+
+-- a row that holds has a number
+pub numbered : (r : Refusal) → number_of r ≡ 0 → ⊥
+numbered r z = let h = above-zero r in omega (arith, h, z)
 
 pub done_refused : (j : Task) (l : Lent) {n : ℕ} → n ≡ early j l → (n ≡ 0 → ⊥) → {report : Report} → report ≡ refused n → Done j l (ended report l)
 done_refused j l e h q = done j l (ap (λ (r : Report). ended r l) (q ∙ ap refused e) ∙ sym (refused-early j l (λ z. h (e ∙ z))))

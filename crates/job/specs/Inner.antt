@@ -6,8 +6,7 @@ use Rattle.class_set.specs.Set.{chosen}
 use Rattle.frame_store.specs.InForm.{stored_in_left}
 use Rattle.header.specs.Writing.{written, header_after}
 use Rattle.job_task.specs.declared.Settings.{Settings}
-use Rattle.job_model.specs.declared.Modelled.{Modelled}
-use Rattle.job_model.specs.Modelled.{modelled}
+use Rattle.job_model.specs.Modelled.{Modelled, modelled}
 use Rattle.job_model.specs.Inner.{Modelling}
 use Rattle.job_outcome.specs.declared.Report.{Report}
 use Rattle.job_outcome.specs.Words.{Finished, finish, refused}

@@ -9,9 +9,8 @@ use Rattle.elect.specs.Elect.{elected_as, stopped}
 use Rattle.job_task.specs.declared.Settings.{Settings}
 use Rattle.job_task.specs.Rows.{other_types, other_numbers, elects, trims, too_few_to_trim}
 use Rattle.job_task.specs.Inner.{InRange}
-use Rattle.job_model.specs.declared.Modelled.{Modelled}
 use Rattle.job_model.specs.Assemble.{types_with, models_with}
-use Rattle.job_model.specs.Modelled.{own_type, model_refusal, own, stored, score_of}
+use Rattle.job_model.specs.Modelled.{Modelled, own_type, model_refusal, own, stored, score_of}
 
 -- a reference of 1 to 7
 pub record Reference (reference : ℕ) : Type 0 where
@@ -48,11 +47,6 @@ own_answer s ws = answered stopped (model_refusal s ws) (own_model s ws)
 -- what the seven models rest on
 pub record Modelling (s : Settings) (types : List ℕ) (models : List ℤ) (ws : List ℕ) : Type 0 where
   pub fitting : Fitting s ws
-  pub six : length types ≡ other_types
-  pub numbers : length models ≡ other_numbers
-
-pub record Assembling (s : Settings) (types : List ℕ) (models : List ℤ) : Type 0 where
-  pub reference : Reference s.reference
   pub six : length types ≡ other_types
   pub numbers : length models ≡ other_numbers
 

@@ -1,6 +1,6 @@
 -- The model of a job: of the type asked for or elected, fitted, after trimming where the job trims, on the grid, scored, and among the six others at its reference. docs/RULES.md, 'Job'.
 -- Assumes nothing.
-use Rattle.std.specs.Prelude.{ℕ, Bool, List, eqb, ℤ, pos, replicate, Float}
+use Rattle.std.specs.Prelude.{ℕ, Bool, List, eqb, ℤ, pos, replicate, Float, Result, Ok, Err}
 use Rattle.laws.specs.Binary64.{nought}
 use Rattle.laws.specs.Call.{answered}
 use Rattle.laws.specs.Refusal.{choose, both}
@@ -14,7 +14,7 @@ use Rattle.elect.specs.declared.Elected.{Elected}
 use Rattle.elect.specs.Elect.{identity_params, winner_from}
 use Rattle.job_task.specs.declared.Settings.{Settings}
 use Rattle.job_task.specs.Rows.{elects, trims}
-use Rattle.job_model.specs.declared.Modelled.{Modelled}
+use Rattle.job_model.specs.declared.SevenModels.{SevenModels}
 use Rattle.job_model.specs.Assemble.{types_with, models_with}
 
 -- ---- what of a job's settings and of the search's words the model takes
@@ -65,6 +65,13 @@ all_types s types ws = types_with s.reference (own_type s ws) types
 abbrev pub all_models : Settings → List ℤ → List ℕ → List ℤ
 all_models s models ws = models_with s.reference (stored s ws) models
 
+-- a row of the table of refusals (0: none), the seven types and models in rising order of reference, and the score
+pub record Modelled : Type 0 where
+  pub refusal : ℕ
+  pub types : List ℕ
+  pub models : List ℤ
+  pub score : Float
+
 abbrev pub not_modelled : ℕ → Modelled
 not_modelled n = record { refusal = n; types = replicate 7 0; models = replicate 42 (pos 0); score = nought }
 
@@ -75,3 +82,8 @@ modelled_as s types models ws =
 -- the models, or the number of what refuses them
 unfoldable pub modelled : Settings → List ℕ → List ℤ → List ℕ → Modelled
 modelled s types models ws = answered not_modelled (model_refusal s ws) (modelled_as s types models ws)
+
+-- what the call answers
+abbrev pub modelled_in : Result SevenModels ℕ → Modelled
+modelled_in (Ok m) = record { refusal = 0; types = m.types; models = m.models; score = m.score }
+modelled_in (Err n) = not_modelled n

@@ -4,9 +4,9 @@
 // either way it is an answer of type, six numbers as stored and score.
 #![tactic(auto)]
 
-ghost use Rattle.std.specs.Prelude.{◌≡◌, true, false};
-ghost use Rattle.job_model.specs.Modelled.{modelled, not_modelled};
-ghost use Rattle.job_model.specs.Inner.{Fitting, Trimming, Asking, grid_answer, own_answer, Modelling, Assembling, modelled_with};
+ghost use Rattle.std.specs.Prelude.{◌≡◌, ◌≢◌, true, false, IfErr};
+ghost use Rattle.job_model.specs.Modelled.{modelled, modelled_in};
+ghost use Rattle.job_model.specs.Inner.{Fitting, Trimming, Asking, grid_answer, own_answer, Modelling};
 
 use elect::Elected;
 use job_task::Settings;
@@ -14,27 +14,12 @@ use quantize::Quantized;
 
 pub mod assemble; // assemble.rt: seven models from six others and one
 
-// A row of the table of refusals (0: none), the seven types and models in rising order of reference,
-// and the score.
-#[derive(Clone, Copy)]
-pub struct Modelled {
-    pub refusal: u32,
+// The seven types and models in rising order of reference, and the score of the job's own.
+#[derive(Clone, Copy, Debug, PartialEq)]
+pub struct SevenModels {
     pub types: [u8; 7],
     pub models: [i32; 42],
     pub score: f64,
-}
-
-fn not_modelled(number: u32) -> Modelled
-    ensures { result ≡ not_modelled number }
-{
-    let types = [0u8; 7];
-    let models = [0i32; 42];
-    Modelled {
-        refusal: number,
-        types,
-        models,
-        score: 0.0,
-    }
 }
 
 // The fit that is left after trimming, on the grid.
@@ -58,7 +43,7 @@ fn untrimmed(settings: Settings, words: &[u32]) -> Quantized
     let fitted = fit::fit_model(settings.gm_type, words);
     let refusal = fit::refusal_of(fitted);
     if refusal != 0 {
-        let params = [0i32; 6];
+        let params = [0; 6];
         return Quantized { refusal, params };
     }
     quantize::quantize_model(fitted, settings.flag, words)
@@ -100,35 +85,34 @@ fn own_of(settings: Settings, words: &[u32]) -> Elected
     requires { Fitting settings words.now }
     ensures { result ≡ own_answer settings words.now }
 {
-    if settings.elect == 1 {
+    if settings.elects() {
         return word_elect::elect(settings.flag, words);
     }
     asked(settings, words)
 }
 
-// The six others with the job's own model at its reference.
-fn with_model(own: Elected, settings: Settings, types: &[u8], models: &[i32]) -> Modelled
-    requires { Assembling settings types.now models.now }
-    ensures { result ≡ modelled_with own settings types.now models.now }
-{
-    let stored = own.params;
-    let seven = assemble::types_with(types, settings.reference, own.gm_type);
-    let all = assemble::models_with(models, settings.reference, stored);
-    Modelled {
-        refusal: 0,
-        types: seven,
-        models: all,
-        score: own.score,
-    }
-}
-
-pub fn models_of(settings: Settings, types: &[u8], models: &[i32], words: &[u32]) -> Modelled
+// The six others with the job's own model at its reference, or the number of what refuses it: a number,
+// since fits and elections are C's answers too (`quantize::Quantized`, `elect::Elected`).
+pub fn models_of(
+    settings: Settings,
+    types: &[u8],
+    models: &[i32],
+    words: &[u32],
+) -> Result<SevenModels, u32>
     requires { Modelling settings types.now models.now words.now }
-    ensures { result ≡ modelled settings types.now models.now words.now }
+    ensures answer { modelled_in result ≡ modelled settings types.now models.now words.now }
+    ensures refused { IfErr result (λ number. number ≢ 0) }
 {
     let own = own_of(settings, words);
     if own.refusal != 0 {
-        return not_modelled(own.refusal);
+        return Err(own.refusal);
     }
-    with_model(own, settings, types, models)
+    let stored = own.params;
+    let types = assemble::types_with(types, settings.reference, own.gm_type);
+    let models = assemble::models_with(models, settings.reference, stored);
+    Ok(SevenModels {
+        types,
+        models,
+        score: own.score,
+    })
 }

@@ -1,13 +1,13 @@
 -- From the search's words on, a job ends as the job does: the report, the blocks and the header are the same.
 -- Assumes nothing.
 use mathlib.Core.Logic.{⊎_elim}
-use mathlib.Core.Path.{◌≡◌, refl, ap, ◌∙◌}
+use mathlib.Core.Path.{◌≡◌, ap, ◌∙◌}
 use borrow.Author.Tests.{ne_eqb}
 use Rattle.laws.proofs.Cases.{eq-or-ne}
 use Rattle.job_task.specs.Task.{Task, Lent, sheet_of}
 use Rattle.job_task.specs.Rows.{early}
 use Rattle.job_outcome.specs.Words.{late, from_words}
-use Rattle.job_outcome.specs.Outcome.{Ended, finished_in, outcome}
+use Rattle.job_outcome.specs.Outcome.{finished_in, outcome}
 use Rattle.job_outcome.proofs.Stages.{refused-late, ends-accepted}
 use Rattle.job_outcome.proofs.Demand3.{as-words}
 

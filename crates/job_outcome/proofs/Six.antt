@@ -5,7 +5,7 @@ use mathlib.Core.Logic.{◌⊎◌, ◌↔◌}
 use mathlib.Core.Path.{◌≡◌, sym, ◌∙◌}
 use Prim.Native.Nat.{ℕ}
 use Rattle.laws.proofs.Refusal.{or_else_none}
-use Rattle.solve.specs.declared.Outcome.TheVariants.{Singular}
+use Rattle.solve.specs.Elimination.{singular}
 use Rattle.solve.specs.Solution.{solved}
 use Rattle.fit.specs.Sums.{count_of, rot_zoom_sums, affine_sums}
 use Rattle.fit.specs.Fitted.{fit_of, refusal_of, rot_zoom_system, affine_u, affine_v}
@@ -32,9 +32,9 @@ module _ (j : Task) (l : Lent) where
 pub translation-never : (ws : List ℕ) → refusal_of (fit_of 1 ws) ≡ 0
 translation-never ws = translation-never-refuses ws
 
-pub rotzoom-by-elimination : (ws : List ℕ) → (refusal_of (fit_of 2 ws) ≡ 6) ↔ ((solved 4 (rot_zoom_system (rot_zoom_sums ws) (count_of ws))).outcome ≡ Singular)
+pub rotzoom-by-elimination : (ws : List ℕ) → (refusal_of (fit_of 2 ws) ≡ 6) ↔ ((solved 4 (rot_zoom_system (rot_zoom_sums ws) (count_of ws))).outcome ≡ singular)
 rotzoom-by-elimination ws = rotzoom-refuses ws
 
 pub affine-by-elimination : (ws : List ℕ) → (refusal_of (fit_of 3 ws) ≡ 6)
-    ↔ (((solved 3 (affine_u (affine_sums ws) (count_of ws))).outcome ≡ Singular) ⊎ ((solved 3 (affine_v (affine_sums ws) (count_of ws))).outcome ≡ Singular))
+    ↔ (((solved 3 (affine_u (affine_sums ws) (count_of ws))).outcome ≡ singular) ⊎ ((solved 3 (affine_v (affine_sums ws) (count_of ws))).outcome ≡ singular))
 affine-by-elimination ws = affine-refuses ws

@@ -5,7 +5,7 @@
 #![tactic(auto)]
 
 #[repr(C)]
-#[derive(Clone, Copy)]
+#[derive(Clone, Copy, Debug, PartialEq)]
 pub struct Report {
     pub refusal: u32,
     pub types: [u8; 7],

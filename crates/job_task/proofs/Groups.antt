@@ -3,13 +3,16 @@
 use Prim.Native.Nat.{ℕ, zero, suc}
 use mathlib.Core.Path.{◌≡◌, refl, sym, ap, ◌∙◌}
 use Rattle.laws.specs.Refusal.{or_else}
-use Rattle.laws.proofs.Refusal.{or-else-refused, or_else_none}
+use Rattle.laws.proofs.Refusal.{or_else_none}
+use Rattle.refusal.specs.Number.{number_of}
+use Rattle.refusal.specs.declared.Refusal.{Refusal}
+use Rattle.refusal.proofs.Rows.{first-refused}
 
-pub stops : {n a : ℕ} (b : ℕ) → n ≡ a → (n ≡ 0 → ⊥) → n ≡ or_else a b
-stops {n} {a} b e h = e ∙ or-else-refused a b (λ z. h (e ∙ z))
+pub stops : (r : Refusal) {a : ℕ} (b : ℕ) → number_of r ≡ a → number_of r ≡ or_else a b
+stops r b e = rw (← e) (first-refused r b)
 
-pub goes_on : {n a m b : ℕ} → n ≡ a → n ≡ 0 → m ≡ b → m ≡ or_else a b
-goes_on {n} {a} {m} {b} e z f = f ∙ or_else_none a b (sym e ∙ z)
+pub goes_on : {n a b : ℕ} → 0 ≡ a → n ≡ b → n ≡ or_else a b
+goes_on {n} {a} {b} e f = f ∙ or_else_none a b (sym e)
 
 -- a group counts only where the one before it is quiet
 pub or-else-same : {a a' b b' : ℕ} → a ≡ a' → (a ≡ 0 → b ≡ b') → or_else a b ≡ or_else a' b'

@@ -47,6 +47,10 @@ unless_elects s wrong = choose (elects s) false wrong
 
 -- ---- the conditions
 
+-- the six types, their 36 numbers or the prior's 42 of wrong length
+abbrev pub wrong_others : ℕ → ℕ → ℕ → Bool
+wrong_others types models prior = either (not (eqb types other_types)) (either (not (eqb models other_numbers)) (not (eqb prior prior_numbers)))
+
 -- row 2: a plane, the classes, the six types, their 36 numbers or the prior's 42 of wrong length
 abbrev pub wrong_lengths : Sizes → ℕ → ℕ → ℕ → ℕ → Bool
 wrong_lengths z classes types models prior =

@@ -4,6 +4,8 @@ use Rattle.std.specs.Prelude.{ℕ, List, ℤ, length}
 use Rattle.search.specs.Search.{sample_words}
 use Rattle.search.specs.Refusal as search
 use Rattle.job_task.specs.declared.Settings.{Settings}
+use Rattle.job_task.specs.declared.Handed.{Handed}
+use Rattle.job_task.specs.declared.Pair.{Pair}
 use Rattle.job_task.specs.declared.Sizes.{Sizes}
 
 -- a frame pair, the settings, the form of the blocks, a class for each sample, the six other types and models, and the prior
@@ -58,6 +60,13 @@ sheet = sheet_in 2
 -- a job's own: the words are the search's
 abbrev pub sheet_of : Task → Sheet
 sheet_of j = sheet_in j.form (sample_words j.input j.reference j.width j.height) j.settings j.classes j.types j.models j.prior
+
+-- of a frame pair or of words, with what is handed beside
+abbrev pub task_of : Pair → Handed → Task
+task_of p h = task_in h.form p.input.now p.reference.now p.width p.height h.settings h.classes.now h.types.now h.models.now h.prior.now
+
+abbrev pub sheet_from : List ℕ → Handed → Sheet
+sheet_from ws h = sheet_in h.form ws h.settings h.classes.now h.types.now h.models.now h.prior.now
 
 -- the job's search: its planes and classes, and the buffers that are lent on to it
 abbrev pub search_task : Task → search.Task

@@ -39,17 +39,9 @@ pub fn spread(block: &[u16], out: &mut [u16])
     requires { length out.old ≡ 8 * length block.now }
     ensures { out.new ≡ spread_of block.now }
 {
-    let mut i = 0;
-    while i < out.len() {
-        out[i] = block[i / LANES];
-        i += 1;
+    for (i, lane) in out.iter_mut().enumerate() {
+        *lane = block[i / LANES];
     }
-}
-
-fn greater(a: u16, b: u16) -> u16
-    ensures { (a ≤ result) × (b ≤ result) }
-{
-    if a < b { b } else { a }
 }
 
 // No pel is over 8,191.
@@ -57,10 +49,8 @@ fn all_low(pels: &[u16]) -> bool
     ensures { IfLow result pels.now }
 {
     let mut highest: u16 = 0;
-    let mut i = 0;
-    while i < pels.len() {
-        highest = greater(highest, pels[i]);
-        i += 1;
+    for pel in pels {
+        highest = highest.max(*pel);
     }
     highest <= LOW
 }
@@ -70,11 +60,7 @@ pub fn both_low(block: &[u16], window: &[u16]) -> bool
     ensures if_low { IfLow result block.now }
     ensures if_low_2 { IfLow result window.now }
 {
-    if all_low(block) {
-        all_low(window)
-    } else {
-        false
-    }
+    all_low(block) && all_low(window)
 }
 
 // A row of lane k.
@@ -84,22 +70,14 @@ fn lane(k: usize, row: &[u16], part: &[u16]) -> u32
     ensures { Is (lane_row row.now part.now k) 524280 result }
 {
     let mut cost: u32 = 0;
-    let mut j = 0;
-    while j < HALF_BLOCK {
+    for j in 0..HALF_BLOCK {
         cost += plane::absolute_difference(row[LANES * j + k], part[j + k]);
-        j += 1;
     }
     cost
 }
 
-fn low_difference(a: u16, b: u16) -> u16
-    requires { (a ≤ 8191) × (b ≤ 8191) }
-    ensures { Is (difference a b) 8191 result }
-{
-    if a < b { b - a } else { a - b }
-}
-
-// The same in 16 bits.
+// The same in 16 bits: a function of its own, since one over both widths needs a trait for two lines of body, and is
+// no plainer.
 fn low_lane(k: usize, row: &[u16], part: &[u16]) -> u16
     requires lane_row { LaneRow row.now part.now }
     requires at_most { AtMost 8191 row.now }
@@ -108,10 +86,8 @@ fn low_lane(k: usize, row: &[u16], part: &[u16]) -> u16
     ensures { Is (lane_row row.now part.now k) 65528 result }
 {
     let mut cost: u16 = 0;
-    let mut j = 0;
-    while j < HALF_BLOCK {
-        cost += low_difference(row[LANES * j + k], part[j + k]);
-        j += 1;
+    for j in 0..HALF_BLOCK {
+        cost += row[LANES * j + k].abs_diff(part[j + k]);
     }
     cost
 }
@@ -123,10 +99,8 @@ fn wide_row(costs: [u32; 8], row: &[u16], part: &[u16]) -> [u32; 8]
     ensures { Grown costs row.now part.now result }
 {
     let mut sums = [0u32; 8];
-    let mut k = 0;
-    while k < LANES {
+    for k in 0..LANES {
         sums[k] = costs[k] + lane(k, row, part);
-        k += 1;
     }
     sums
 }
@@ -138,10 +112,8 @@ fn low_sums(row: &[u16], part: &[u16]) -> [u16; 8]
     ensures { LowSums row.now part.now result }
 {
     let mut sums = [0u16; 8];
-    let mut k = 0;
-    while k < LANES {
+    for k in 0..LANES {
         sums[k] = low_lane(k, row, part);
-        k += 1;
     }
     sums
 }
@@ -156,10 +128,8 @@ fn low_row(costs: [u32; 8], row: &[u16], part: &[u16]) -> [u32; 8]
 {
     let lanes = low_sums(row, part);
     let mut sums = [0u32; 8];
-    let mut k = 0;
-    while k < LANES {
+    for k in 0..LANES {
         sums[k] = costs[k] + lanes[k] as u32;
-        k += 1;
     }
     sums
 }
@@ -178,20 +148,12 @@ fn next_row(low: bool, costs: [u32; 8], row: &[u16], part: &[u16]) -> [u32; 8]
     }
 }
 
-fn one_below(best: u32, cost: u32) -> u32
-    ensures { Is (live best cost) 1 result }
-{
-    if cost < best { 1 } else { 0 }
-}
-
 fn count_below(best: u32, costs: [u32; 8]) -> u32
     ensures { Is (sum (λ k. live best (get_or costs k 0)) 8) 8 result }
 {
     let mut below: u32 = 0;
-    let mut k = 0;
-    while k < LANES {
-        below += one_below(best, costs[k]);
-        k += 1;
+    for cost in costs {
+        below += u32::from(cost < best);
     }
     below
 }
@@ -215,8 +177,7 @@ pub fn sad_half(
     let mut costs = starts;
     let mut going: u32 = 8;
     let mut rows: u32 = 0;
-    let mut i = 0;
-    while i < HALF_BLOCK {
+    for i in 0..HALF_BLOCK {
         let a = i * SPREAD_ROW;
         let b = (at.y + i) * COARSE_WINDOW + at.x;
         let sums = next_row(
@@ -228,16 +189,9 @@ pub fn sad_half(
         costs = sums;
         rows += going;
         going = count_below(best, costs);
-        i += 1;
         if going == 0 {
-            return Counted {
-                rows: rows,
-                below: 0,
-            };
+            return Counted { rows, below: 0 };
         }
     }
-    Counted {
-        rows: rows,
-        below: going,
-    }
+    Counted { rows, below: going }
 }

@@ -1,5 +1,1 @@
-pub mod Turns
-pub mod Taken
-pub mod Scored
-pub mod Quantized
 pub mod Words

@@ -26,6 +26,9 @@ use Rattle.quantize.specs.declared.Refitting.{Refitting}
 use Rattle.quantize.specs.Quantize.{quantized_from}
 use Rattle.quantize.specs.Inner.{refitting_begun, refitting_step, refitting_ends}
 use Rattle.quantize.proofs.Walked.{walk_ends}
+use Rattle.refusal.specs.declared.Refusal.{Refusal}
+use Rattle.refusal.specs.Number.{number_of}
+use Rattle.refusal.proofs.Rows.{above-zero}
 use Rattle.by_class.specs.ByClass.{by_class, fitted_from}
 use Rattle.class_rows.specs.Rows.{set_refusal}
 use Rattle.by_class.proofs.Rows.{Passed, call-passed, call-refused, call-answered}
@@ -41,11 +44,16 @@ module _ (wrong : Bool) (set : ℕ) (fours : List (List Float)) (cs : List ℕ) 
   lent-passed = call-passed wrong set fours cs w e
 
   module _ {B : Type 0} (refused : ℕ → B) (call : List MotionSample → B) where
-    pub lent-refused : (r ≡ 0 → ⊥) → refused r ≡ by_class refused wrong call set (samples_of fours) cs
+    lent-refused : (r ≡ 0 → ⊥) → refused r ≡ by_class refused wrong call set (samples_of fours) cs
     lent-refused = call-refused wrong set (samples_of fours) cs w counted refused call
 
     pub lent-answered : {answer : B} → r ≡ 0 → answer ≡ call (named_samples set fours cs) → answer ≡ by_class refused wrong call set (samples_of fours) cs
     lent-answered = call-answered wrong set (samples_of fours) cs w counted refused call
+
+-- by the refusal that its rows answer
+module _ (wrong : Bool) (set : ℕ) (fours : List (List Float)) (cs : List ℕ) {b : Bool} (w : b ≡ wrong) (x : Refusal) (e : number_of x ≡ set_refusal b set (length fours) cs) where
+  pub refused-by : {k : ℕ} → k ≡ number_of x → {B : Type 0} (refused : ℕ → B) (call : List MotionSample → B) → refused k ≡ by_class refused wrong call set (samples_of fours) cs
+  refused-by {k} n refused call = lent-refused wrong set fours cs w (n ∙ e) refused call (λ z. let h = above-zero x in absurd (omega (arith, h, n, z)))
 
 -- ---- the plain calls over the named samples
 

@@ -1,8 +1,8 @@
 // The calls by a set of classes over lent samples, under their C names: the definitions of the calls
 // over sample words, each sample standing for itself (docs/RULES.md, 'Sets of classes', rows 1, 2, 4
 // and 19, then those of the call). A sample is lent as its four numbers, x, y, u, v. Plain fits, models
-// and scores walk the list and take the named samples; trims and the election gather the named samples'
-// numbers in memory of their own. Order 14 of the change requests.
+// and scores walk the list and take the named samples; trims and the election gather the named samples
+// in a list of their own. Order 14 of the change requests.
 #![tactic(auto)]
 
 ghost use Rattle.std.specs.Prelude.{◌≡◌, ◌≤◌, length};
@@ -10,28 +10,22 @@ ghost use Rattle.sample.specs.Word.{most_samples};
 ghost use Rattle.fit.specs.Sums.{itself};
 ghost use Rattle.fit.specs.Fitted.{fit_from};
 ghost use Rattle.fit_numbers.specs.Numbers.{numbers_of, fitted_of};
-ghost use Rattle.trim.specs.Inner.{most_numbers};
 ghost use Rattle.trim_numbers.specs.Answer.{answer_of};
 ghost use Rattle.by_class.specs.ByClass.{fitted_by, quantized_by, scored_by, trimmed_by, trimmed_model_by, elected_by};
 ghost use Rattle.named_samples.specs.Named.{samples_of, named_samples};
 ghost use Rattle.lent_sets.specs.Inner.{Judges};
 
 use elect::Elected;
-use fit::{Fitted, ROTZOOM, TRANSLATION};
+use fit::{AffineSums, FitSums, Fitted, ROTZOOM, RotZoomSums, TRANSLATION, TranslationSums};
 use fit_numbers::FitAnswer;
 use lent_fit::{Params, ToQuantize};
 use lent_trim::ToTrim;
 use quantize::Quantized;
+use refusal::Refusal;
+use sample::{MOST_SAMPLES, MotionSample};
 use score::Score;
 use trim::{Trimmed, TrimmedModel};
 use trim_numbers::TrimmedAnswer;
-
-// A row of the table of refusals (0: none), and how many samples were gathered.
-#[derive(Clone, Copy)]
-pub struct Judged {
-    pub refusal: u32,
-    pub count: usize,
-}
 
 // ---- plain calls
 
@@ -43,11 +37,11 @@ pub fn belt_fit_samples_by_class(
 ) -> FitAnswer
     ensures { result ≡ numbers_of (fitted_by itself set kind (samples_of samples.now) classes.now) }
 {
-    let refusal = class_rows::set_refusal(class_rows::no_type(kind), set, samples.len(), classes);
-    if refusal != 0 {
-        return fit_numbers::numbers_of(Fitted::Refused(refusal));
+    let wrong = class_rows::no_type(kind);
+    match class_rows::set_refusal(wrong, set, samples.len(), classes) {
+        Err(refusal) => fit_numbers::numbers_of(Fitted::Refused(refusal.number())),
+        Ok(()) => fit_numbers::numbers_of(fit_named(kind, set, samples, classes)),
     }
-    fit_numbers::numbers_of(fit_named(kind, set, samples, classes))
 }
 
 // The fit of a type over the named samples.
@@ -57,13 +51,11 @@ fn fit_named(kind: u8, set: u8, samples: &[[f64; 4]], classes: &[u8]) -> Fitted
     ensures { result ≡ fit_from itself kind (named_samples set samples.now classes.now) }
 {
     let n = class_set::count_named(set, classes);
-    if kind == TRANSLATION {
-        return fit::translation_ends(named_samples::translation_named(set, samples, classes), n);
+    match kind {
+        TRANSLATION => named_samples::sums_named::<TranslationSums>(set, samples, classes).fit(n),
+        ROTZOOM => named_samples::sums_named::<RotZoomSums>(set, samples, classes).fit(n),
+        _ => named_samples::sums_named::<AffineSums>(set, samples, classes).fit(n),
     }
-    if kind == ROTZOOM {
-        return fit::rotzoom_ends(named_samples::rotzoom_named(set, samples, classes), n);
-    }
-    fit::affine_ends(named_samples::affine_named(set, samples, classes), n)
 }
 
 pub fn belt_quantize_samples_by_class(
@@ -74,16 +66,16 @@ pub fn belt_quantize_samples_by_class(
 ) -> Quantized
     ensures { result ≡ quantized_by itself set (fitted_of model.kind model.numbers) model.flag (samples_of samples.now) classes.now }
 {
-    let numbers = model.numbers;
-    let fitted = fit_numbers::fitted_of(model.kind, numbers);
+    let fitted = fit_numbers::fitted_of(model.kind, model.numbers);
     let wrong = class_rows::no_model_or_flag(fitted, model.flag);
-    let refusal = class_rows::set_refusal(wrong, set, samples.len(), classes);
-    if refusal != 0 {
-        return class_rows::refused_model(refusal);
+    match class_rows::set_refusal(wrong, set, samples.len(), classes) {
+        Err(refusal) => class_rows::refused_model(refusal.number()),
+        Ok(()) => {
+            let begun = quantize::refit_begin(fitted, model.flag);
+            let t = named_samples::refit_named(begun, set, samples, classes);
+            quantize::refit_ends(t, class_set::count_named(set, classes))
+        }
     }
-    let begun = quantize::refit_begin(fitted, model.flag);
-    let t = named_samples::refit_named(begun, set, samples, classes);
-    quantize::refit_ends(t, class_set::count_named(set, classes))
 }
 
 pub fn belt_score_samples_by_class(
@@ -94,40 +86,34 @@ pub fn belt_score_samples_by_class(
 ) -> Score
     ensures { result ≡ scored_by itself set model.numbers (samples_of samples.now) classes.now }
 {
-    let refusal = class_rows::set_refusal(false, set, samples.len(), classes);
-    if refusal != 0 {
-        return Score {
-            refusal,
+    match class_rows::set_refusal(false, set, samples.len(), classes) {
+        Err(refusal) => Score {
+            refusal: refusal.number(),
             score: 0.0,
-        };
+        },
+        Ok(()) => {
+            let m = score::continuous_of_params(model.numbers);
+            let sum = named_samples::residuals_named(m, set, samples, classes);
+            score::score_of(sum, class_set::count_named(set, classes))
+        }
     }
-    let numbers = model.numbers;
-    let m = score::continuous_of_params(numbers);
-    let sum = named_samples::residuals_named(m, set, samples, classes);
-    score::score_of(sum, class_set::count_named(set, classes))
 }
 
 // ---- trims and the election
 
-// The rows, and the named samples' numbers where nothing is refused.
+// The named samples in front of a list and how many they are, where the rows refuse nothing.
 fn judge(
     wrong: bool,
     set: u8,
     samples: &[[f64; 4]],
     classes: &[u8],
-    numbers: &mut [f64; 16384],
-) -> Judged
-    requires { length numbers.old ≡ most_numbers }
-    ensures { Judges wrong set samples.now classes.now numbers.new result }
+    room: &mut [MotionSample],
+) -> Result<usize, Refusal>
+    requires { most_samples ≤ length room.old }
+    ensures { Judges wrong set samples.now classes.now room.new result }
 {
-    let refusal = class_rows::set_refusal(wrong, set, samples.len(), classes);
-    if refusal != 0 {
-        return Judged { refusal, count: 0 };
-    }
-    Judged {
-        refusal: 0,
-        count: named_samples::gather(set, samples, classes, numbers),
-    }
+    class_rows::set_refusal(wrong, set, samples.len(), classes)?;
+    Ok(named_samples::gather(set, samples, classes, room))
 }
 
 pub fn belt_fit_trimmed_samples_by_class(
@@ -138,21 +124,15 @@ pub fn belt_fit_trimmed_samples_by_class(
 ) -> TrimmedAnswer
     ensures { result ≡ answer_of (trimmed_by itself set kind (samples_of samples.now) classes.now) }
 {
-    let mut numbers = [0.0f64; 16384];
-    let judged = judge(
-        class_rows::no_type(kind),
-        set,
-        samples,
-        classes,
-        &mut numbers,
-    );
-    if judged.refusal != 0 {
-        return trim_numbers::answer_of(Trimmed {
-            fitted: Fitted::Refused(judged.refusal),
+    let mut room = [named_samples::lent_sample([0.0; 4]); MOST_SAMPLES];
+    let wrong = class_rows::no_type(kind);
+    match judge(wrong, set, samples, classes, &mut room) {
+        Err(refusal) => trim_numbers::answer_of(Trimmed {
+            fitted: Fitted::Refused(refusal.number()),
             used: 0,
-        });
+        }),
+        Ok(n) => trim_numbers::answer_of(held_trim::trimmed_fit(kind, &room[..n])),
     }
-    trim_numbers::answer_of(held_trim::trimmed_fit(kind, &numbers, judged.count))
 }
 
 pub fn belt_quantize_trimmed_samples_by_class(
@@ -163,13 +143,12 @@ pub fn belt_quantize_trimmed_samples_by_class(
 ) -> TrimmedModel
     ensures { result ≡ trimmed_model_by itself set codes.kind codes.flag (samples_of samples.now) classes.now }
 {
-    let mut numbers = [0.0f64; 16384];
+    let mut room = [named_samples::lent_sample([0.0; 4]); MOST_SAMPLES];
     let wrong = class_rows::no_type_or_flag(codes.kind, codes.flag);
-    let judged = judge(wrong, set, samples, classes, &mut numbers);
-    if judged.refusal != 0 {
-        return class_rows::refused_trimmed_model(judged.refusal);
+    match judge(wrong, set, samples, classes, &mut room) {
+        Err(refusal) => class_rows::refused_trimmed_model(refusal.number()),
+        Ok(n) => held_trim::trimmed_model(codes.kind, codes.flag, &room[..n]),
     }
-    held_trim::trimmed_model(codes.kind, codes.flag, &numbers, judged.count)
 }
 
 pub fn belt_elect_samples_by_class(
@@ -180,10 +159,9 @@ pub fn belt_elect_samples_by_class(
 ) -> Elected
     ensures { result ≡ elected_by itself set flag (samples_of samples.now) classes.now }
 {
-    let mut numbers = [0.0f64; 16384];
-    let judged = judge(flag > 1, set, samples, classes, &mut numbers);
-    if judged.refusal != 0 {
-        return elect::stopped(judged.refusal);
+    let mut room = [named_samples::lent_sample([0.0; 4]); MOST_SAMPLES];
+    match judge(flag > 1, set, samples, classes, &mut room) {
+        Err(refusal) => elect::stopped(refusal.number()),
+        Ok(n) => held_elect::elected_in(flag, &room[..n]),
     }
-    held_elect::elected_in(flag, &numbers, judged.count)
 }

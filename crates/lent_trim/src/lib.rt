@@ -1,13 +1,11 @@
 // Fits after trimming over a lent slice of samples, under their C names: the definitions of the calls
 // over sample words, each sample standing for itself (docs/RULES.md, 'Trimming', rows 1, 4, 6, 15 and 16;
-// `candidate_for`, encoder/global_motion.rs). Each call is one walk: it stores each sample's four numbers
-// in memory of its own, and ends with the trim of those. A list that is too long isn't walked.
+// `candidate_for`, encoder/global_motion.rs). A list that is too long isn't walked.
 #![tactic(auto)]
 
 ghost use Rattle.std.specs.Prelude.{◌≡◌};
 ghost use Rattle.fit.specs.Sums.{itself};
 ghost use Rattle.trim.specs.Trim.{trimmed_from, trimmed_model_from};
-ghost use Rattle.trim.specs.Inner.{samples_in};
 ghost use Rattle.trim_numbers.specs.Answer.{answer_of};
 
 use sample::MotionSample;
@@ -22,40 +20,14 @@ pub struct ToTrim {
     pub flag: u8,
 }
 
-fn fit_answer(kind: u8, numbers: &[f64; 16384], samples: usize) -> TrimmedAnswer
-    ensures { result ≡ answer_of (trimmed_from itself kind (samples_in numbers.now samples)) }
-{
-    trim_numbers::answer_of(held_trim::trimmed_fit(kind, numbers, samples))
-}
-
-fn model_answer(codes: ToTrim, numbers: &[f64; 16384], samples: usize) -> TrimmedModel
-    ensures { result ≡ trimmed_model_from itself codes.kind codes.flag (samples_in numbers.now samples) }
-{
-    held_trim::trimmed_model(codes.kind, codes.flag, numbers, samples)
-}
-
 pub fn belt_fit_trimmed_samples(samples: &[MotionSample], kind: u8) -> TrimmedAnswer
     ensures { result ≡ answer_of (trimmed_from itself kind samples.now) }
 {
-    let n = fit::list_taken(samples.len());
-    let mut kept = [0.0f64; 16384];
-    let mut i = 0usize;
-    while i < n {
-        held_trim::store(&mut kept, i, samples[i]); // each in its place
-        i += 1;
-    }
-    fit_answer(kind, &kept, samples.len())
+    trim_numbers::answer_of(held_trim::trimmed_fit(kind, samples))
 }
 
 pub fn belt_quantize_trimmed_samples(samples: &[MotionSample], codes: ToTrim) -> TrimmedModel
     ensures { result ≡ trimmed_model_from itself codes.kind codes.flag samples.now }
 {
-    let n = fit::list_taken(samples.len());
-    let mut kept = [0.0f64; 16384];
-    let mut i = 0usize;
-    while i < n {
-        held_trim::store(&mut kept, i, samples[i]);
-        i += 1;
-    }
-    model_answer(codes, &kept, samples.len())
+    held_trim::trimmed_model(codes.kind, codes.flag, samples)
 }

@@ -4,7 +4,6 @@
 #![tactic(auto)]
 
 ghost use Rattle.std.specs.Prelude.{◌≡◌, ◌+◌, ◌<◌};
-ghost use Rattle.std.specs.Float.Ieee.Scale.{finite};
 ghost use Rattle.median.specs.Median.{median, all_finite};
 ghost use Rattle.median.specs.Inner.{Findable, below};
 
@@ -17,15 +16,7 @@ const SHORT: usize = 64;
 fn count_below(values: &[f64], key: f64) -> usize
     ensures { result ≡ below key values.now }
 {
-    let mut count = 0usize;
-    let mut i = 0usize;
-    while i < values.len() {
-        if values[i] < key {
-            count += 1;
-        }
-        i += 1;
-    }
-    count
+    values.iter().filter(|value| **value < key).count()
 }
 
 // Where to cut next between lo and hi: in the middle, and in a short list at a number of its own. Where
@@ -38,16 +29,13 @@ fn between(values: &[f64], lo: u64, hi: u64) -> u64
     if values.len() > SHORT {
         return lo + (hi - lo) / 2;
     }
-    let mut i = 0usize;
-    while i < values.len() {
-        let value = values[i];
-        if value > 0.0 {
-            let key = f64::to_bits(value);
-            if key > lo && key < hi {
+    for value in values {
+        if *value > 0.0 {
+            let key = value.to_bits();
+            if lo < key && key < hi {
                 return key;
             }
         }
-        i += 1;
     }
     lo + 1
 }
@@ -70,26 +58,8 @@ pub fn median(values: &[f64]) -> f64
     f64::from_bits(lo)
 }
 
-// A not-a-number is neither above nor below.
-fn is_finite(x: f64) -> bool
-    ensures { result ≡ finite x }
-{
-    let infinity = f64::from_bits(INFINITE);
-    if x < infinity {
-        return -infinity < x;
-    }
-    false
-}
-
 pub fn all_finite(values: &[f64]) -> bool
     ensures { result ≡ all_finite values.now }
 {
-    let mut i = 0usize;
-    while i < values.len() {
-        if !is_finite(values[i]) {
-            return false;
-        }
-        i += 1;
-    }
-    true
+    values.iter().all(|value| value.is_finite())
 }

@@ -1,4 +1,3 @@
 pub mod Integers
 pub mod OnGrid
 pub mod Below
-pub mod Sides

@@ -4,11 +4,10 @@
 // `write_global_param` and `encode_inter_global_motion`.
 #![tactic(auto)]
 
-ghost use Rattle.std.specs.Prelude.{◌≡◌, ◌+◌, ◌*◌, ◌^◌, ◌≤◌, ◌<◌, ltb, nat_abs, neg_ℤ, length};
-ghost use Rattle.models.specs.Integers.{equal};
+ghost use Rattle.std.specs.Prelude.{◌≡◌, ◌+◌, ◌*◌, ◌≤◌, ◌<◌, length};
 ghost use Rattle.laws.specs.Below.{any_below};
 ghost use Rattle.grid.specs.Symbols.{prior_out};
-ghost use Rattle.models.specs.Models.{carries, slot_wrong, slot_at, model_wrong, models_wrong, prior_at, priors_out, types_over, start_over};
+ghost use Rattle.models.specs.Models.{carries, filler, slot_wrong, slot_at, model_wrong, models_wrong, prior_at, priors_out, types_over, start_over};
 ghost use Rattle.models.specs.Inner.{SixNext, NoneBefore};
 
 use grid::{AFFINE, IDENTITY, ROTZOOM, TRANSLATION};
@@ -25,36 +24,31 @@ const LAST_START: usize = 7;
 
 // docs/RULES.md, 'Header': how far a prior's number may lie from its slot's centre, in slots 0 and 1 and in
 // the others.
-const TRANSLATION_PRIOR: u32 = 4194304;
+const TRANSLATION_PRIOR: u64 = 4194304;
 
-const LINEAR_PRIOR: u32 = 8192;
+const LINEAR_PRIOR: u64 = 8192;
 
 pub fn carries_slot(gm_type: u8, slot: u8) -> bool
     ensures { result ≡ carries gm_type slot }
 {
-    if gm_type == IDENTITY {
-        return false;
+    match gm_type {
+        IDENTITY => false,
+        TRANSLATION => slot < 2,
+        ROTZOOM => slot < 4,
+        _ => true,
     }
-    if gm_type == TRANSLATION {
-        return slot < 2;
-    }
-    if gm_type == ROTZOOM {
-        return slot < 4;
-    }
-    true
 }
 
-fn same(a: i32, b: i32) -> bool
-    ensures { result ≡ equal a b }
+// What a slot holds that its type doesn't carry: ROTZOOM's pair, otherwise the identity value. In 64 bits, since the least i32
+// has no opposite among the i32.
+fn filler(gm_type: u8, slot: u8, p2: i32, p3: i32) -> i64
+    ensures { result ≡ filler gm_type slot p2 p3 }
 {
-    a == b
-}
-
-// In 64 bits, since the least i32 has no opposite among the i32.
-fn opposite(a: i32, b: i32) -> bool
-    ensures { result ≡ equal a (neg_ℤ b) }
-{
-    a as i64 == 0 - b as i64
+    match (gm_type, slot) {
+        (ROTZOOM, 4) => -(p3 as i64),
+        (ROTZOOM, _) => p2 as i64,
+        _ => grid::centre_of(slot) as i64,
+    }
 }
 
 // A slot's number is on its grid, or what fills a slot that the type doesn't carry.
@@ -64,13 +58,7 @@ fn slot_wrong(gm_type: u8, flag: u8, slot: u8, z: i32, p2: i32, p3: i32) -> bool
     if carries_slot(gm_type, slot) {
         return grid::off_grid(gm_type, flag, slot, z);
     }
-    if gm_type == ROTZOOM {
-        if slot == 4 {
-            return !opposite(z, p3);
-        }
-        return !same(z, p2);
-    }
-    !same(z, grid::centre_of(slot) as i32)
+    z as i64 != filler(gm_type, slot, p2, p3)
 }
 
 fn slot_at(gm_type: u8, flag: u8, params: &[i32], first: usize, slot: u8) -> bool
@@ -78,9 +66,7 @@ fn slot_at(gm_type: u8, flag: u8, params: &[i32], first: usize, slot: u8) -> boo
     ensures { result ≡ slot_at gm_type flag params.now first slot }
 {
     let z = params[first + slot as usize];
-    let p2 = params[first + 2];
-    let p3 = params[first + 3];
-    slot_wrong(gm_type, flag, slot, z, p2, p3)
+    slot_wrong(gm_type, flag, slot, z, params[first + 2], params[first + 3])
 }
 
 // The six slots of the model whose numbers begin at `first`.
@@ -88,12 +74,10 @@ fn slots_wrong(gm_type: u8, flag: u8, params: &[i32], first: usize) -> bool
     requires { first + 6 ≤ length params.now }
     ensures { result ≡ model_wrong gm_type flag params.now first }
 {
-    let mut slot = 0u8;
-    while slot < 6 {
+    for slot in 0..6u8 {
         if slot_at(gm_type, flag, params, first, slot) {
             return true;
         }
-        slot += 1;
     }
     false
 }
@@ -103,13 +87,11 @@ pub fn model_wrong(gm_type: u8, flag: u8, params: &[i32], first: usize) -> bool
     requires { first + 6 ≤ length params.now }
     ensures { result ≡ model_wrong gm_type flag params.now first }
 {
-    if gm_type == IDENTITY {
-        return slots_wrong(IDENTITY, flag, params, first);
+    match gm_type {
+        IDENTITY => slots_wrong(IDENTITY, flag, params, first),
+        TRANSLATION => slots_wrong(TRANSLATION, flag, params, first),
+        _ => slots_wrong(gm_type, flag, params, first),
     }
-    if gm_type == TRANSLATION {
-        return slots_wrong(TRANSLATION, flag, params, first);
-    }
-    slots_wrong(gm_type, flag, params, first)
 }
 
 // As many models as there are types.
@@ -117,35 +99,23 @@ pub fn models_wrong(types: &[u8], flag: u8, params: &[i32]) -> bool
     requires { 6 * length types.now ≤ length params.now }
     ensures { result ≡ models_wrong types.now flag params.now }
 {
-    let mut k = 0;
-    while k < types.len() {
-        if model_wrong(types[k], flag, params, SLOTS * k) {
+    for (k, gm_type) in types.iter().enumerate() {
+        if model_wrong(*gm_type, flag, params, SLOTS * k) {
             return true;
         }
-        k += 1;
     }
     false
-}
-
-// More than `reach` from 0, to either side.
-fn beyond(num: i64, reach: u32) -> bool
-    requires { nat_abs num < 2 ^ 62 }
-    ensures { result ≡ ltb reach (nat_abs num) }
-{
-    if grid::is_negative(num + reach as i64) {
-        return true;
-    }
-    grid::is_negative(reach as i64 - num)
 }
 
 pub fn prior_out(slot: u8, z: i32) -> bool
     ensures { result ≡ prior_out slot z }
 {
-    let num = grid::from_centre(z, grid::centre_of(slot));
-    if slot < 2 {
-        return beyond(num, TRANSLATION_PRIOR);
-    }
-    beyond(num, LINEAR_PRIOR)
+    let reach = if slot < 2 {
+        TRANSLATION_PRIOR
+    } else {
+        LINEAR_PRIOR
+    };
+    reach < grid::magnitude(grid::from_centre(z, grid::centre_of(slot)))
 }
 
 // The six priors of a reference, from `first` on: some prior up to the last of them is out of range.
@@ -153,12 +123,10 @@ fn six_out(prior: &[i32], first: usize) -> bool
     requires { SixNext prior.now first }
     ensures { result ≡ any_below (prior_at prior.now) (first + 6) }
 {
-    let mut slot = 0u8;
-    while slot < 6 {
+    for slot in 0..6u8 {
         if prior_out(slot, prior[first + slot as usize]) {
             return true;
         }
-        slot += 1;
     }
     false
 }
@@ -168,12 +136,10 @@ fn rest_out(prior: &[i32], first: usize) -> bool
     requires { NoneBefore prior.now first }
     ensures { result ≡ priors_out prior.now }
 {
-    let mut i = first;
-    while i < prior.len() {
+    for i in first..prior.len() {
         if prior_out((i % SLOTS) as u8, prior[i]) {
             return true;
         }
-        i += 1;
     }
     false
 }
@@ -182,27 +148,19 @@ fn rest_out(prior: &[i32], first: usize) -> bool
 pub fn priors_out(prior: &[i32]) -> bool
     ensures { result ≡ priors_out prior.now }
 {
-    let mut first = 0;
-    while SLOTS <= prior.len() - first {
-        if six_out(prior, first) {
+    let references = prior.len() / SLOTS;
+    for r in 0..references {
+        if six_out(prior, SLOTS * r) {
             return true;
         }
-        first += SLOTS;
     }
-    rest_out(prior, first)
+    rest_out(prior, SLOTS * references)
 }
 
 pub fn types_over(types: &[u8]) -> bool
     ensures { result ≡ types_over types.now }
 {
-    let mut k = 0;
-    while k < types.len() {
-        if AFFINE < types[k] {
-            return true;
-        }
-        k += 1;
-    }
-    false
+    types.iter().any(|gm_type| AFFINE < *gm_type)
 }
 
 // The bit of the first byte at which writing begins.

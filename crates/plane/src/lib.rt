@@ -5,7 +5,7 @@
 // so that a coordinate clamps at 0 by one test.
 #![tactic(auto)]
 
-ghost use Rattle.std.specs.Prelude.{◌≡◌, ◌+◌, ◌*◌, ◌-◌, ◌/◌, ◌<◌, min, length, get_or};
+ghost use Rattle.std.specs.Prelude.{◌≡◌, ◌+◌, ◌*◌, ◌-◌, ◌/◌, ◌<◌, min, length};
 ghost use Rattle.laws.specs.Buffer.{onto};
 ghost use Rattle.laws.specs.Placed.{placed};
 ghost use Rattle.laws.specs.Parts.{listing};
@@ -53,12 +53,10 @@ fn half_row(top: &[u16], bottom: &[u16], out: &mut [u16])
     requires { RowPair top.now bottom.now (length out.old) }
     ensures { out.new ≡ listing (half_of_rows top.now bottom.now) (length out.old) }
 {
-    let mut c = 0;
-    while c < out.len() {
+    for (c, pel) in out.iter_mut().enumerate() {
         let left = 2 * c;
         let right = left + 1;
-        out[c] = half_pel(top[left], top[right], bottom[left], bottom[right]);
-        c += 1;
+        *pel = half_pel(top[left], top[right], bottom[left], bottom[right]);
     }
 }
 
@@ -82,22 +80,15 @@ pub fn downsample(p: &[u16], width: usize, height: usize, out: &mut [u16])
     requires { Halvable p.now out.old width height }
     ensures { out.new ≡ onto (half_plane p.now width height) out.old }
 {
-    let half_height = height / 2;
-    let mut r = 0;
-    while r < half_height {
+    for r in 0..height / 2 {
         halve_row(p, width, r, &mut *out);
-        r += 1;
     }
 }
 
 pub fn absolute_difference(a: u16, b: u16) -> u32
     ensures { Is (difference a b) 65535 result }
 {
-    if a < b {
-        (b - a) as u32
-    } else {
-        (a - b) as u32
-    }
+    u32::from(a.abs_diff(b))
 }
 
 // The coordinate `place` less `bias`, held to 0 .. side - 1.
@@ -105,15 +96,7 @@ fn clamp(place: usize, bias: usize, side: usize) -> usize
     requires { 0 < side }
     ensures { result ≡ min (place - bias) (side - 1) }
 {
-    if place < bias {
-        return 0;
-    }
-    let coordinate = place - bias;
-    if coordinate < side {
-        coordinate
-    } else {
-        side - 1
-    }
+    place.saturating_sub(bias).min(side - 1)
 }
 
 // Where the n pels from a place on begin.
@@ -164,25 +147,12 @@ fn clamped_row(plane: &[u16], place: Place, by: Offset, bias: usize, out: &mut [
     requires { Near plane.now (right place (length out.old)) by }
     ensures { out.new ≡ listing (row_pel plane.now place by bias) (length out.old) }
 {
-    let mut b = 0;
-    while b < out.len() {
+    for (b, pel) in out.iter_mut().enumerate() {
         let next = Place {
             c: place.c + b,
             ..place
         };
-        out[b] = displaced(plane, next, by, bias);
-        b += 1;
-    }
-}
-
-fn copy(row: &[u16], out: &mut [u16])
-    requires { length row.now ≡ length out.old }
-    ensures { out.new ≡ listing (λ b. get_or row.now b 0) (length out.old) }
-{
-    let mut b = 0;
-    while b < out.len() {
-        out[b] = row[b];
-        b += 1;
+        *pel = displaced(plane, next, by, bias);
     }
 }
 
@@ -192,14 +162,12 @@ fn window_row(plane: &[u16], place: Place, by: Offset, bias: usize, out: &mut [u
     ensures { out.new ≡ listing (row_pel plane.now place by bias) (length out.old) }
 {
     let n = out.len();
-    if bias <= place.c + by.x {
-        if place.c + by.x + n <= place.width + bias {
-            let at = displaced_start(n, place, by, bias);
-            copy(&plane[at..at + n], &mut *out);
-            return;
-        }
+    if bias <= place.c + by.x && place.c + by.x + n <= place.width + bias {
+        let at = displaced_start(n, place, by, bias);
+        out.copy_from_slice(&plane[at..at + n]);
+    } else {
+        clamped_row(plane, place, by, bias, out);
     }
-    clamped_row(plane, place, by, bias, &mut *out);
 }
 
 // Row a of a window, written where it lies in the buffer.
@@ -230,9 +198,7 @@ pub fn window(plane: &[u16], place: Place, by: Offset, bias: usize, side: usize,
     requires out_len { length out.old ≡ side * side }
     ensures { out.new ≡ window_of plane.now place by bias side }
 {
-    let mut a = 0;
-    while a < side {
+    for a in 0..side {
         place_row(plane, place, by, bias, side, a, &mut *out);
-        a += 1;
     }
 }

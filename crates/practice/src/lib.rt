@@ -5,23 +5,18 @@
 
 ghost use Rattle.std.specs.Prelude.{◌≡◌, ◌*◌, ◌≤◌, nat_abs, length};
 ghost use Rattle.plane.specs.Inner.{Small};
+ghost use Rattle.refusal.specs.Number.{refusal_number};
 ghost use Rattle.practice.specs.Call.{too_far, too_short, refusal, made, input_left, reference_left};
 ghost use Rattle.practice_planes.specs.Shift.{largest_shift};
 ghost use Rattle.practice.specs.Inner.{Biased};
 
 use plane::{Offset, Sides};
 use practice_planes::LARGEST_SHIFT;
-
-// The rows' numbers.
-const TOO_LARGE: u32 = 1;
-
-const TOO_FAR: u32 = 18;
-
-const TOO_SHORT: u32 = 3;
+use refusal::Refusal;
 
 // The refusal's number, 0 for none, and how many pels each plane has.
 #[repr(C)]
-#[derive(Clone, Copy)]
+#[derive(Clone, Copy, Debug, PartialEq, Eq)]
 pub struct Made {
     pub refusal: u32,
     pub pels: usize,
@@ -30,7 +25,7 @@ pub struct Made {
 fn magnitude(shift: i32) -> usize
     ensures { result ≡ nat_abs shift }
 {
-    grid::magnitude(shift as i64) as usize
+    shift.unsigned_abs() as usize
 }
 
 // A shift as the plane takes it: counted from the largest one up or to the left.
@@ -39,7 +34,7 @@ fn biased(shift: i32) -> usize
     ensures { Biased shift result }
 {
     let far = magnitude(shift);
-    if grid::is_negative(shift as i64) {
+    if shift < 0 {
         LARGEST_SHIFT - far
     } else {
         LARGEST_SHIFT + far
@@ -49,10 +44,7 @@ fn biased(shift: i32) -> usize
 fn too_far(dy: i32, dx: i32) -> bool
     ensures { result ≡ too_far dy dx }
 {
-    if LARGEST_SHIFT < magnitude(dy) {
-        return true;
-    }
-    LARGEST_SHIFT < magnitude(dx)
+    LARGEST_SHIFT < magnitude(dy) || LARGEST_SHIFT < magnitude(dx)
 }
 
 fn too_short(sides: Sides, input: usize, reference: usize) -> bool
@@ -60,29 +52,26 @@ fn too_short(sides: Sides, input: usize, reference: usize) -> bool
     ensures { result ≡ too_short sides.width sides.height input reference }
 {
     let pels = sides.height * sides.width;
-    if input < pels {
-        return true;
-    }
-    reference < pels
+    input < pels || reference < pels
 }
 
-// The first row that holds, 0 for none.
-fn refusal_of(sides: Sides, dy: i32, dx: i32, input: usize, reference: usize) -> u32
-    ensures { result ≡ refusal sides.width sides.height dy dx input reference }
+// The first row that holds.
+fn refusal_of(sides: Sides, dy: i32, dx: i32, input: usize, reference: usize) -> Result<(), Refusal>
+    ensures { refusal_number result ≡ refusal sides.width sides.height dy dx input reference }
 {
     let large = search::refusals::too_large(sides.width, sides.height);
     let far = too_far(dy, dx);
     if large {
-        return TOO_LARGE;
+        return Err(Refusal::TooLarge);
     }
     let short = too_short(sides, input, reference);
     if far {
-        return TOO_FAR;
+        return Err(Refusal::TooFar);
     }
     if short {
-        return TOO_SHORT;
+        return Err(Refusal::TooShort);
     }
-    0
+    Ok(())
 }
 
 pub fn make_practice_planes(
@@ -98,14 +87,10 @@ pub fn make_practice_planes(
     ensures input_after { input.new ≡ input_left seed width height dy dx (length reference.old) input.old }
     ensures reference_after { reference.new ≡ reference_left seed width height dy dx (length input.old) reference.old }
 {
-    let sides = Sides {
-        width: width,
-        height: height,
-    };
-    let refusal = refusal_of(sides, dy, dx, input.len(), reference.len());
-    if refusal != 0 {
+    let sides = Sides { width, height };
+    if let Err(refusal) = refusal_of(sides, dy, dx, input.len(), reference.len()) {
         return Made {
-            refusal: refusal,
+            refusal: refusal.number(),
             pels: 0,
         };
     }

@@ -20,41 +20,27 @@ const DY: i32 = 3;
 
 const DX: i32 = -5;
 
-// What a stored motion is above its eighths.
-const MOTION_BIAS: u32 = 223;
+// The same motion in eighths.
+const V_MADE: i32 = 8 * DY;
 
-// The same motion as a word would store it.
-const V_MADE: u32 = (8 * DY + MOTION_BIAS as i32) as u32;
-
-const U_MADE: u32 = (8 * DX + MOTION_BIAS as i32) as u32;
-
-fn print_number(rt: &impl Print, n: u32, after: &str) -> io::Result<()> {
-    print!(rt; "{n}{after}")
-}
+const U_MADE: i32 = 8 * DX;
 
 // A stored motion, in signed eighths.
-fn print_motion(rt: &impl Print, stored: u32, after: &str) -> io::Result<()> {
-    if stored < MOTION_BIAS {
-        rt.print("-")?;
-        return print_number(rt, MOTION_BIAS - stored, after);
-    }
-    print_number(rt, stored - MOTION_BIAS, after)
+fn eighths(stored: u32) -> i64 {
+    i64::from(stored) - i64::from(sample::MOTION_BIAS)
 }
 
 fn print_line(rt: &impl Print, word: u32) -> io::Result<()> {
-    print_number(rt, sample::row_of(word), " ")?;
-    print_number(rt, sample::col_of(word), " ")?;
-    print_motion(rt, sample::v_of(word), " ")?;
-    print_motion(rt, sample::u_of(word), " ")?;
-    print_motion(rt, V_MADE, " ")?;
-    print_motion(rt, U_MADE, "\n")
+    let row = sample::row_of(word);
+    let column = sample::col_of(word);
+    let v = eighths(sample::v_of(word));
+    let u = eighths(sample::u_of(word));
+    println!(rt; "{row} {column} {v} {u} {V_MADE} {U_MADE}")
 }
 
 fn print_lines(rt: &impl Print, words: &[u32]) -> io::Result<()> {
-    let mut i = 0;
-    while i < words.len() {
-        print_line(rt, words[i])?;
-        i += 1;
+    for word in words {
+        print_line(rt, *word)?;
     }
     Ok(())
 }

@@ -22,12 +22,10 @@ fn fill_reference(seed: u32, sides: Sides, reference: &mut [u16])
 {
     let pels = sides.height * sides.width;
     let mut state = seed;
-    let mut i = 0;
-    while i < pels {
+    for i in 0..pels {
         let next = generator::next_state(state);
         reference[i] = generator::upper_half(next);
         state = next;
-        i += 1;
     }
 }
 
@@ -37,11 +35,9 @@ fn move_row(reference: &[u16], row: Place, by: Offset, out: &mut [u16])
     requires width_value { row.width ≡ length out.old }
     ensures { out.new ≡ listing (moved reference.now row by) (length out.old) }
 {
-    let mut c = 0;
-    while c < out.len() {
-        let place = Place { c: c, ..row };
-        out[c] = plane::displaced(reference, place, by, LARGEST_SHIFT);
-        c += 1;
+    for (c, pel) in out.iter_mut().enumerate() {
+        let place = Place { c, ..row };
+        *pel = plane::displaced(reference, place, by, LARGEST_SHIFT);
     }
 }
 
@@ -60,16 +56,14 @@ fn fill_input(reference: &[u16], sides: Sides, by: Offset, input: &mut [u16])
     requires { Moving reference.now sides by (length input.old) }
     ensures { input.new ≡ onto (moved_plane reference.now sides by) input.old }
 {
-    let mut r = 0;
-    while r < sides.height {
+    for r in 0..sides.height {
         let row = Place {
             width: sides.width,
             height: sides.height,
-            r: r,
+            r,
             c: 0,
         };
         place_row(reference, row, by, &mut *input);
-        r += 1;
     }
 }
 

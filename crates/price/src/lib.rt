@@ -7,11 +7,15 @@
 ghost use Rattle.std.specs.Prelude.{◌≡◌, false, ◌+◌, ◌≤◌};
 ghost use Rattle.laws.specs.Buffer.{onto};
 ghost use Rattle.laws.specs.Parts.{listing};
+ghost use Rattle.refusal.specs.Number.{refusal_number};
 ghost use Rattle.price.specs.Prices.{shortest, lengths_of};
 ghost use Rattle.price.specs.Listed.{listed};
 ghost use Rattle.price.specs.Call.{not_coded, price_refusal, no_prices, price_list};
 ghost use Rattle.price.specs.Frame.{frame_price};
-ghost use Rattle.price.specs.Inner.{Bits, Length};
+ghost use Rattle.price.specs.Inner.{Bits, Length, price_of};
+
+use header::Header;
+use refusal::Refusal;
 
 // The types and flags that there are, and the slots of a model.
 const LAST_TYPE: u8 = 3;
@@ -29,17 +33,10 @@ const FIRST_RUNG: u32 = 8;
 // Lengths of the longest list.
 pub const MOST_LENGTHS: usize = 20;
 
-// Rows of the rules' table.
-const NO_SUCH_CODE: u32 = 4;
-
-const NO_SUCH_SLOT: u32 = 5;
-
-const PRIOR_OUT: u32 = 8;
-
 // A row of the table of refusals (0: none); how many lengths are listed; the ordinals whose code has 4
 // bits, 5 and so on, and zeros behind the last length.
 #[repr(C)]
-#[derive(Clone, Copy)]
+#[derive(Clone, Copy, Debug, PartialEq, Eq)]
 pub struct PriceList {
     pub refusal: u32,
     pub lengths: usize,
@@ -48,7 +45,7 @@ pub struct PriceList {
 
 // A row of the table of refusals (0: none), and the bits that a frame's header takes.
 #[repr(C)]
-#[derive(Clone, Copy)]
+#[derive(Clone, Copy, Debug, PartialEq, Eq)]
 pub struct Price {
     pub refusal: u32,
     pub bits: usize,
@@ -57,49 +54,43 @@ pub struct Price {
 pub fn coefficient_prices(gm_type: u8, flag: u8, slot: u8, prior: i32) -> PriceList
     ensures { result ≡ price_list gm_type flag slot prior }
 {
-    let refusal = refusal_of(gm_type, flag, slot, prior);
-    if refusal != 0 {
-        return PriceList {
-            refusal,
+    match refusal_of(gm_type, flag, slot, prior) {
+        Ok(()) => {
+            let bits = grid::global_param_bits(gm_type, flag, slot);
+            PriceList {
+                refusal: 0,
+                lengths: lengths_of(bits.abs_bits),
+                ordinals: ordinals_of(bits.abs_bits),
+            }
+        }
+        Err(refusal) => PriceList {
+            refusal: refusal.number(),
             lengths: 0,
             ordinals: [0; 20],
-        };
-    }
-    let bits = grid::global_param_bits(gm_type, flag, slot);
-    PriceList {
-        refusal: 0,
-        lengths: lengths_of(bits.abs_bits),
-        ordinals: ordinals_of(bits.abs_bits),
+        },
     }
 }
 
-fn refusal_of(gm_type: u8, flag: u8, slot: u8, prior: i32) -> u32
-    ensures { result ≡ price_refusal gm_type flag slot prior }
+#[tactic(auto, unfolding(crate::specs::Call::price_refusal))]
+fn refusal_of(gm_type: u8, flag: u8, slot: u8, prior: i32) -> Result<(), Refusal>
+    ensures { refusal_number result ≡ price_refusal gm_type flag slot prior }
 {
-    if gm_type > LAST_TYPE {
-        return NO_SUCH_CODE;
+    if gm_type > LAST_TYPE || flag > LAST_FLAG {
+        return Err(Refusal::NoSuchCode);
     }
-    if flag > LAST_FLAG {
-        return NO_SUCH_CODE;
+    if not_coded(gm_type, slot) {
+        return Err(Refusal::NotThere);
     }
-    let uncoded = not_coded(gm_type, slot);
-    let out = models::prior_out(slot, prior);
-    if uncoded {
-        return NO_SUCH_SLOT;
+    if models::prior_out(slot, prior) {
+        return Err(Refusal::PriorOut);
     }
-    if out {
-        return PRIOR_OUT;
-    }
-    0
+    Ok(())
 }
 
 fn not_coded(gm_type: u8, slot: u8) -> bool
     ensures { result ≡ not_coded gm_type slot }
 {
-    if slot > LAST_SLOT {
-        return true;
-    }
-    !models::carries_slot(gm_type, slot)
+    slot > LAST_SLOT || !models::carries_slot(gm_type, slot)
 }
 
 // From the shortest to 2 * absBits - 1.
@@ -116,10 +107,8 @@ fn ordinals_of(abs_bits: u32) -> [u32; 20]
 {
     let lengths = lengths_of(abs_bits);
     let mut ordinals = [0u32; 20];
-    let mut j = 0;
-    while j < lengths {
+    for j in 0..lengths {
         ordinals[j] = codes_of(abs_bits, (SHORTEST + j) as u32);
-        j += 1;
     }
     ordinals
 }
@@ -146,27 +135,12 @@ fn codes_of(abs_bits: u32, bits: u32) -> u32
 }
 
 // Of an inter frame: its models and its prior, as the writer judges them at bit 0.
-fn inter_price(types: &[u8], params: &[i32], flag: u8, prior: &[i32]) -> Price
-    ensures { result ≡ frame_price false types.now params.now flag prior.now }
+fn inter_bits(header: Header) -> Result<usize, Refusal>
+    ensures { price_of result ≡ frame_price false header.entry.types.now header.entry.params.now header.entry.flag header.entry.prior.now }
 {
-    let codes = header::code_refusal(types, params, flag, prior);
-    if codes != 0 {
-        return Price {
-            refusal: codes,
-            bits: 0,
-        };
-    }
-    let handed = header::model_refusal(0, types, params, flag, prior);
-    if handed != 0 {
-        return Price {
-            refusal: handed,
-            bits: 0,
-        };
-    }
-    Price {
-        refusal: 0,
-        bits: header::header_length(types, params, flag, prior),
-    }
+    header.code_refusal()?;
+    header.model_refusal(0)?;
+    Ok(header.length())
 }
 
 // Seven types and models in rising order of reference, the flag and a prior for each number; of a key
@@ -175,8 +149,19 @@ pub fn frame_price(intra: bool, types: &[u8], params: &[i32], flag: u8, prior: &
     ensures { result ≡ frame_price intra types.now params.now flag prior.now }
 {
     if intra {
-        let refusal = key_frame::key_refusal(0, types, params, flag);
+        let refusal = refusal::refusal_number(key_frame::key_refusal(0, types, params, flag));
         return Price { refusal, bits: 0 };
     }
-    inter_price(types, params, flag, prior)
+    match inter_bits(Header {
+        types,
+        params,
+        flag,
+        prior,
+    }) {
+        Ok(bits) => Price { refusal: 0, bits },
+        Err(refusal) => Price {
+            refusal: refusal.number(),
+            bits: 0,
+        },
+    }
 }

@@ -8,6 +8,8 @@ use borrow.Author.Tests.{le-ltb}
 use lib.ListN.{length}
 use Rattle.laws.specs.Loops.{fold}
 use Rattle.laws.proofs.Call.{answered-refused}
+use Rattle.laws.proofs.Refusal.{or-else-quiet}
+use Rattle.fit.specs.Fitted.{list_refusal}
 use Rattle.sample.specs.declared.MotionSample.{MotionSample}
 use Rattle.fit.specs.declared.Fitted.{Fitted}
 use Rattle.fit.specs.declared.TranslationSums.{TranslationSums}
@@ -15,7 +17,7 @@ use Rattle.fit.specs.Sums.{reading, no_sums}
 use Rattle.quantize.specs.declared.Linear.{Linear}
 use Rattle.quantize.specs.declared.Quantized.{Quantized}
 use Rattle.quantize.specs.declared.Refitting.{Refitting}
-use Rattle.quantize.specs.Quantize.{linear_of, continuous_linear, refit_totals, refitted_from, params_from, quantize_refusal, quantized_as, refused_model, quantized_from}
+use Rattle.quantize.specs.Quantize.{linear_of, continuous_linear, refit_totals, refitted_from, params_from, model_refusal, quantize_refusal, quantized_as, refused_model, quantized_from}
 use Rattle.quantize.specs.Inner.{refit_step, refitting_from, linear_unless_refused, refitting_begun, refitting_step, refitting_ends}
 use Rattle.quantize.proofs.Accepted.{accepted}
 use Rattle.quantize.proofs.Leftover.{refit-sums}
@@ -72,3 +74,9 @@ module _ {A : Type 0} (read : A → MotionSample) where
       -- the whole list
       pub walk_ends : refitting_ends (walked xs) n ≡ quantized_from read f flag xs
       walk_ends = either_way (quantize_refusal f flag n) refl
+
+      -- a list that is too long needs no walk: its refusal answers
+      pub unwalked_ends : (list_refusal n ≡ 0 → ⊥) → refitting_ends (refitting_begun f flag) n ≡ quantized_from read f flag xs
+      unwalked_ends h =
+          let no : (quantize_refusal f flag n ≡ 0 → ⊥) = λ z. h (or-else-quiet (list_refusal n) (model_refusal f flag) z).0 in
+          walk_refused n no [] ∙ sym (answered-refused refused_model (quantize_refusal f flag n) (quantized_as 0 (params_from read f flag xs)) no)

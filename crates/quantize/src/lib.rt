@@ -4,12 +4,16 @@
 #![tactic(auto)]
 
 ghost use Rattle.std.specs.Prelude.{◌≡◌, ◌≤◌, nat_abs, length};
+ghost use Rattle.refusal.specs.Number.{number_of, refusal_number};
+ghost use Rattle.laws.specs.Loops.{fold};
 ghost use Rattle.sample.specs.Word.{most_samples};
+ghost use Rattle.fit.specs.Sums.{itself};
 ghost use Rattle.quantize.specs.Quantize.{slot_of, rot_zoom_linear, identity_linear, linear_of, continuous_linear, mean_motion, refitted, params_of, params};
-ghost use Rattle.quantize.specs.Quantize.{model_refusal, quantize_refusal, refused_model, quantized_model, row_first};
+ghost use Rattle.quantize.specs.Quantize.{model_refusal, quantize_refusal, refused_model, quantized_from, quantized_model, row_first};
 ghost use Rattle.quantize.specs.Inner.{refit_step, refit_sums, linear_unless_refused, refitting_begun, refitting_step, refitting_ends, Accepted};
 
-use fit::{AFFINE, Fitted, NO_SUCH_CODE, ROTZOOM, TRANSLATION, TranslationSums};
+use fit::{AFFINE, FitSums, Fitted, ROTZOOM, TRANSLATION, TranslationSums};
+use refusal::Refusal;
 use sample::MotionSample;
 use score::ContinuousModel;
 
@@ -42,7 +46,7 @@ pub struct Refitting {
 
 // A row of the table of refusals (0: none), and the quantized model, x first.
 #[repr(C)]
-#[derive(Clone, Copy)]
+#[derive(Clone, Copy, Debug, PartialEq, Eq)]
 pub struct Quantized {
     pub refusal: u32,
     pub params: [i32; 6],
@@ -86,24 +90,12 @@ fn linear_of(fitted: Fitted, flag: u8) -> Linear
 {
     match fitted {
         Fitted::Refused(_) => identity_linear(),
-        Fitted::Translation { m0: _, m1: _ } => identity_linear(),
-        Fitted::RotZoom {
-            m0: _,
-            m1: _,
-            m2,
-            m3,
-        } => rotzoom_linear(
+        Fitted::Translation { .. } => identity_linear(),
+        Fitted::RotZoom { m2, m3, .. } => rotzoom_linear(
             quantized_slot(ROTZOOM, flag, 2, m2),
             quantized_slot(ROTZOOM, flag, 3, m3),
         ),
-        Fitted::Affine {
-            m0: _,
-            m1: _,
-            m2,
-            m3,
-            m4,
-            m5,
-        } => Linear {
+        Fitted::Affine { m2, m3, m4, m5, .. } => Linear {
             p2: quantized_slot(AFFINE, flag, 2, m2),
             p3: quantized_slot(AFFINE, flag, 3, m3),
             p4: quantized_slot(AFFINE, flag, 4, m4),
@@ -137,12 +129,10 @@ pub fn refit_step(m: ContinuousModel, t: TranslationSums, s: MotionSample) -> Tr
 fn refit_sums(m: ContinuousModel, words: &[u32]) -> TranslationSums
     ensures { result ≡ refit_sums m words.now }
 {
-    let mut t = fit::translation_begin();
+    let mut t = TranslationSums::begin();
     let centres = sample::centres();
-    let mut i = 0usize;
-    while i < words.len() {
-        t = refit_step(m, t, sample::sample_by(&centres, words[i]));
-        i += 1;
+    for word in words {
+        t = refit_step(m, t, sample::sample_by(&centres, *word));
     }
     t
 }
@@ -188,34 +178,28 @@ fn model_params(fitted: Fitted, flag: u8, words: &[u32]) -> [i32; 6]
 }
 
 // Row 4: no fitted model, or no such flag.
-fn model_refusal(fitted: Fitted, flag: u8) -> u32
-    ensures { result ≡ model_refusal fitted flag }
+fn model_refusal(fitted: Fitted, flag: u8) -> Result<(), Refusal>
+    ensures { refusal_number result ≡ model_refusal fitted flag }
 {
-    if fit::type_of(fitted) == 0 {
-        return NO_SUCH_CODE;
+    if fit::type_of(fitted) == 0 || flag > 1 {
+        return Err(Refusal::NoSuchCode);
     }
-    if flag > 1 {
-        return NO_SUCH_CODE;
-    }
-    0
+    Ok(())
 }
 
-fn quantize_refusal(fitted: Fitted, flag: u8, samples: usize) -> u32
-    ensures { result ≡ quantize_refusal fitted flag samples }
+fn quantize_refusal(fitted: Fitted, flag: u8, samples: usize) -> Result<(), Refusal>
+    ensures { refusal_number result ≡ quantize_refusal fitted flag samples }
 {
-    let first = fit::list_refusal(samples);
-    if first != 0 {
-        return first;
-    }
+    fit::list_refusal(samples)?;
     model_refusal(fitted, flag)
 }
 
-fn refused_model(number: u32) -> Quantized
-    ensures { result ≡ refused_model number }
+fn refused_model(refusal: Refusal) -> Quantized
+    ensures { result ≡ refused_model (number_of refusal) }
 {
     let params = [0i32; 6];
     Quantized {
-        refusal: number,
+        refusal: refusal.number(),
         params,
     }
 }
@@ -223,12 +207,13 @@ fn refused_model(number: u32) -> Quantized
 pub fn quantize_model(fitted: Fitted, flag: u8, words: &[u32]) -> Quantized
     ensures { result ≡ quantized_model fitted flag words.now }
 {
-    let refusal = quantize_refusal(fitted, flag, words.len());
-    if refusal != 0 {
-        return refused_model(refusal);
+    match quantize_refusal(fitted, flag, words.len()) {
+        Err(refusal) => refused_model(refusal),
+        Ok(()) => {
+            let params = model_params(fitted, flag, words);
+            Quantized { refusal: 0, params }
+        }
     }
-    let params = model_params(fitted, flag, words);
-    Quantized { refusal: 0, params }
 }
 
 fn linear_unless_refused(fitted: Fitted, flag: u8) -> Linear
@@ -247,7 +232,7 @@ pub fn refit_begin(fitted: Fitted, flag: u8) -> Refitting
 {
     let linear = linear_unless_refused(fitted, flag);
     let m = continuous_linear(linear);
-    let sums = fit::translation_begin();
+    let sums = TranslationSums::begin();
     Refitting {
         fitted,
         flag,
@@ -279,17 +264,39 @@ pub fn refit_ends(t: Refitting, samples: usize) -> Quantized
     let fitted = t.fitted;
     let linear = t.linear;
     let sums = t.sums;
-    let refusal = quantize_refusal(fitted, t.flag, samples);
-    if refusal != 0 {
-        return refused_model(refusal);
+    match quantize_refusal(fitted, t.flag, samples) {
+        Err(refusal) => refused_model(refusal),
+        Ok(()) => {
+            let params = params_of(
+                fit::type_of(fitted),
+                t.flag,
+                linear,
+                mean_motion(sums, samples),
+            );
+            Quantized { refusal: 0, params }
+        }
     }
-    let params = params_of(
-        fit::type_of(fitted),
-        t.flag,
-        linear,
-        mean_motion(sums, samples),
-    );
-    Quantized { refusal: 0, params }
+}
+
+fn refit_walk(begun: Refitting, samples: &[MotionSample]) -> Refitting
+    ensures { result ≡ fold refitting_step samples.now begun }
+{
+    let mut t = begun;
+    for s in samples {
+        t = refitting_step(t, *s);
+    }
+    t
+}
+
+// The quantized model over samples themselves; a list that is too long isn't walked.
+pub fn quantize_samples(fitted: Fitted, flag: u8, samples: &[MotionSample]) -> Quantized
+    ensures { result ≡ quantized_from itself fitted flag samples.now }
+{
+    let begun = refit_begin(fitted, flag);
+    match fit::list_refusal(samples.len()) {
+        Err(_) => refit_ends(begun, samples.len()),
+        Ok(()) => refit_ends(refit_walk(begun, samples), samples.len()),
+    }
 }
 
 // A TRANSLATION is stored row first: slots 0 and 1 change places, and the same takes them back.
@@ -297,11 +304,8 @@ pub fn row_first(gm_type: u8, params: [i32; 6]) -> [i32; 6]
     ensures { result ≡ row_first gm_type params }
 {
     if gm_type == TRANSLATION {
-        let x = params[0];
-        let y = params[1];
         let mut stored = params;
-        stored[0] = y;
-        stored[1] = x;
+        stored.swap(0, 1);
         return stored;
     }
     params

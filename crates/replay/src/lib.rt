@@ -1,248 +1,215 @@
-// What the programs that replay a stored list of questions and answers share: a list opened and
-// ended, its big-endian words, floats, samples and models, guarded buffers of pels, what a call is
-// handed, and the lines that they print.
+// What the programs that replay a stored list of questions and answers share: a list, read as words, floats,
+// samples and models; guarded buffers; what a call is handed; and the cases of a list tried in turn.
 #![tactic(auto)]
 
-ghost use Rattle.std.specs.Prelude.{◌≡◌, ◌+◌, ◌*◌, ◌≤◌, IfOk};
-ghost use Rattle.std.specs.Int.{w32};
-ghost use Rattle.std.proofs.Common.{to_z};
+ghost use Rattle.std.specs.Prelude.{◌≡◌, ◌≤◌, IfOk};
 
 use sample::MotionSample;
+use std::alloc::{AllocError, Global};
 use std::rt::Files;
-use std::{fs, io};
+use std::{array, fs, io, num, vec};
+
+// What guarded buffers hold: a call must leave these where it doesn't write.
+pub const UNTOUCHED_BYTE: u8 = 165;
 
 pub const UNTOUCHED_PEL: u16 = 42405;
 
-// The bits that the lists have for every not-a-number.
-const NOT_A_NUMBER: u64 = 0x7ff8_0000_0000_0000;
+pub const UNTOUCHED_WORD: u32 = 2779096485;
 
-const INFINITY: u64 = 0x7ff0_0000_0000_0000;
-
-const SIGN: u64 = 0x8000_0000_0000_0000;
+// The numbers of the identity model.
+pub const IDENTITY: [i32; 6] = [0, 0, 65536, 0, 0, 65536];
 
 // One sample more than a call may be handed.
 pub const OVER: usize = 4097;
 
-// A list's bytes, and how many of them have been read.
+// The bytes of a list that are still to be read; behind its end come zeros.
 #[derive(Drop)]
 pub struct List {
-    bytes: Vec<u8>,
-    read: usize,
+    bytes: vec::IntoIter<u8>,
+    alloc: Global,
 }
 
-// The next byte of a list; 0 where the list has ended.
-fn next_byte(list: &mut List) -> u8 {
-    if list.read < list.bytes.len() {
-        let byte = list.bytes[list.read];
-        list.read += 1;
-        return byte;
+impl List {
+    pub fn next_byte(&mut self) -> u8 {
+        self.bytes.next().unwrap_or(0)
     }
-    0
-}
 
-// Bytes as the list has them.
-pub fn next_bytes(list: &mut List, bytes: &mut [u8]) {
-    let mut i = 0;
-    while i < bytes.len() {
-        bytes[i] = next_byte(list);
-        i += 1;
+    pub fn next_bytes<const N: usize>(&mut self) -> [u8; N] {
+        array::from_fn(|_| self.next_byte())
     }
-}
 
-// The next four bytes of a list, high byte first; 0 where the list has ended.
-pub fn next_word(list: &mut List) -> u32 {
-    let a = next_byte(list);
-    let b = next_byte(list);
-    let c = next_byte(list);
-    let d = next_byte(list);
-    joined(a, b, c, d)
-}
-
-fn joined(a: u8, b: u8, c: u8, d: u8) -> u32
-    ensures { result ≡ a * 16777216 + b * 65536 + c * 256 + d }
-{
-    a as u32 * 16777216 + b as u32 * 65536 + c as u32 * 256 + d as u32
-}
-
-// The signed number of 32 bits.
-pub fn signed(word: u32) -> i32
-    ensures { result ≡ to_z w32 word }
-{
-    if word < 0x8000_0000 {
-        word as i32
-    } else {
-        (word as i64 - 0x1_0000_0000) as i32
+    // Four bytes, high byte first.
+    pub fn next_word(&mut self) -> u32 {
+        u32::from_be_bytes(self.next_bytes())
     }
-}
 
-// Words as the list has them.
-pub fn next_words(list: &mut List, words: &mut [u32]) {
-    let mut i = 0;
-    while i < words.len() {
-        words[i] = next_word(list);
-        i += 1;
+    pub fn next_number(&mut self) -> i32 {
+        self.next_word().cast_signed()
     }
-}
 
-// A code, which a word of the list holds.
-pub fn next_code(list: &mut List) -> u8 {
-    (next_word(list) % 256) as u8
-}
-
-// The six numbers of a model.
-pub fn next_params(list: &mut List) -> [i32; 6] {
-    let p0 = signed(next_word(list));
-    let p1 = signed(next_word(list));
-    let p2 = signed(next_word(list));
-    let p3 = signed(next_word(list));
-    let p4 = signed(next_word(list));
-    let p5 = signed(next_word(list));
-    [p0, p1, p2, p3, p4, p5]
-}
-
-pub fn same_params(p: [i32; 6], w: [i32; 6]) -> bool {
-    p[0] == w[0] && p[1] == w[1] && p[2] == w[2] && p[3] == w[3] && p[4] == w[4] && p[5] == w[5]
-}
-
-// The bits of a float, two words of the list.
-pub fn next_bits(list: &mut List) -> u64 {
-    let high = next_word(list) as u64;
-    let low = next_word(list) as u64;
-    high * 0x1_0000_0000 + low
-}
-
-pub fn next_float(list: &mut List) -> f64 {
-    let bits = next_bits(list);
-    if bits % SIGN > INFINITY {
-        return 0.0 / 0.0;
+    pub fn next_numbers<const N: usize>(&mut self) -> [i32; N] {
+        array::from_fn(|_| self.next_number())
     }
-    f64::from_bits(bits)
-}
 
-pub fn same_float(x: f64, wanted: u64) -> bool {
-    if x != x {
-        return wanted == NOT_A_NUMBER;
+    pub fn next_size(&mut self) -> usize {
+        self.next_word() as usize
     }
-    f64::to_bits(x) == wanted
-}
 
-fn next_sample(list: &mut List) -> MotionSample {
-    let x = next_float(list);
-    let y = next_float(list);
-    let u = next_float(list);
-    let v = next_float(list);
-    MotionSample { x, y, u, v }
-}
+    // A code or a pel, which a word of the list holds.
+    pub fn next_code(&mut self) -> u8 {
+        (self.next_word() % 256) as u8
+    }
 
-// So many samples are written out, and come round again.
-pub fn next_samples(list: &mut List, written: usize) -> [MotionSample; 4097] {
-    let still = MotionSample {
-        x: 0.0,
-        y: 0.0,
-        u: 0.0,
-        v: 0.0,
-    };
-    let mut samples = [still; 4097];
-    let mut i = 0usize;
-    while i < OVER {
-        if i < written {
-            samples[i] = next_sample(list);
-        } else {
-            samples[i] = samples[i - written];
+    pub fn next_codes<const N: usize>(&mut self) -> [u8; N] {
+        array::from_fn(|_| self.next_code())
+    }
+
+    pub fn next_pel(&mut self) -> u16 {
+        (self.next_word() % 65536) as u16
+    }
+
+    pub fn fill_pels(&mut self, pels: &mut [u16]) {
+        for pel in pels {
+            *pel = self.next_pel();
         }
-        i += 1;
     }
-    samples
-}
 
-pub fn least(a: usize, b: usize) -> usize
-    ensures { (result ≤ a) × (result ≤ b) }
-{
-    if a < b { a } else { b }
-}
-
-// ---- guarded buffers of pels
-
-// Guards a buffer: a call must leave this where it doesn't write.
-pub fn guard(pels: &mut [u16]) {
-    let mut i = 0;
-    while i < pels.len() {
-        pels[i] = UNTOUCHED_PEL;
-        i += 1;
+    // The bits of a float, two words of the list.
+    pub fn next_bits(&mut self) -> u64 {
+        u64::from_be_bytes(self.next_bytes())
     }
-}
 
-fn untouched(pels: &[u16]) -> bool {
-    let mut i = 0;
-    while i < pels.len() {
-        if pels[i] != UNTOUCHED_PEL {
-            return false;
+    pub fn next_float(&mut self) -> f64 {
+        num::f64_from_bits_with_nan(self.next_bits())
+    }
+
+    pub fn next_floats<const N: usize>(&mut self) -> [f64; N] {
+        array::from_fn(|_| self.next_float())
+    }
+
+    // So many items.
+    pub fn next_vec<T: Drop, F: FnMut(&mut List) -> T>(
+        &mut self,
+        count: usize,
+        mut next: F,
+    ) -> Result<Vec<T>, AllocError>
+        requires { F.IsAlwaysCallable next }
+    {
+        let mut items = Vec::new(self.alloc);
+        for _ in 0..count {
+            items.push(next(self))?;
         }
-        i += 1;
+        Ok(items)
     }
-    true
+
+    // A count, and so many items; what is beyond the most isn't read.
+    pub fn next_counted<T: Drop, F: FnMut(&mut List) -> T>(
+        &mut self,
+        most: usize,
+        next: F,
+    ) -> Result<Vec<T>, AllocError>
+        requires { F.IsAlwaysCallable next }
+    {
+        let count = self.next_size();
+        self.next_vec(count.min(most), next)
+    }
+
+    fn next_sample(&mut self) -> MotionSample {
+        MotionSample {
+            x: self.next_float(),
+            y: self.next_float(),
+            u: self.next_float(),
+            v: self.next_float(),
+        }
+    }
+
+    // So many samples, of which the first are written out, and come round again; of none written all are zeros.
+    pub fn next_samples(
+        &mut self,
+        count: usize,
+        written: usize,
+    ) -> Result<Vec<MotionSample>, AllocError> {
+        let mut listed = self.next_vec(written, |list| list.next_sample())?;
+        if listed.is_empty() {
+            listed.push(MotionSample {
+                x: 0.0,
+                y: 0.0,
+                u: 0.0,
+                v: 0.0,
+            })?;
+        }
+        listed
+            .iter()
+            .copied()
+            .cycle()
+            .take(count)
+            .collect(self.alloc)
+    }
+
+    // The first words are those of the list, the others are as they were.
+    pub fn words_hold(&mut self, words: &[u32], written: usize) -> bool {
+        let (listed, rest) = words.split_at(written.min(words.len()));
+        let mut right = all_are(rest, UNTOUCHED_WORD);
+        for word in listed {
+            right &= self.next_word() == *word;
+        }
+        right
+    }
 }
 
-fn wide(pel: u16) -> u32 {
-    pel as u32
+// The bits of floats; of a not-a-number those that the lists have for each.
+pub fn bits_of<const N: usize>(numbers: [f64; N]) -> [u64; N] {
+    array::from_fn(|i| num::f64_to_bits_with_nan(numbers[i]))
+}
+
+// ---- buffers, and what a call is handed
+
+// The first of a buffer, or all of it where there are fewer.
+pub fn first<T>(items: &[T], count: usize) -> &[T] {
+    &items[..count.min(items.len())]
+}
+
+pub fn first_mut<T>(items: &mut [T], count: usize) -> &mut [T] {
+    let end = count.min(items.len());
+    &mut items[..end]
+}
+
+pub fn all_are<T: Copy + PartialEq>(items: &[T], item: T) -> bool {
+    items.iter().all(|each| *each == item)
 }
 
 // A sum that depends on the order.
-fn sum_of_pels(pels: &[u16]) -> u32 {
-    let mut sum = 1u32;
-    let mut i = 0;
-    while i < pels.len() {
-        sum = generator::next_state(std::num::wrapping_add_u32(sum, wide(pels[i])));
-        i += 1;
-    }
-    sum
+pub fn sum_of<T: Copy + Into<u32>>(items: &[T]) -> u32 {
+    items.iter().fold(1, |sum: u32, item| {
+        generator::next_state(sum.wrapping_add((*item).into()))
+    })
 }
 
 // The first values have this sum, the others are as they were.
 pub fn plane_holds(pels: &[u16], written: usize, sum: u32) -> bool {
-    let end = least(written, pels.len());
-    sum_of_pels(&pels[0..end]) == sum && untouched(&pels[end..])
-}
-
-// ---- what a call is handed
-
-// Pels as the list has them.
-pub fn next_pels(list: &mut List, plane: &mut [u16]) {
-    let mut i = 0;
-    while i < plane.len() {
-        plane[i] = (next_word(list) % 65536) as u16;
-        i += 1;
-    }
+    let (used, rest) = pels.split_at(written.min(pels.len()));
+    sum_of(used) == sum && all_are(rest, UNTOUCHED_PEL)
 }
 
 // The classes 0 to 4 in turn.
-pub fn fill_classes(classes: &mut [u8]) {
-    let mut i = 0;
-    while i < classes.len() {
-        classes[i] = (i % 5) as u8;
-        i += 1;
-    }
-}
-
-fn identity_at(slot: usize) -> i32 {
-    if slot == 2 || slot == 5 { 65536 } else { 0 }
+pub fn classes<const N: usize>() -> [u8; N] {
+    array::from_fn(|i| (i % 5) as u8)
 }
 
 // Identity models, six numbers each.
-pub fn fill_identity(numbers: &mut [i32]) {
-    let mut i = 0;
-    while i < numbers.len() {
-        numbers[i] = identity_at(i % 6);
-        i += 1;
-    }
+pub fn identity<const N: usize>() -> [i32; N] {
+    array::from_fn(|i| IDENTITY[i % 6])
 }
 
-// ---- lines
+// ---- cases
 
 // Opens a list; says so where it can't, and answers none.
 pub fn open_list<R: Files + Eprint + AllocGlobal>(rt: &R, file: &str) -> io::Result<Option<List>> {
     match fs::read(rt, file) {
-        Ok(bytes) => Ok(Some(List { bytes, read: 0 })),
+        Ok(bytes) => Ok(Some(List {
+            bytes: bytes.into_iter(),
+            alloc: rt.alloc(),
+        })),
         Err(error) => {
             eprintln!(rt; "{file}: {error}")?;
             Ok(None)
@@ -250,58 +217,44 @@ pub fn open_list<R: Files + Eprint + AllocGlobal>(rt: &R, file: &str) -> io::Res
     }
 }
 
-// 1 for a case that failed, which gets a line.
+// 1 for a case that failed, which gets a line: the list's name and the case's number.
 pub fn failed(rt: &impl Print, name: &str, case: u64, holds: bool) -> io::Result<u64>
     ensures { IfOk result (λ n. n ≤ 1) }
 {
     if holds {
         return Ok(0);
     }
-    print_failure(rt, name, case)?;
+    println!(rt; "{name}: wrong at {case}")?;
     Ok(1)
 }
 
-// Ends a list with its last line.
-pub fn end_list(
-    rt: &impl Print,
-    list: List,
+// Tries so many cases, each with what they share; the last line says how many failed.
+pub fn try_cases<S, P: Print, F: FnMut(&mut S, u64) -> io::Result<bool>>(
+    rt: &P,
+    shared: &mut S,
     name: &str,
-    tried: u64,
-    failed: u64,
-) -> io::Result<()> {
-    drop(list);
-    print_count(rt, name, tried, failed)
-}
-
-// A line for a case that failed: the list's name and the case's number.
-pub fn print_failure(rt: &impl Print, name: &str, case: u64) -> io::Result<()> {
-    println!(rt; "{name}: wrong at {case}")
-}
-
-// The last line: how many cases were tried, and how many failed.
-pub fn print_count(rt: &impl Print, name: &str, tried: u64, failed: u64) -> io::Result<()> {
-    println!(rt; "{name}: {tried} tried, {failed} failed")
-}
-
-// ---- numbers of a list, and answers that hold none
-
-// Signed numbers as the list has them.
-pub fn next_numbers(list: &mut List, numbers: &mut [i32]) {
-    let mut i = 0;
-    while i < numbers.len() {
-        numbers[i] = signed(next_word(list));
-        i += 1;
+    count: u64,
+    mut holds: F,
+) -> io::Result<()>
+    requires { F.IsAlwaysCallable holds }
+{
+    let mut failures = 0;
+    for case in 0..count {
+        failures += failed(rt, name, case, holds(shared, case)?)?;
     }
+    println!(rt; "{name}: {count} tried, {failures} failed")
 }
 
-// Every type is 0, as a refused call leaves them.
-pub fn types_zero(types: &[u8]) -> bool {
-    let mut i = 0;
-    while i < types.len() {
-        if types[i] != 0 {
-            return false;
-        }
-        i += 1;
-    }
-    true
+// Tries the cases of a list, whose first word is their number.
+pub fn replay_list<
+    R: Files + Print + Eprint + AllocGlobal,
+    F: FnMut(&mut List, u64) -> io::Result<bool>,
+>(rt: &R, file: &str, name: &str, holds: F) -> io::Result<()>
+    requires { F.IsAlwaysCallable holds }
+{
+    let Some(mut list) = open_list(rt, file)? else {
+        return Ok(());
+    };
+    let count = u64::from(list.next_word());
+    try_cases(rt, &mut list, name, count, holds)
 }

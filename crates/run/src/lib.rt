@@ -4,22 +4,19 @@
 #![tactic(auto)]
 
 ghost use Rattle.std.specs.Prelude.{◌≡◌};
+ghost use Rattle.refusal.specs.Number.{refusal_number};
 ghost use Rattle.run.specs.Run.{run_of, codes_wrong, run_refusal, no_run, started, switch_refusal, switched_to, switched};
 
 use forms::FORM2;
+use refusal::Refusal;
 
 // The switch codes: 0 and 1 are flags, 2 goes over to form 2.
 const TO_FORM2: u8 = 2;
 
 const LAST_FLAG: u8 = 1;
 
-// Rows of the rules' table.
-const NO_SUCH_CODE: u32 = 4;
-
-const PRIOR_OUT: u32 = 8;
-
 #[repr(C)]
-#[derive(Clone, Copy)]
+#[derive(Clone, Copy, Debug, PartialEq, Eq)]
 pub struct Run {
     pub prior: [i32; 42],
     pub flag: u8,
@@ -28,7 +25,7 @@ pub struct Run {
 
 // What `start` and `switch` answer: the refusal, 0 for none, and the run.
 #[repr(C)]
-#[derive(Clone, Copy)]
+#[derive(Clone, Copy, Debug, PartialEq, Eq)]
 pub struct Moved {
     pub refusal: u32,
     pub run: Run,
@@ -37,24 +34,21 @@ pub struct Moved {
 pub fn codes_wrong(flag: u8, form: u32) -> bool
     ensures { result ≡ codes_wrong flag form }
 {
-    if LAST_FLAG < flag {
-        return true;
-    }
-    forms::no_form(form)
+    LAST_FLAG < flag || forms::no_form(form)
 }
 
-// The refusal of a run handed in, 0 for none.
-pub fn refusal_of(run: Run) -> u32
-    ensures { result ≡ run_refusal run }
+// Of a run handed in.
+pub fn refusal_of(run: Run) -> Result<(), Refusal>
+    ensures { refusal_number result ≡ run_refusal run }
 {
     if codes_wrong(run.flag, run.form) {
-        return NO_SUCH_CODE;
+        return Err(Refusal::NoSuchCode);
     }
     let prior = run.prior;
     if models::priors_out(&prior) {
-        return PRIOR_OUT;
+        return Err(Refusal::PriorOut);
     }
-    0
+    Ok(())
 }
 
 // What a refused start gives: form 0 is refused ever after.
@@ -76,7 +70,7 @@ pub fn start(flag: u8, form: u32) -> Moved
     if codes_wrong(flag, form) {
         let run = no_run();
         return Moved {
-            refusal: NO_SUCH_CODE,
+            refusal: Refusal::NoSuchCode.number(),
             run,
         };
     }
@@ -85,11 +79,12 @@ pub fn start(flag: u8, form: u32) -> Moved
     Moved { refusal: 0, run }
 }
 
-fn switch_refusal(run: Run, code: u8) -> u32
-    ensures { result ≡ switch_refusal run code }
+#[tactic(auto, unfolding(crate::specs::Run::switch_refusal))]
+fn switch_refusal(run: Run, code: u8) -> Result<(), Refusal>
+    ensures { refusal_number result ≡ switch_refusal run code }
 {
     if TO_FORM2 < code {
-        return NO_SUCH_CODE;
+        return Err(Refusal::NoSuchCode);
     }
     refusal_of(run)
 }
@@ -116,14 +111,18 @@ fn switched_to(run: Run, code: u8) -> Run
 pub fn switch(run: Run, code: u8) -> Moved
     ensures { result ≡ switched run code }
 {
-    let refusal = switch_refusal(run, code);
-    if refusal != 0 {
-        return Moved { refusal, run };
-    }
-    let next = switched_to(run, code);
-    Moved {
-        refusal: 0,
-        run: next,
+    match switch_refusal(run, code) {
+        Ok(()) => {
+            let next = switched_to(run, code);
+            Moved {
+                refusal: 0,
+                run: next,
+            }
+        }
+        Err(refusal) => Moved {
+            refusal: refusal.number(),
+            run,
+        },
     }
 }
 

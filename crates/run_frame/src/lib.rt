@@ -5,46 +5,40 @@
 
 ghost use Rattle.std.specs.Prelude.{◌≡◌, length};
 ghost use Rattle.laws.specs.Refusal.{judge};
+ghost use Rattle.refusal.specs.Number.{refusal_number};
 ghost use Rattle.run_frame.specs.Inner.{reader_rows};
 ghost use Rattle.run_frame.specs.Frame.{first_rows, not_framed, framed, framed_left, read_in};
 
 use header::Written;
 use header_read::Models;
-use models::NUMBERS;
+use refusal::Refusal;
 use run::Run;
 
-// Rows of the rules' table.
-const WRONG_LENGTH: u32 = 2;
-
-const NO_SUCH_CODE: u32 = 4;
-
-const PRIOR_OUT: u32 = 8;
-
 #[repr(C)]
-#[derive(Clone, Copy)]
+#[derive(Clone, Copy, Debug, PartialEq, Eq)]
 pub struct Framed {
     pub written: Written,
     pub run: Run,
 }
 
 #[repr(C)]
-#[derive(Clone, Copy)]
+#[derive(Clone, Copy, Debug, PartialEq, Eq)]
 pub struct FrameModels {
     pub models: Models,
     pub run: Run,
 }
 
 // Lengths, and the run's flag and form.
-fn first_refusal(run: Run, types: usize, params: usize) -> u32
-    ensures { result ≡ judge (first_rows run types params) }
+fn first_refusal(run: Run, types: usize, params: usize) -> Result<(), Refusal>
+    ensures { refusal_number result ≡ judge (first_rows run types params) }
 {
     if key_frame::key_lengths_wrong(types, params) {
-        return WRONG_LENGTH;
+        return Err(Refusal::WrongLength);
     }
     if run::codes_wrong(run.flag, run.form) {
-        return NO_SUCH_CODE;
+        return Err(Refusal::NoSuchCode);
     }
-    0
+    Ok(())
 }
 
 fn not_framed(run: Run, refusal: u32) -> Framed
@@ -60,11 +54,7 @@ fn prior_from(params: &[i32]) -> [i32; 42]
     ensures { result ≡ params.now }
 {
     let mut out = [0i32; 42];
-    let mut i = 0usize;
-    while i < NUMBERS {
-        out[i] = params[i];
-        i += 1;
-    }
+    out.copy_from_slice(params);
     out
 }
 
@@ -81,9 +71,8 @@ pub fn frame(
     ensures value { result ≡ framed run intra types.now params.now start (length header.old) }
     ensures header_after { header.new ≡ framed_left run intra types.now params.now start header.old }
 {
-    let refusal = first_refusal(run, types.len(), params.len());
-    if refusal != 0 {
-        return not_framed(run, refusal);
+    if let Err(refusal) = first_refusal(run, types.len(), params.len()) {
+        return not_framed(run, refusal.number());
     }
     let prior = run.prior;
     let written = frame_header::encode_global_motion(
@@ -93,7 +82,7 @@ pub fn frame(
         return not_framed(run, written.refusal);
     }
     if models::priors_out(&prior) {
-        return not_framed(run, PRIOR_OUT);
+        return not_framed(run, Refusal::PriorOut.number());
     }
     let next = run::step_to(run, prior_from(params));
     Framed { written, run: next }
@@ -101,25 +90,24 @@ pub fn frame(
 
 // Of a run handed to a reader: its flag and form, and the prior where the plain call won't judge it, at a
 // key frame.
-fn read_refusal(run: Run, intra: bool) -> u32
-    ensures { result ≡ judge (reader_rows run intra) }
+fn read_refusal(run: Run, intra: bool) -> Result<(), Refusal>
+    ensures { refusal_number result ≡ judge (reader_rows run intra) }
 {
     if run::codes_wrong(run.flag, run.form) {
-        return NO_SUCH_CODE;
+        return Err(Refusal::NoSuchCode);
     }
     if intra {
         return run::refusal_of(run);
     }
-    0
+    Ok(())
 }
 
 // The models of a frame that was written in a run, read with a run begun alike: they are its next prior.
 pub fn read(run: Run, intra: bool, header: &[u8], at: usize) -> FrameModels
     ensures { result ≡ read_in run intra header.now at }
 {
-    let refusal = read_refusal(run, intra);
-    if refusal != 0 {
-        let models = header_read::no_models(refusal);
+    if let Err(refusal) = read_refusal(run, intra) {
+        let models = header_read::no_models(refusal.number());
         return FrameModels { models, run };
     }
     let prior = run.prior;

@@ -1,18 +1,16 @@
 -- The promise of a run, with jobs among its frames and switches: a job's header is read back with the prior and the flag held before it, as demand 3 has it.
 -- Assumes nothing.
 use Prim.Native.Nat.{ℕ}
-use mathlib.Core.Bool.{Bool, true, false}
+use mathlib.Core.Bool.{true, false}
 use mathlib.Core.List.{List, [], ◌∷◌}
 use mathlib.Core.Logic.{⊎_elim}
 use mathlib.Core.Path.{◌≡◌, sym, ap, ◌∙◌}
 use lib.Dec.{eqb}
-use lib.IntN.{ℤ}
 use Rattle.laws.specs.Call.{left}
 use Rattle.laws.specs.Refusal.{both}
 use Rattle.laws.proofs.Call.{left-accepted, left-refused}
 use Rattle.laws.proofs.Cases.{eq-or-ne}
 use Rattle.header_read.specs.declared.Models.{Models}
-use Rattle.frame_header.specs.Frame.{frame_models}
 use Rattle.frame_header.proofs.Inter.{inter-models}
 use Rattle.run.specs.declared.Run.{Run}
 use Rattle.run_frame.specs.declared.FrameModels.{FrameModels}
@@ -22,7 +20,6 @@ use Rattle.run_frame.specs.Recovery as frames
 use Rattle.run_frame.proofs.Answers.{read_plain}
 use Rattle.run_frame.proofs.Recovery.{recovered-by, turn-recovered}
 use Rattle.job_task.specs.Task.{Lent}
-use Rattle.job_outcome.specs.declared.Report.{Report}
 use Rattle.job_outcome.specs.Outcome.{Ended, outcome}
 use Rattle.job_outcome.proofs.Stages.{accepted-stages}
 use Rattle.job_outcome.proofs.HeaderRead.{header-read-back}

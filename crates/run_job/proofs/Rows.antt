@@ -1,15 +1,15 @@
 -- The rows of storing in a run by their groups, and what an accepted call or job says of the run.
 -- Assumes nothing.
-use Prim.Native.Nat.{ℕ}
+use Prim.Native.Nat.{ℕ, zero, suc}
 use mathlib.Core.List.{List}
-use mathlib.Core.Path.{◌≡◌, sym, ap, ◌∙◌}
+use mathlib.Core.Path.{◌≡◌, refl, sym, ap, ◌∙◌}
 use borrow.Author.Tests.{le-ltb}
 use lib.ListN.{length}
 use Rattle.laws.specs.Buffer.{onto}
 use Rattle.laws.specs.Call.{answered, left}
 use Rattle.laws.specs.Refusal.{or_else}
 use Rattle.laws.proofs.Call.{answered-refused, left-refused}
-use Rattle.laws.proofs.Refusal.{or-else-refused, or_else_none, or-else-quiet}
+use Rattle.laws.proofs.Refusal.{or_else_none, or-else-quiet}
 use Rattle.class.specs.Class.{classed}
 use Rattle.layout.specs.Form.{blocks_of}
 use Rattle.forms.specs.Forms.{codec_of}
@@ -19,33 +19,34 @@ use Rattle.frame_store.specs.Store.{list_refusal}
 use Rattle.frame_store.specs.InForm.{store_refusal_in, stored_in, stored_in_left}
 use Rattle.run.specs.declared.Run.{Run}
 use Rattle.run.specs.Run.{run_refusal}
+use Rattle.refusal.specs.Number.{number_of}
+use Rattle.refusal.specs.declared.Refusal.{Refusal}
 use Rattle.job_task.specs.Task.{Lent}
 use Rattle.job_task.specs.Rows.{early}
 use Rattle.job_task.proofs.Accepted.{ready}
+use Rattle.job_task.proofs.Groups.{stops}
+use Rattle.job.proofs.Ending.{numbered}
 use Rattle.run_job.specs.Store.{store_in_run_refusal, stored_in_run, stored_in_run_left}
 use Rattle.run_job.specs.Job.{Asked, in_run}
+
+or-else-assoc : (a b c : ℕ) → or_else a (or_else b c) ≡ or_else (or_else a b) c
+or-else-assoc zero b c = refl
+or-else-assoc (suc a) b c = refl
 
 module _ (run : Run) (frame : ℕ) (ws cs old : List ℕ) where
   abbrev refusal : ℕ
   refusal = store_in_run_refusal run frame ws cs (length old)
 
-  -- the lists refuse
-  lists-first : (list_refusal ws cs ≡ 0 → ⊥) → list_refusal ws cs ≡ refusal
+  -- what is judged ahead, then storing in the run's form
+  abbrev ahead : ℕ
+  ahead = or_else (list_refusal ws cs) (run_refusal run)
+
+  abbrev last : ℕ
+  last = store_refusal_in run.form frame ws cs (length old)
+
+  grouped : or_else ahead last ≡ refusal
   unfolding store_in_run_refusal
-  lists-first h = or-else-refused (list_refusal ws cs) _ h
-
-  module _ (quiet : list_refusal ws cs ≡ 0) where
-    after-lists : or_else (run_refusal run) (store_refusal_in run.form frame ws cs (length old)) ≡ refusal
-    unfolding store_in_run_refusal
-    after-lists = or_else_none (list_refusal ws cs) _ quiet
-
-    -- the run refuses
-    run-next : (run_refusal run ≡ 0 → ⊥) → run_refusal run ≡ refusal
-    run-next h = or-else-refused (run_refusal run) _ h ∙ after-lists
-
-    -- storing in its form decides
-    form-last : run_refusal run ≡ 0 → store_refusal_in run.form frame ws cs (length old) ≡ refusal
-    form-last z = or_else_none (run_refusal run) _ z ∙ after-lists
+  grouped = sym (or-else-assoc (list_refusal ws cs) (run_refusal run) last)
 
   pub record Ends (answer : Stored) (left : List ℕ) : Type 0 where
     pub answers : answer ≡ stored_in_run run frame ws cs (length old)
@@ -61,21 +62,17 @@ module _ (run : Run) (frame : ℕ) (ws cs old : List ℕ) where
         leaves = sym (left-refused refusal blocks old h');
       }
 
-  -- the three ways through the call
-  pub lists-refuse : (n : ℕ) → n ≡ list_refusal ws cs → (n ≡ 0 → ⊥) → Ends (not_stored n) old
-  lists-refuse n e h = refused n (e ∙ lists-first (λ z. h (e ∙ z))) h
+  -- the two ways through the call
+  pub ahead-refuses : (r : Refusal) → number_of r ≡ ahead → {n : ℕ} → n ≡ number_of r → Ends (not_stored n) old
+  ahead-refuses r e {n} q = refused n (q ∙ stops r last e ∙ grouped) (λ z. numbered r (sym q ∙ z))
 
-  module _ (quiet : list_refusal ws cs ≡ 0) where
-    pub run-refuses : (n : ℕ) → n ≡ run_refusal run → (n ≡ 0 → ⊥) → Ends (not_stored n) old
-    run-refuses n e h = refused n (e ∙ run-next quiet (λ z. h (e ∙ z))) h
-
-    pub form-decides : run_refusal run ≡ 0 → Ends (stored_in run.form frame ws cs (length old)) (stored_in_left run.form frame ws cs old)
-    form-decides z =
-        let e = form-last quiet z in
-        record {
-          answers = ap (λ (n : ℕ). answered not_stored n (record { refusal = 0; blocks = blocks_of (codec_of run.form).form (length ws) })) e;
-          leaves = ap (λ (n : ℕ). left n (onto (frame_bytes (codec_of run.form) frame (classed ws cs)) old) old) e;
-        }
+  pub form-decides : ahead ≡ 0 → Ends (stored_in run.form frame ws cs (length old)) (stored_in_left run.form frame ws cs old)
+  form-decides z =
+      let e = or_else_none ahead last z ∙ grouped in
+      record {
+        answers = ap (λ (n : ℕ). answered not_stored n (record { refusal = 0; blocks = blocks_of (codec_of run.form).form (length ws) })) e;
+        leaves = ap (λ (n : ℕ). left n (onto (frame_bytes (codec_of run.form) frame (classed ws cs)) old) old) e;
+      }
 
 -- what is stored in a run is stored in its form, so that `frame_read` reads it back
 pub stored-in-form : (run : Run) (frame : ℕ) (ws cs : List ℕ) (room : ℕ) → store_in_run_refusal run frame ws cs room ≡ 0

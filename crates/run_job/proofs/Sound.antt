@@ -7,7 +7,6 @@ use mathlib.Core.Logic.{⊎_elim}
 use mathlib.Core.Path.{◌≡◌, sym, ap, subst, ◌∙◌}
 use native.Mathlib.Omega.{arith}
 use borrow.Author.Tests.{le-ltb}
-use lib.IntN.{ℤ}
 use Rattle.laws.proofs.Call.{left-accepted, left-refused}
 use Rattle.laws.proofs.Cases.{eq-or-ne}
 use Rattle.models.specs.Models.{priors_out}
@@ -21,7 +20,7 @@ use Rattle.job_task.proofs.Accepted.{ready}
 use Rattle.job_outcome.specs.Outcome.{Ended, outcome, types, models}
 use Rattle.job_outcome.proofs.Stages.{accepted-stages, ends-accepted}
 use Rattle.job_outcome.proofs.Written.{writable}
-use Rattle.run_job.specs.Job.{Asked, in_run, run_behind}
+use Rattle.run_job.specs.Job.{Asked, in_run}
 use Rattle.run_job.specs.Recovery.{Event, plain, job, turn}
 
 module _ (j : Task) (l : Lent) (e : (outcome j l).report.refusal ≡ 0) where

@@ -1,5 +1,3 @@
 pub mod Word
 pub mod Motion
 pub mod Storable
-pub mod InOrder
-pub mod Filled

@@ -4,7 +4,7 @@
 // (`MotionSample` of the Rust's global_motion.rs).
 #![tactic(auto)]
 
-ghost use Rattle.std.specs.Prelude.{◌≡◌, ◌<◌, length};
+ghost use Rattle.std.specs.Prelude.{◌≡◌, ℕ, ◌<◌, length};
 ghost use Rattle.sample.specs.Word.{row_of, col_of, v_of, u_of, class_of, word_of, in_range, place_of, sides, motions};
 ghost use Rattle.sample.specs.Sample.{sample_of, centre_of, pels_of};
 ghost use Rattle.sample.specs.Storable.{storable_from};
@@ -87,11 +87,7 @@ pub fn word_of(row: u32, col: u32, v: u32, u: u32, class: u8) -> u32
 pub fn in_range(word: u32) -> bool
     ensures { result ≡ in_range word }
 {
-    if v_of(word) <= LAST_MOTION {
-        u_of(word) <= LAST_MOTION
-    } else {
-        false
-    }
+    v_of(word) <= LAST_MOTION && u_of(word) <= LAST_MOTION
 }
 
 // (R, C) as one number, R first.
@@ -106,18 +102,15 @@ pub fn storable_from(first: u32, words: &[u32]) -> bool
     ensures { result ≡ storable_from first words.now }
 {
     let mut least = first;
-    let mut i = 0;
-    while i < words.len() {
-        let word = words[i];
-        if !in_range(word) {
+    for word in words {
+        if !in_range(*word) {
             return false;
         }
-        let place = place_of(word);
+        let place = place_of(*word);
         if place < least {
             return false;
         }
         least = place + 1;
-        i += 1;
     }
     true
 }
@@ -138,28 +131,34 @@ fn pels_of(stored: u32) -> f64
     (stored as i32 - MOTION_BIAS as i32) as f64 / 8.0
 }
 
+// The sample of a word, by what gives the centre of a place and the pels of a stored motion.
+fn sample_with<C: Fn(u32) -> f64, P: Fn(u32) -> f64>(word: u32, centre: C, pels: P) -> MotionSample
+    requires centre_given { (place : ℕ) → place < sides → C.pre centre place }
+    requires pels_given { (stored : ℕ) → stored < motions → P.pre pels stored }
+    ensures x { C.post centre (col_of word) result.x }
+    ensures y { C.post centre (row_of word) result.y }
+    ensures u { P.post pels (u_of word) result.u }
+    ensures v { P.post pels (v_of word) result.v }
+{
+    MotionSample {
+        x: centre(col_of(word)),
+        y: centre(row_of(word)),
+        u: pels(u_of(word)),
+        v: pels(v_of(word)),
+    }
+}
+
 pub fn sample_of(word: u32) -> MotionSample
     ensures { result ≡ sample_of word }
 {
-    MotionSample {
-        x: centre_of(col_of(word)),
-        y: centre_of(row_of(word)),
-        u: pels_of(u_of(word)),
-        v: pels_of(v_of(word)),
-    }
+    sample_with(word, centre_of, pels_of)
 }
 
 // The centres of all rows or columns of blocks, which a long list of words looks up.
 pub fn centres() -> [f64; 64]
     ensures { Tabled centre_of sides result }
 {
-    let mut table = [0.0f64; 64];
-    let mut place = 0u32;
-    while place < SIDES {
-        table[place as usize] = centre_of(place);
-        place += 1;
-    }
-    table
+    std::array::from_fn(|place| centre_of(place as u32))
 }
 
 // The sample of a word, its centre looked up.
@@ -167,27 +166,14 @@ pub fn sample_by(centres: &[f64; 64], word: u32) -> MotionSample
     requires { Tabled centre_of sides centres.now }
     ensures { result ≡ sample_of word }
 {
-    let row = row_of(word) as usize;
-    let col = col_of(word) as usize;
-    MotionSample {
-        x: centres[col],
-        y: centres[row],
-        u: pels_of(u_of(word)),
-        v: pels_of(v_of(word)),
-    }
+    sample_with(word, |place| centres[place as usize], pels_of)
 }
 
 // The motions in pels of all stored ones, which a longer list looks up too.
 pub fn motions() -> [f64; 512]
     ensures { Tabled pels_of motions result × (length result ≡ motions) }
 {
-    let mut table = [0.0f64; 512];
-    let mut stored = 0u32;
-    while stored < MOTIONS {
-        table[stored as usize] = pels_of(stored);
-        stored += 1;
-    }
-    table
+    std::array::from_fn(|stored| pels_of(stored as u32))
 }
 
 // A stored motion in pels, looked up where the table is whole.
@@ -208,12 +194,9 @@ pub fn sample_from(centres: &[f64; 64], motions: &[f64], word: u32) -> MotionSam
     requires tabled_2 { Tabled pels_of (length motions.now) motions.now }
     ensures { result ≡ sample_of word }
 {
-    let row = row_of(word) as usize;
-    let col = col_of(word) as usize;
-    MotionSample {
-        x: centres[col],
-        y: centres[row],
-        u: motion_by(motions, u_of(word)),
-        v: motion_by(motions, v_of(word)),
-    }
+    sample_with(
+        word,
+        |place| centres[place as usize],
+        |stored| motion_by(motions, stored),
+    )
 }

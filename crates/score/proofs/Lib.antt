@@ -1,2 +1,1 @@
-pub mod TooMany
 pub mod SameSamples

@@ -3,15 +3,21 @@
 // `continuous_of_params` and `mean_sq_residual` (encoder/global_motion.rs).
 #![tactic(auto)]
 
-ghost use Rattle.std.specs.Prelude.{◌≡◌};
-ghost use Rattle.score.specs.Score.{continuous_of, continuous_model, residual_of, score_step, score_of, mean_sq_residual};
-ghost use Rattle.score.specs.Inner.{residual_sum, scoring_begun, scoring_step};
+ghost use Rattle.std.specs.Prelude.{◌≡◌, ◌≤◌};
+ghost use Rattle.laws.specs.Loops.{fold};
+ghost use Rattle.laws.specs.Binary64.{nought};
+ghost use Rattle.refusal.specs.Number.{number_of};
+ghost use Rattle.sample.specs.Word.{most_samples};
+ghost use Rattle.fit.specs.Sums.{itself, reading};
+ghost use Rattle.score.specs.Score.{continuous_of, continuous_model, residual_of, score_step, mean_of, score_as, score_of, scored, mean_sq_residual};
+ghost use Rattle.score.specs.Inner.{residual_sum};
 
 use grid_number::SCALE;
+use refusal::Refusal;
 use sample::MotionSample;
 
 // A model of six numbers at 16 fraction bits, as binary64 numbers.
-#[derive(Clone, Copy)]
+#[derive(Clone, Copy, Debug, PartialEq)]
 pub struct ContinuousModel {
     pub m0: f64,
     pub m1: f64,
@@ -21,16 +27,9 @@ pub struct ContinuousModel {
     pub m5: f64,
 }
 
-// A model, and the squared residuals added so far.
-#[derive(Clone, Copy)]
-pub struct Scoring {
-    pub m: ContinuousModel,
-    pub acc: f64,
-}
-
 // A row of the table of refusals (0: none), and the mean squared residual.
 #[repr(C)]
-#[derive(Clone, Copy)]
+#[derive(Clone, Copy, Debug, PartialEq)]
 pub struct Score {
     pub refusal: u32,
     pub score: f64,
@@ -71,52 +70,38 @@ pub fn score_step(m: ContinuousModel, acc: f64, s: MotionSample) -> f64
     acc + residual(m, s)
 }
 
+// The mean of a sum over so many samples, 0.0 with none.
+fn mean_of(acc: f64, samples: usize) -> f64
+    requires { samples ≤ most_samples }
+    ensures { result ≡ mean_of acc samples }
+{
+    if samples == 0 {
+        return 0.0;
+    }
+    acc / fit::count_of(samples)
+}
+
+fn refused(refusal: Refusal) -> Score
+    ensures { result ≡ score_as (number_of refusal) nought }
+{
+    Score {
+        refusal: refusal.number(),
+        score: 0.0,
+    }
+}
+
 // The score of a sum of residuals over so many samples.
+#[tactic(auto, unfolding(crate::specs::Score::score_of))]
 pub fn score_of(acc: f64, samples: usize) -> Score
     ensures { result ≡ score_of acc samples }
 {
-    let refusal = fit::list_refusal(samples);
-    if refusal != 0 {
-        return Score {
-            refusal,
-            score: 0.0,
-        };
-    }
-    if samples == 0 {
-        return Score {
+    match fit::list_refusal(samples) {
+        Err(refusal) => refused(refusal),
+        Ok(()) => Score {
             refusal: 0,
-            score: 0.0,
-        };
+            score: mean_of(acc, samples),
+        },
     }
-    Score {
-        refusal: 0,
-        score: acc / fit::count_of(samples),
-    }
-}
-
-// A walk over samples begins with the model and no residual, adds one for each sample, and ends with
-// the score of their count.
-pub fn score_begin(params: [i32; 6]) -> Scoring
-    ensures { result ≡ scoring_begun params }
-{
-    let m = continuous_of_params(params);
-    Scoring { m, acc: 0.0 }
-}
-
-pub fn scoring_step(t: Scoring, s: MotionSample) -> Scoring
-    ensures { result ≡ scoring_step t s }
-{
-    let m = t.m;
-    Scoring {
-        m,
-        acc: score_step(m, t.acc, s),
-    }
-}
-
-pub fn score_ends(t: Scoring, samples: usize) -> Score
-    ensures { result ≡ score_of t.acc samples }
-{
-    score_of(t.acc, samples)
 }
 
 fn residual_sum(m: ContinuousModel, words: &[u32]) -> f64
@@ -124,22 +109,47 @@ fn residual_sum(m: ContinuousModel, words: &[u32]) -> f64
 {
     let mut acc = 0.0;
     let centres = sample::centres();
-    let mut i = 0usize;
-    while i < words.len() {
-        acc = score_step(m, acc, sample::sample_by(&centres, words[i]));
-        i += 1;
+    for word in words {
+        acc = score_step(m, acc, sample::sample_by(&centres, *word));
     }
     acc
 }
 
+// The same over samples themselves.
+fn residuals_over(m: ContinuousModel, samples: &[MotionSample]) -> f64
+    ensures { result ≡ fold (reading (score_step m) itself) samples.now nought }
+{
+    let mut acc = 0.0;
+    for s in samples {
+        acc = score_step(m, acc, *s);
+    }
+    acc
+}
+
+// A list that is too long isn't walked.
+#[tactic(auto, unfolding(crate::specs::Score::score_of, crate::specs::Inner::residual_sum))]
 pub fn mean_sq_residual(params: [i32; 6], words: &[u32]) -> Score
     ensures { result ≡ mean_sq_residual params words.now }
 {
-    if fit::list_refusal(words.len()) != 0 {
-        return score_of(0.0, words.len());
+    match fit::list_refusal(words.len()) {
+        Err(refusal) => refused(refusal),
+        Ok(()) => score_of(
+            residual_sum(continuous_of_params(params), words),
+            words.len(),
+        ),
     }
-    score_of(
-        residual_sum(continuous_of_params(params), words),
-        words.len(),
-    )
+}
+
+// The score of samples themselves.
+#[tactic(auto, unfolding(crate::specs::Score::score_of))]
+pub fn score_samples(params: [i32; 6], samples: &[MotionSample]) -> Score
+    ensures { result ≡ scored itself (continuous_model params) samples.now }
+{
+    match fit::list_refusal(samples.len()) {
+        Err(refusal) => refused(refusal),
+        Ok(()) => score_of(
+            residuals_over(continuous_of_params(params), samples),
+            samples.len(),
+        ),
+    }
 }

@@ -81,8 +81,7 @@ pub fn fill_band(
     let before = first * columns;
     let samples = (end - first) * columns;
     let mut rows: u32 = 0;
-    let mut k = 0;
-    while k < samples {
+    for k in 0..samples {
         let at = before + k;
         let row = at / columns;
         let column = at % columns;
@@ -95,7 +94,6 @@ pub fn fill_band(
         let found = word_at(input, reference, input_half, ref_half, block);
         words[k] = found.word;
         rows += found.rows;
-        k += 1;
     }
     rows
 }

@@ -7,22 +7,37 @@
 ghost use Rattle.std.specs.Prelude.{◌≡◌};
 ghost use Rattle.laws.specs.Buffer.{onto};
 ghost use Rattle.plane.specs.Plane.{half_plane};
-ghost use Rattle.search.specs.Refusal.{Done, task, lent};
+ghost use Rattle.refusal.specs.Number.{number_of};
+ghost use Rattle.search.specs.Refusal.{Done, task, lent, refused};
 ghost use Rattle.search.specs.Search.{sample_words, rows_added};
 ghost use Rattle.search.specs.Inner.{Ready};
 
 use plane::{BLOCK, Sides};
+use refusal::Refusal;
 
 pub mod blocks; // blocks.rt: the word of each block
 pub mod refusals; // refusals.rt: the rows of the table
 
 // The refusal's number, 0 for none, how many samples were found, and how many rows were added.
 #[repr(C)]
-#[derive(Clone, Copy)]
+#[derive(Clone, Copy, Debug, PartialEq, Eq)]
 pub struct Searched {
     pub refusal: u32,
     pub samples: usize,
     pub rows: u32,
+}
+
+impl Searched {
+    // A refused search has found nothing.
+    pub fn refused(refusal: Refusal) -> Searched
+        ensures { result ≡ refused (number_of refusal) }
+    {
+        Searched {
+            refusal: refusal.number(),
+            samples: 0,
+            rows: 0,
+        }
+    }
 }
 
 // Both half planes, then the words.
@@ -71,11 +86,8 @@ pub fn collect_motion_samples(
         result
         (lent input_half.new ref_half.new words.new) }
 {
-    let sides = Sides {
-        width: width,
-        height: height,
-    };
-    let refusal = refusals::refusal_of(
+    let sides = Sides { width, height };
+    let judged = refusals::refusal_of(
         sides,
         input_y.len(),
         ref_y.len(),
@@ -84,12 +96,8 @@ pub fn collect_motion_samples(
         ref_half.len(),
         words.len(),
     );
-    if refusal != 0 {
-        return Searched {
-            refusal: refusal,
-            samples: 0,
-            rows: 0,
-        };
+    if let Err(refusal) = judged {
+        return Searched::refused(refusal);
     }
     let samples = height / BLOCK * (width / BLOCK);
     if samples == 0 {
@@ -109,7 +117,7 @@ pub fn collect_motion_samples(
     );
     Searched {
         refusal: 0,
-        samples: samples,
-        rows: rows,
+        samples,
+        rows,
     }
 }

@@ -4,24 +4,17 @@
 #![tactic(auto)]
 
 ghost use Rattle.std.specs.Prelude.{◌≡◌, ◌<◌, ◌≤◌, pos, length, get_or};
+ghost use Rattle.refusal.specs.Number.{number_of, refusal_number};
 ghost use Rattle.shear.specs.Call.{judged, shear_of, not_warped, shear_refusal, rejected, shear};
 ghost use Rattle.warp.specs.Inner.{Linear, Clamped};
 
-const ROTZOOM: u8 = 2;
-
-const AFFINE: u8 = 3;
-
-// Rows of the rules' table.
-const WRONG_LENGTH: u32 = 2;
-
-const NO_SUCH_TYPE: u32 = 4;
-
-const OFF_THE_GRID: u32 = 7;
+use grid::{AFFINE, ROTZOOM};
+use refusal::Refusal;
 
 // A row of the table of refusals (0: none); whether a decoder keeps the warp; the shear numbers,
 // whether it does or not.
 #[repr(C)]
-#[derive(Clone, Copy)]
+#[derive(Clone, Copy, Debug, PartialEq, Eq)]
 pub struct Shear {
     pub refusal: u32,
     pub valid: u32,
@@ -58,11 +51,12 @@ fn shear_of(p2: i64, p3: i64, p4: i64, p5: i64) -> Shear
     judged(alpha, beta, gamma, delta)
 }
 
-fn refused(number: u32) -> Shear
-    ensures { result ≡ rejected number }
+// The row that holds, and no number.
+fn refused(refusal: Refusal) -> Shear
+    ensures { result ≡ rejected (number_of refusal) }
 {
     Shear {
-        refusal: number,
+        refusal: refusal.number(),
         valid: 0,
         alpha: 0,
         beta: 0,
@@ -76,45 +70,42 @@ fn not_warped(gm_type: u8, params: &[i32]) -> bool
     requires { 6 ≤ length params.now }
     ensures { result ≡ not_warped gm_type params.now }
 {
-    if gm_type < ROTZOOM {
-        return true;
-    }
-    models::model_wrong(gm_type, 0, params, 0)
+    gm_type < ROTZOOM || models::model_wrong(gm_type, 0, params, 0)
 }
 
-fn refusal_of(gm_type: u8, params: &[i32]) -> u32
-    ensures { result ≡ shear_refusal gm_type params.now }
+#[tactic(auto, unfolding(crate::specs::Call::shear_refusal))]
+fn refusal_of(gm_type: u8, params: &[i32]) -> Result<(), Refusal>
+    ensures { refusal_number result ≡ shear_refusal gm_type params.now }
 {
     if params.len() != 6 {
-        return WRONG_LENGTH;
+        return Err(Refusal::WrongLength);
     }
     if AFFINE < gm_type {
-        return NO_SUCH_TYPE;
+        return Err(Refusal::NoSuchCode);
     }
     if not_warped(gm_type, params) {
-        return OFF_THE_GRID;
+        return Err(Refusal::ModelWrong);
     }
-    0
+    Ok(())
 }
 
 fn slot(params: &[i32], i: usize) -> i64
     requires { i < length params.now }
     ensures { result ≡ get_or params.now i (pos 0) }
 {
-    let number = params[i];
-    number as i64
+    params[i] as i64
 }
 
 pub fn setup_shear(gm_type: u8, params: &[i32]) -> Shear
     ensures { result ≡ shear gm_type params.now }
 {
-    let refusal = refusal_of(gm_type, params);
-    if refusal != 0 {
-        return refused(refusal);
+    match refusal_of(gm_type, params) {
+        Ok(()) => shear_of(
+            slot(params, 2),
+            slot(params, 3),
+            slot(params, 4),
+            slot(params, 5),
+        ),
+        Err(refusal) => refused(refusal),
     }
-    let p2 = slot(params, 2);
-    let p3 = slot(params, 3);
-    let p4 = slot(params, 4);
-    let p5 = slot(params, 5);
-    shear_of(p2, p3, p4, p5)
 }

@@ -9,10 +9,8 @@ use lib.Seq.{set-get_or}
 use lib.Ieee.{Float, nan}
 use Rattle.laws.specs.Loops.{run, turns}
 use Rattle.laws.proofs.Loops.{again}
-use Rattle.solve.specs.declared.Outcome.{Outcome}
-use Rattle.solve.specs.declared.Outcome.TheVariants.{Solved, Singular}
 use Rattle.solve.specs.Elimination.{System, too_small, system, entry, pivot_of, exchange_at, exchanged_rows, exchange_right, exchanged, factor_of, reduced_row, reduce_right, reduce_row, reduced}
-use Rattle.solve.specs.Elimination.{Elimination, eliminating, column, column_step}
+use Rattle.solve.specs.Elimination.{Outcome, solvable, singular, Elimination, eliminating, column, column_step}
 
 -- ---- turns that change nothing
 
@@ -53,23 +51,23 @@ row-reduced size col row a b e f g = rw (f, g, e)
 -- ---- a column
 
 module _ (size col pivot : ℕ) (s : System) {small : Bool} (found : pivot ≡ pivot_of size s.a col) (measured : small ≡ too_small (entry s.a pivot col)) where
-  pub column-refused : small ≡ true → eliminating s Singular ≡ column size col s
+  pub column-refused : small ≡ true → eliminating s singular ≡ column size col s
   unfolding column
   column-refused is = rw (← found, ← measured, is)
 
-  pub column-passed : {t u : System} → small ≡ false → t ≡ exchanged size col pivot s → u ≡ reduced size col t → eliminating u Solved ≡ column size col s
+  pub column-passed : {t u : System} → small ≡ false → t ≡ exchanged size col pivot s → u ≡ reduced size col t → eliminating u solvable ≡ column size col s
   unfolding column
   column-passed is e f = rw (← found, ← measured, is, ← e, ← f)
 
 -- ---- all columns
 
 module _ (size col : ℕ) (s s' : System) {o : Outcome} {e : Elimination} (less : col < size) (stepped : eliminating s' o ≡ column size col s)
-    (left : run (column_step size) col size (eliminating s Solved) ≡ e) where
-  pub column-next : o ≡ Solved → run (column_step size) (col + 1) size (eliminating s' Solved) ≡ e
+    (left : run (column_step size) col size (eliminating s solvable) ≡ e) where
+  pub column-next : o ≡ solvable → run (column_step size) (col + 1) size (eliminating s' solvable) ≡ e
   column-next is = again (column_step size) less (ap (λ (p : Outcome). eliminating s' p) (sym is) ∙ stepped) left
 
   -- the later columns leave a refused elimination as it is
-  pub column-last : o ≡ Singular → eliminating s' Singular ≡ e
+  pub column-last : o ≡ singular → eliminating s' singular ≡ e
   column-last is =
-      sym (run-stays (column_step size) (eliminating s' Singular) (λ k. refl) (col + 1) size)
+      sym (run-stays (column_step size) (eliminating s' singular) (λ k. refl) (col + 1) size)
       ∙ again (column_step size) less (ap (λ (p : Outcome). eliminating s' p) (sym is) ∙ stepped) left

@@ -1,14 +1,13 @@
 -- Forward elimination, operation by operation: the pivot of a column, its row exchanged, the rows below reduced.
 -- docs/RULES.md, 'Fits and score'.
 -- Assumes nothing.
-use Rattle.std.specs.Prelude.{ℕ, ◌+◌, ◌*◌, Bool, List, get_or, set, Float}
+use Rattle.std.specs.Prelude.{ℕ, ◌+◌, ◌*◌, Bool, List, get_or, set, Float, Result, Ok, Err}
 use Rattle.std.specs.Float.{nan, binary64}
 use Rattle.std.specs.Float.Ieee.{lt, eq, neg, of_bits}
 use Rattle.laws.specs.Loops.{run}
 use Rattle.laws.specs.Refusal.{choose}
 use Rattle.laws.specs.Binary64.{◌⊖◌, ◌⊗◌, ◌⊘◌, nought}
-use Rattle.solve.specs.declared.Outcome.{Outcome}
-use Rattle.solve.specs.declared.Outcome.TheVariants.{Solved, Singular}
+use Rattle.solve.specs.declared.Singular.{Singular}
 
 -- the magnitude: of a zero the positive one, of a not-a-number itself
 unfoldable pub abs_of : Float → Float
@@ -76,6 +75,16 @@ reduce_row size col row s = system (reduced_row size col row s.a) (reduce_right 
 unfoldable pub reduced : ℕ → ℕ → System → System
 reduced size col s = run (reduce_row size col) (col + 1) size s
 
+-- how an elimination ends: solved, or a pivot was too small
+abbrev pub Outcome : Type 0
+Outcome = Result (Unit {0}) Singular
+
+abbrev pub solvable : Outcome
+solvable = Ok tt
+
+abbrev pub singular : Outcome
+singular = Err (record {})
+
 -- where an elimination stands: the system so far, and whether a pivot was too small
 pub record Elimination : Type 0 where
   pub system : System
@@ -86,19 +95,19 @@ eliminating s o = record { system = s; outcome = o }
 
 abbrev pub pivoted : ℕ → ℕ → ℕ → System → Elimination
 pivoted size col pivot s =
-    choose (too_small (entry s.a pivot col)) (eliminating s Singular)
-    (eliminating (reduced size col (exchanged size col pivot s)) Solved)
+    choose (too_small (entry s.a pivot col)) (eliminating s singular)
+    (eliminating (reduced size col (exchanged size col pivot s)) solvable)
 
 unfoldable pub column : ℕ → ℕ → System → Elimination
 column size col s = pivoted size col (pivot_of size s.a col) s
 
 abbrev pub unless_singular : {A : Type 0} → Outcome → A → A → A
-unless_singular Singular a b = a
-unless_singular Solved a b = b
+unless_singular (Err _) a b = a
+unless_singular (Ok _) a b = b
 
 -- a refused column ends the elimination
 abbrev pub column_step : ℕ → ℕ → Elimination → Elimination
 column_step size col e = unless_singular e.outcome e (column size col e.system)
 
 unfoldable pub eliminated : ℕ → System → Elimination
-eliminated size s = run (column_step size) 0 size (eliminating s Solved)
+eliminated size s = run (column_step size) 0 size (eliminating s solvable)

@@ -1,13 +1,12 @@
 -- Back-substitution from the last row, and the answer of a system: its unknowns, or that a pivot was refused.
 -- docs/RULES.md, 'Fits and score'.
 -- Assumes nothing.
-use Rattle.std.specs.Prelude.{ℕ, ◌+◌, ◌-◌, List, get_or, set, replicate, Float}
+use Rattle.std.specs.Prelude.{ℕ, ◌+◌, ◌-◌, List, get_or, set, replicate, Float, Result, Ok, Err}
 use Rattle.std.specs.Float.{nan}
 use Rattle.laws.specs.Loops.{run}
 use Rattle.laws.specs.Binary64.{◌⊖◌, ◌⊗◌, ◌⊘◌, nought}
-use Rattle.solve.specs.declared.Outcome.{Outcome}
-use Rattle.solve.specs.declared.Outcome.TheVariants.{Solved, Singular}
-use Rattle.solve.specs.Elimination.{System, entry, right, Elimination, eliminated, unless_singular}
+use Rattle.solve.specs.declared.Singular.{Singular}
+use Rattle.solve.specs.Elimination.{System, entry, right, Outcome, solvable, singular, Elimination, eliminated, unless_singular}
 
 abbrev pub residue_step : List Float → List Float → ℕ → ℕ → Float → Float
 residue_step a x row k acc = acc ⊖ entry a row k ⊗ get_or x k nan
@@ -41,13 +40,21 @@ pub record Solution : Type 0 where
 abbrev pub solution : Outcome → List Float → Solution
 solution o x = record { outcome = o; x = x }
 
+-- what a call answers: the unknowns, or that the system is singular
+abbrev pub solution_of : Result (List Float) Singular → Solution
+solution_of (Ok x) = solution solvable x
+solution_of (Err _) = solution singular zeros
+
+abbrev pub outcome_of : Result (List Float) Singular → Outcome
+outcome_of r = (solution_of r).outcome
+
 abbrev pub answer_of : ℕ → Elimination → Solution
-answer_of size e = unless_singular e.outcome (solution Singular zeros) (solution Solved (unknowns size e.system))
+answer_of size e = unless_singular e.outcome (solution singular zeros) (solution solvable (unknowns size e.system))
 
 abbrev pub solved : ℕ → System → Solution
 solved size s = answer_of size (eliminated size s)
 
 -- the number of docs/RULES.md that an outcome stands for
 abbrev pub number_of : Outcome → ℕ
-number_of Solved = 0
-number_of Singular = 6
+number_of (Ok _) = 0
+number_of (Err _) = 6

@@ -42,10 +42,10 @@ pub fn better(best: Best, new: Added, by: Offset) -> Best
             cost: new.cost,
             y: by.y,
             x: by.x,
-            rows: rows,
+            rows,
         }
     } else {
-        Best { rows: rows, ..best }
+        Best { rows, ..best }
     }
 }
 
@@ -54,8 +54,10 @@ pub fn idle(best: Best, others: usize) -> Best
     requires { (best.rows ≤ 10000) × (others ≤ 1000) }
     ensures { result ≡ inner.more_rows best others }
 {
-    let rows = best.rows + others as u32;
-    Best { rows: rows, ..best }
+    Best {
+        rows: best.rows + others as u32,
+        ..best
+    }
 }
 
 // The magnitude of n less the bias.
@@ -64,11 +66,7 @@ pub fn magnitude(n: usize, bias: usize) -> u32
     requires bias_bound { bias ≤ 256 }
     ensures { Is (difference n bias) 256 result }
 {
-    if n < bias {
-        (bias - n) as u32
-    } else {
-        (n - bias) as u32
-    }
+    n.abs_diff(bias) as u32
 }
 
 // |dy| + |dx|, which a sum by whole pels begins at.

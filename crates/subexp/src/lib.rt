@@ -99,10 +99,7 @@ fn rung_of(num_syms: u32, v: u32) -> u32
         return 0;
     }
     let i = bits::bit_length(v) - 3;
-    if i < last {
-        return i;
-    }
-    last
+    if i < last { i } else { last }
 }
 
 // The code of v on the last rung: the ones of the rungs passed are one field, and the number is an ns code.
@@ -122,10 +119,9 @@ fn write_stop(cursor: BitCursor, buffer: &mut [u8], v: u32, i: u32) -> BitCursor
     ensures { Wrote buffer.old cursor.at (stop_bits v i) buffer.new result.at }
 {
     let mk = rung_start(i);
-    let b2 = rung_bits(i);
     let ones = 2 * byte_field::power(i) - 2;
     let next = cursor.write_bits(buffer, i + 1, ones);
-    next.write_bits(buffer, b2, v - mk)
+    next.write_bits(buffer, rung_bits(i), v - mk)
 }
 
 // How many bits the code of v takes on rung i, behind the ones.
@@ -135,8 +131,7 @@ fn rung_length(num_syms: u32, v: u32, i: u32) -> u32
 {
     let mk = rung_start(i);
     if is_last(num_syms, i) {
-        let field = bits::ns_field(num_syms - mk, v - mk);
-        return field.n;
+        return bits::ns_field(num_syms - mk, v - mk).n;
     }
     1 + rung_bits(i)
 }
@@ -155,11 +150,9 @@ pub fn encode_subexp(cursor: BitCursor, buffer: &mut [u8], num_syms: u32, v: u32
     requires { (v < num_syms) × (num_syms ≤ 65536) × Room buffer.old cursor.at (length (subexp_bits num_syms v)) }
     ensures { Wrote buffer.old cursor.at (subexp_bits num_syms v) buffer.new result.at }
 {
-    if v < FIRST_RUNG {
-        if FIRST_REACH < num_syms {
-            let next = cursor.write_bits(buffer, 1, 0);
-            return next.write_bits(buffer, SUBEXP_K, v);
-        }
+    if v < FIRST_RUNG && FIRST_REACH < num_syms {
+        let next = cursor.write_bits(buffer, 1, 0);
+        return next.write_bits(buffer, SUBEXP_K, v);
     }
     let i = rung_of(num_syms, v);
     if is_last(num_syms, i) {
@@ -170,7 +163,7 @@ pub fn encode_subexp(cursor: BitCursor, buffer: &mut [u8], num_syms: u32, v: u32
 
 // The rung on which a code ends, whether that is the last one, and the cursor behind what was read
 // to come there.
-#[derive(Clone, Copy)]
+#[derive(Clone, Copy, Debug, PartialEq, Eq)]
 struct RungRead {
     i: u32,
     last: bool,
@@ -216,10 +209,9 @@ fn from_start(read: Read, mk: u32) -> Read
     requires { mk + read.value < 2 ^ 32 }
     ensures { ReadIs result (mk + read.value) read.next.at }
 {
-    let next = read.next;
     Read {
         value: mk + read.value,
-        next,
+        ..read
     }
 }
 
@@ -228,11 +220,9 @@ fn rungs_read(cursor: BitCursor, bytes: &[u8], num_syms: u32) -> Read
     requires { (0 < num_syms) × (num_syms ≤ 65536) × (cursor.at + 64 < 2 ^ 64) }
     ensures { ReadIs result (subexp (bit_at bytes.now) cursor.at num_syms).value (cursor.at + (subexp (bit_at bytes.now) cursor.at num_syms).bits) }
 {
-    let climbed = climb(cursor, bytes, num_syms);
-    let i = climbed.i;
-    let next = climbed.next;
+    let RungRead { i, last, next } = climb(cursor, bytes, num_syms);
     let mk = rung_start(i);
-    if climbed.last {
+    if last {
         return from_start(next.ns(bytes, num_syms - mk), mk);
     }
     from_start(next.f(bytes, rung_bits(i)), mk)
@@ -293,8 +283,7 @@ pub fn encode_unsigned_subexp_with_ref(
     requires { (r < mx) × (v < mx) × (mx ≤ 65536) × Room buffer.old cursor.at (length (symbol_bits mx r v)) }
     ensures { Wrote buffer.old cursor.at (symbol_bits mx r v) buffer.new result.at }
 {
-    let x = code_of(mx, r, v);
-    encode_subexp(cursor, buffer, mx, x)
+    encode_subexp(cursor, buffer, mx, code_of(mx, r, v))
 }
 
 pub fn decode_unsigned_subexp_with_ref(cursor: BitCursor, bytes: &[u8], mx: u32, r: u32) -> Read
@@ -303,9 +292,8 @@ pub fn decode_unsigned_subexp_with_ref(cursor: BitCursor, bytes: &[u8], mx: u32,
     ensures within { result.value < mx }
 {
     let read = decode_subexp(cursor, bytes, mx);
-    let next = read.next;
     Read {
         value: symbol_of(mx, r, read.value),
-        next,
+        ..read
     }
 }

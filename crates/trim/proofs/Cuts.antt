@@ -1,4 +1,4 @@
--- What a cut of numbers in a call's own memory answers, and the limit that its samples are under.
+-- What a cut of samples answers, and the limit that its samples are under.
 -- Assumes nothing.
 use Prim.Native.Nat.{ℕ, zero, suc, ◌≤◌}
 use mathlib.Core.Bool.{true}
@@ -19,21 +19,21 @@ use Rattle.trim.specs.Trim.{residuals_from, first_from, used_from, last_from, tr
 use Rattle.trim.specs.Inner.{sample_at, up_to, under, cut_as, refused_cut, cut_of, Cuts}
 use Rattle.trim.proofs.Answers.{refused-answer, own-decides, last-answer}
 
-module _ (numbers : List Float) (gm_type n : ℕ) where
+module _ (given : List MotionSample) (gm_type n : ℕ) where
   abbrev read : ℕ → MotionSample
-  read = sample_at numbers
+  read = sample_at given
 
   abbrev xs : List ℕ
   xs = up_to n
 
-  pub refused-cuts : (squares : List Float) (k : ℕ) → n ≤ length squares → (k ≡ 0 → ⊥) → trim_refusal read gm_type xs ≡ k → Cuts numbers gm_type n squares (refused_cut k)
+  pub refused-cuts : (squares : List Float) (k : ℕ) → n ≤ length squares → (k ≡ 0 → ⊥) → trim_refusal read gm_type xs ≡ k → Cuts given gm_type n squares (refused_cut k)
   refused-cuts squares k room h e =
       record { long = room; answers = refused-answer read gm_type xs k h e; within = λ z. absurd (h (sym e ∙ z)) }
 
   module _ (fitted : refusal_of (first_from read gm_type xs) ≡ 0) (finite : all_finite (residuals_from read (first_from read gm_type xs) xs) ≡ true)
       (squares : List Float) (room : n ≤ length squares) (f : Fitted) (samples : ℕ) (limit : Float)
       (is : f ≡ last_from read gm_type xs) (counted : samples ≡ length (used_from read gm_type xs)) (within : under squares limit n ≡ used_from read gm_type xs) where
-    made : (k : ℕ) → refusal_of f ≡ k → Cuts numbers gm_type n squares (answered refused_cut k (cut_as f samples limit))
+    made : (k : ℕ) → refusal_of f ≡ k → Cuts given gm_type n squares (answered refused_cut k (cut_as f samples limit))
     made zero e =
         record {
           long = room;
@@ -43,9 +43,9 @@ module _ (numbers : List Float) (gm_type n : ℕ) where
         }
     made (suc k) e =
         let no : (suc k ≡ 0 → ⊥) = λ z. absurd (omega arith) in
-        subst (λ (c : Cut). Cuts numbers gm_type n squares c) (sym (answered-refused refused_cut (suc k) (cut_as f samples limit) no))
+        subst (λ (c : Cut). Cuts given gm_type n squares c) (sym (answered-refused refused_cut (suc k) (cut_as f samples limit) no))
         (refused-cuts squares (suc k) room no (own-decides read gm_type xs fitted finite f samples is counted ∙ e))
 
     -- the last fit, or its refusal
-    pub made-cuts : Cuts numbers gm_type n squares (cut_of f samples limit)
+    pub made-cuts : Cuts given gm_type n squares (cut_of f samples limit)
     made-cuts = made (refusal_of f) refl

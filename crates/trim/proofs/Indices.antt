@@ -8,15 +8,16 @@ use mathlib.Core.Path.{◌≡◌, refl, sym, ap, ◌∙◌}
 use native.Mathlib.Nat.{le_of_lt, le_refl}
 use native.Mathlib.Omega.{arith}
 use lib.ListN.{length, drop, get_or, get_or-append}
-use lib.Seq.{get_or_at}
+use lib.Seq.{get_or_at, take_all}
 use Rattle.laws.specs.Loops.{fold}
 use Rattle.laws.specs.Parts.{listing}
 use Rattle.laws.specs.Refusal.{choose}
 use Rattle.laws.proofs.Cases.{lt-or-le}
-use Rattle.laws.proofs.Filling.{length-listing, listing-same}
+use Rattle.laws.proofs.Filling.{length-listing, listing-take}
 use Rattle.laws.proofs.Fold.{fold-again, fold_done}
+use Rattle.sample.specs.declared.MotionSample.{MotionSample}
 use Rattle.trim.specs.Trim.{passing}
-use Rattle.trim.specs.Inner.{up_to}
+use Rattle.trim.specs.Inner.{no_sample, sample_at, samples_in, up_to}
 use Rattle.trim.proofs.Passing.{passing-append, passing-true}
 
 module _ {A : Type 0} where
@@ -36,9 +37,12 @@ module _ {A B : Type 0} where
 pub length-up_to : (n : ℕ) → length (up_to n) ≡ n
 length-up_to n = length-listing (λ i. i) n
 
--- read alike below n
-pub map-up_to-same : {A : Type 0} (f g : ℕ → A) (n : ℕ) → ((i : ℕ) → i < n → f i ≡ g i) → map f (up_to n) ≡ map g (up_to n)
-map-up_to-same f g n h = map-listing f (λ i. i) n ∙ listing-same f g n h ∙ sym (map-listing g (λ i. i) n)
+-- a list is what stands at its places
+pub samples-whole : (given : List MotionSample) → samples_in given (length given) ≡ given
+samples-whole given =
+    map-listing (sample_at given) (λ i. i) (length given)
+    ∙ listing-take given no_sample (length given) (le_refl (length given))
+    ∙ take_all (length given) given (le_refl (length given))
 
 -- ---- a loop by index
 

@@ -37,9 +37,9 @@ some_of false false = lit< tt
 pub some-least : (gm_type : ℕ) → 0 < least_of gm_type
 some-least gm_type = some_of (eqb gm_type 1) (eqb gm_type 2)
 
-module _ (numbers : List Float) (gm_type n : ℕ) (squares : List Float) (first : Fitted) (r : Squared numbers gm_type n squares first) where
+module _ (given : List MotionSample) (gm_type n : ℕ) (squares : List Float) (first : Fitted) (r : Squared given gm_type n squares first) where
   abbrev read : ℕ → MotionSample
-  read = sample_at numbers
+  read = sample_at given
 
   abbrev before : Fitted
   before = first_from read gm_type (up_to n)
@@ -55,11 +55,11 @@ module _ (numbers : List Float) (gm_type n : ℕ) (squares : List Float) (first 
 
   pub squares-long : n ≤ length squares
   squares-long =
-      let e : length squares ≡ length r.old = ap (λ (l : List Float). length l) r.squared ∙ length-squares numbers before n r.old room in
+      let e : length squares ≡ length r.old = ap (λ (l : List Float). length l) r.squared ∙ length-squares given before n r.old room in
       omega (arith, e, room)
 
   front : take n squares ≡ measured
-  front = ap (λ (l : List Float). take n l) r.squared ∙ squares-front numbers before n r.old
+  front = ap (λ (l : List Float). take n l) r.squared ∙ squares-front given before n r.old
 
   some : 0 < n
   some = omega (arith, some-least gm_type, r.enough)
@@ -74,9 +74,9 @@ module _ (numbers : List Float) (gm_type n : ℕ) (squares : List Float) (first 
   roots-are : map root (take n squares) ≡ residuals
   roots-are = ap (λ (l : List Float). map root l) front ∙ roots-of-squares read before (up_to n)
 
-  pub infinite-cuts : all_finite (take n squares) ≡ false → Cuts numbers gm_type n squares (refused_cut 16)
+  pub infinite-cuts : all_finite (take n squares) ≡ false → Cuts given gm_type n squares (refused_cut 16)
   infinite-cuts e =
-      refused-cuts numbers gm_type n squares 16 squares-long (λ z. absurd (omega arith)) (not_finite read gm_type (up_to n) r.fitted (finite-is false e))
+      refused-cuts given gm_type n squares 16 squares-long (λ z. absurd (omega arith)) (not_finite read gm_type (up_to n) r.fitted (finite-is false e))
 
   module _ (finite : all_finite (take n squares) ≡ true) where
     each-finite : all_finite residuals ≡ true
@@ -86,13 +86,13 @@ module _ (numbers : List Float) (gm_type n : ℕ) (squares : List Float) (first 
     each-measured = ap (λ (l : List Float). all_finite l) (sym front) ∙ finite
 
     pub squares-findable : Findable (take n squares)
-    squares-findable = subst (λ (l : List Float). Findable l) (sym front) (findable numbers before n r.old each-measured some)
+    squares-findable = subst (λ (l : List Float). Findable l) (sym front) (findable given before n r.old each-measured some)
 
     module _ (limit : Float) (e : Limits (cutoff (map root (take n squares))) limit) (count : ℕ) (counted : count ≡ length (under squares limit n)) where
       is-kept : under squares limit n ≡ kept_from read before (up_to n)
       is-kept =
           ap (λ (l : List Float). under l limit n) r.squared
-          ∙ kept_under numbers before n r.old each-measured limit (subst (λ (l : List Float). Limits (cutoff l) limit) roots-are e)
+          ∙ kept_under given before n r.old each-measured limit (subst (λ (l : List Float). Limits (cutoff l) limit) roots-are e)
 
       kept-count : count ≡ length (kept_from read before (up_to n))
       kept-count = counted ∙ ap (λ (l : List ℕ). length l) is-kept
@@ -104,18 +104,18 @@ module _ (numbers : List Float) (gm_type n : ℕ) (squares : List Float) (first 
       few-kept = omega (arith, counted, under-few squares limit n, r.few)
 
       -- too few are kept: the first fit is the last
-      pub stood-cuts : count < least_of gm_type → (top : Float) → top ≡ inf false → Cuts numbers gm_type n squares (cut_of first n top)
+      pub stood-cuts : count < least_of gm_type → (top : Float) → top ≡ inf false → Cuts given gm_type n squares (cut_of first n top)
       stood-cuts h top q =
           let all : used_from read gm_type (up_to n) ≡ up_to n = used_all read gm_type (up_to n) (omega (arith, h, kept-count)) in
-          made-cuts numbers gm_type n r.fitted each-finite squares squares-long first n top
+          made-cuts given gm_type n r.fitted each-finite squares squares-long first n top
           (r.is ∙ ap (λ (l : List ℕ). fit_from read gm_type l) (sym all))
           (sym (length-up_to n) ∙ ap (λ (l : List ℕ). length l) (sym all))
-          (ap (λ (l : List Float). under l top n) r.squared ∙ all_under numbers before n r.old each-measured top q ∙ sym all)
+          (ap (λ (l : List Float). under l top n) r.squared ∙ all_under given before n r.old each-measured top q ∙ sym all)
 
-      pub fitted-cuts : least_of gm_type ≤ count → (f : Fitted) → f ≡ fit_from read gm_type (under squares limit n) → Cuts numbers gm_type n squares (cut_of f count limit)
+      pub fitted-cuts : least_of gm_type ≤ count → (f : Fitted) → f ≡ fit_from read gm_type (under squares limit n) → Cuts given gm_type n squares (cut_of f count limit)
       fitted-cuts h f q =
           let those : under squares limit n ≡ used_from read gm_type (up_to n) = is-kept ∙ sym (used-kept read gm_type (up_to n) (omega (arith, h, kept-count))) in
-          made-cuts numbers gm_type n r.fitted each-finite squares squares-long f count limit
+          made-cuts given gm_type n r.fitted each-finite squares squares-long f count limit
           (q ∙ ap (λ (l : List ℕ). fit_from read gm_type l) those)
           (counted ∙ ap (λ (l : List ℕ). length l) those)
           those

@@ -1,6 +1,5 @@
 pub mod Passing
 pub mod Indices
-pub mod Unpacked
 pub mod Mapped
 pub mod NoSign
 pub mod Roots

@@ -1,4 +1,4 @@
--- A list that is read as samples has the trimmed fit of those samples: a fit, the residuals, what is kept and the grid numbers take what is read and nothing else.
+-- A list that is read as samples has the trimmed fit of those samples: a fit, the residuals, what is kept and the grid given take what is read and nothing else.
 -- Assumes nothing.
 use Prim.Native.Nat.{ℕ}
 use mathlib.Core.Bool.{Bool, true, false}
@@ -121,5 +121,5 @@ module _ {A : Type 0} (read : A → MotionSample) where
           ∙ ap (λ (p : List ℤ). model_by (length xs) (trim_refusal read gm_type xs) (trimmed_model_as 0 (length used) p)) last-params
 
 -- as many as were asked for
-pub length-samples_in : (numbers : List Float) (n : ℕ) → length (samples_in numbers n) ≡ n
-length-samples_in numbers n = length-map (up_to n) (sample_at numbers) ∙ length-up_to n
+pub length-samples_in : (given : List MotionSample) (n : ℕ) → length (samples_in given n) ≡ n
+length-samples_in given n = length-map (up_to n) (sample_at given) ∙ length-up_to n

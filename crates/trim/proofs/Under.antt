@@ -31,21 +31,21 @@ use Rattle.trim.proofs.Roots.{told}
 -- ---- a loop with the test
 
 -- a sample's step where its square is under the limit
-abbrev pub under_step : {S : Type 0} → (S → MotionSample → S) → List Float → List Float → Float → S → ℕ → S
-under_step step numbers squares limit t i = choose (le (get_or squares i nan) limit) (step t (sample_at numbers i)) t
+abbrev pub under_step : {S : Type 0} → (S → MotionSample → S) → List MotionSample → List Float → Float → S → ℕ → S
+under_step step given squares limit t i = choose (le (get_or squares i nan) limit) (step t (sample_at given i)) t
 
-pub under-fold : {S : Type 0} (step : S → MotionSample → S) (numbers squares : List Float) (limit : Float) (n : ℕ) (s : S)
-    → fold (under_step step numbers squares limit) (up_to n) s ≡ fold (reading step (sample_at numbers)) (under squares limit n) s
-under-fold step numbers squares limit n s =
-    sym (fold-passing (reading step (sample_at numbers)) (λ (i : ℕ). le (get_or squares i nan) limit) (up_to n) s)
+pub under-fold : {S : Type 0} (step : S → MotionSample → S) (given : List MotionSample) (squares : List Float) (limit : Float) (n : ℕ) (s : S)
+    → fold (under_step step given squares limit) (up_to n) s ≡ fold (reading step (sample_at given)) (under squares limit n) s
+under-fold step given squares limit n s =
+    sym (fold-passing (reading step (sample_at given)) (λ (i : ℕ). le (get_or squares i nan) limit) (up_to n) s)
 
 -- a turn where the test passes, and one where it doesn't
-module _ {S : Type 0} (step : S → MotionSample → S) (numbers squares : List Float) (limit : Float) (i : ℕ) (t r : S) where
-  pub turn-taken : le (get_or squares i nan) limit ≡ true → r ≡ step t (sample_at numbers i) → r ≡ under_step step numbers squares limit t i
-  turn-taken h e = e ∙ ap (λ (b : Bool). choose b (step t (sample_at numbers i)) t) (sym h)
+module _ {S : Type 0} (step : S → MotionSample → S) (given : List MotionSample) (squares : List Float) (limit : Float) (i : ℕ) (t r : S) where
+  pub turn-taken : le (get_or squares i nan) limit ≡ true → r ≡ step t (sample_at given i) → r ≡ under_step step given squares limit t i
+  turn-taken h e = e ∙ ap (λ (b : Bool). choose b (step t (sample_at given i)) t) (sym h)
 
-  pub turn-passed : le (get_or squares i nan) limit ≡ false → r ≡ t → r ≡ under_step step numbers squares limit t i
-  turn-passed h e = e ∙ ap (λ (b : Bool). choose b (step t (sample_at numbers i)) t) (sym h)
+  pub turn-passed : le (get_or squares i nan) limit ≡ false → r ≡ t → r ≡ under_step step given squares limit t i
+  turn-passed h e = e ∙ ap (λ (b : Bool). choose b (step t (sample_at given i)) t) (sym h)
 
 -- one more, or as many
 abbrev pub count_step : List Float → Float → ℕ → ℕ → ℕ
@@ -89,9 +89,9 @@ clear-under m n h =
 
 -- ---- squares that were written to the front of a list
 
-module _ (numbers : List Float) (f : Fitted) (n : ℕ) (old : List Float) where
+module _ (given : List MotionSample) (f : Fitted) (n : ℕ) (old : List Float) where
   abbrev read : ℕ → MotionSample
-  read = sample_at numbers
+  read = sample_at given
 
   abbrev measured : List Float
   measured = squares_from read f (up_to n)

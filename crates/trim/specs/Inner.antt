@@ -1,11 +1,11 @@
--- The numbers of a call's samples in memory of its own, and what the functions below the public calls ask and answer; no public contract over words cites it.
+-- A call's samples by their places, and what the functions below the public calls ask and answer; no public contract over words cites it.
 -- Assumes nothing.
-use Rattle.std.specs.Prelude.{ℕ, ◌+◌, ◌*◌, ◌≤◌, true, List, map, ◌≡◌, ltb, pos, length, get_or, set, replicate, T, Float}
+use Rattle.std.specs.Prelude.{ℕ, ◌≤◌, true, List, map, ◌≡◌, pos, length, get_or, replicate, T, Float}
 use Rattle.std.specs.Float.{nan, binary64}
 use Rattle.std.specs.Float.Ieee.{fits, le}
 use Rattle.laws.specs.Parts.{listing}
 use Rattle.laws.specs.Buffer.{onto}
-use Rattle.laws.specs.Refusal.{choose, or_else}
+use Rattle.laws.specs.Refusal.{or_else}
 use Rattle.laws.specs.Call.{answered}
 use Rattle.laws.specs.Binary64.{nought}
 use Rattle.sample.specs.declared.MotionSample.{MotionSample}
@@ -22,38 +22,22 @@ use Rattle.trim.specs.declared.Trimmed.{Trimmed}
 use Rattle.trim.specs.declared.TrimmedModel.{TrimmedModel}
 use Rattle.trim.specs.Trim.{least_of, continuous_fit, passing, first_from, used_from, last_from, few_refusal, flag_refusal, trim_refusal, trimmed_as, trimmed_model_as}
 
--- ---- four numbers a sample, one sample after the other
+-- ---- samples by their places
 
-abbrev pub most_numbers : ℕ
-most_numbers = 16384
+-- read where a list has none
+abbrev pub no_sample : MotionSample
+no_sample = record { x = nan; y = nan; u = nan; v = nan }
 
-abbrev pub number_at : List Float → ℕ → Float
-number_at numbers k = get_or numbers k nan
-
-unfoldable pub sample_at : List Float → ℕ → MotionSample
-sample_at numbers i =
-    record {
-      x = number_at numbers (4 * i);
-      y = number_at numbers (4 * i + 1);
-      u = number_at numbers (4 * i + 2);
-      v = number_at numbers (4 * i + 3);
-    }
+abbrev pub sample_at : List MotionSample → ℕ → MotionSample
+sample_at given i = get_or given i no_sample
 
 -- 0, 1, .., n - 1
 abbrev pub up_to : ℕ → List ℕ
 up_to n = listing (λ i. i) n
 
 -- the first n samples
-abbrev pub samples_in : List Float → ℕ → List MotionSample
-samples_in numbers n = map (sample_at numbers) (up_to n)
-
--- with another sample at i
-abbrev pub put : List Float → ℕ → MotionSample → List Float
-put numbers i s = set (set (set (set numbers (4 * i) s.x) (4 * i + 1) s.y) (4 * i + 2) s.u) (4 * i + 3) s.v
-
--- there is room for 4,096
-unfoldable pub stored : List Float → ℕ → MotionSample → List Float
-stored numbers i s = choose (ltb i most_samples) (put numbers i s) numbers
+abbrev pub samples_in : List MotionSample → ℕ → List MotionSample
+samples_in given n = map (sample_at given) (up_to n)
 
 -- ---- samples under a limit
 
@@ -101,14 +85,14 @@ pub record Untrimmed (gm_type n : ℕ) (squares : List Float) : Type 0 where
   pub clear : squares ≡ replicate most_samples nought
 
 -- after it: the fit, and each sample's square in front of what was there
-pub record Squared (numbers : List Float) (gm_type n : ℕ) (squares : List Float) (first : Fitted) : Type 0 where
+pub record Squared (given : List MotionSample) (gm_type n : ℕ) (squares : List Float) (first : Fitted) : Type 0 where
   pub few : n ≤ most_samples
   pub enough : least_of gm_type ≤ n
-  pub is : first ≡ first_from (sample_at numbers) gm_type (up_to n)
-  pub fitted : refusal_of (first_from (sample_at numbers) gm_type (up_to n)) ≡ 0
+  pub is : first ≡ first_from (sample_at given) gm_type (up_to n)
+  pub fitted : refusal_of (first_from (sample_at given) gm_type (up_to n)) ≡ 0
   pub old : List Float
   pub long : length old ≡ most_samples
-  pub squared : squares ≡ onto (squares_from (sample_at numbers) (first_from (sample_at numbers) gm_type (up_to n)) (up_to n)) old
+  pub squared : squares ≡ onto (squares_from (sample_at given) (first_from (sample_at given) gm_type (up_to n)) (up_to n)) old
 
 -- the answer after rows 1, 4 and 15
 abbrev pub trim_answer : {A : Type 0} → (A → MotionSample) → ℕ → List A → Trimmed
@@ -117,10 +101,10 @@ trim_answer read gm_type xs =
     (trimmed_as (last_from read gm_type xs) (length (used_from read gm_type xs)))
 
 -- of a cut, and the limit that the last fit's samples are under
-pub record Cuts (numbers : List Float) (gm_type n : ℕ) (squares : List Float) (c : Cut) : Type 0 where
+pub record Cuts (given : List MotionSample) (gm_type n : ℕ) (squares : List Float) (c : Cut) : Type 0 where
   pub long : n ≤ length squares
-  pub answers : trimmed_as c.fitted c.used ≡ trim_answer (sample_at numbers) gm_type (up_to n)
-  pub within : trim_refusal (sample_at numbers) gm_type (up_to n) ≡ 0 → under squares c.limit n ≡ used_from (sample_at numbers) gm_type (up_to n)
+  pub answers : trimmed_as c.fitted c.used ≡ trim_answer (sample_at given) gm_type (up_to n)
+  pub within : trim_refusal (sample_at given) gm_type (up_to n) ≡ 0 → under squares c.limit n ≡ used_from (sample_at given) gm_type (up_to n)
 
 -- ---- the calls
 

@@ -9,16 +9,13 @@ ghost use Rattle.std.specs.Prelude.{◌≡◌, map, ◌≤◌, ◌<◌, length, 
 ghost use Rattle.median.specs.Inner.{Findable};
 ghost use Rattle.root.specs.Root.{root};
 ghost use Rattle.median.specs.Median.{all_finite};
+ghost use Rattle.refusal.specs.Number.{refusal_number};
 ghost use Rattle.trim.specs.Trim.{least_of, continuous_fit, cutoff, few_refusal};
 ghost use Rattle.trim.specs.Inner.{list_refusal, model_refusal, refused_model, Bare, Limits};
 
-use fit::{Fitted, NO_SUCH_CODE, ROTZOOM, TRANSLATION};
+use fit::{Fitted, ROTZOOM, TRANSLATION};
+use refusal::Refusal;
 use score::ContinuousModel;
-
-// Rows of the rules' table.
-pub const TOO_SHORT: u32 = 15;
-
-pub const NOT_FINITE: u32 = 16;
 
 // The fewest samples of each type.
 const LEAST_TRANSLATION: usize = 4;
@@ -46,7 +43,7 @@ pub struct Trimmed {
 // A row of the table of refusals (0: none), how many samples the last fit used, and its model on the
 // grid, x first.
 #[repr(C)]
-#[derive(Clone, Copy)]
+#[derive(Clone, Copy, Debug, PartialEq, Eq)]
 pub struct TrimmedModel {
     pub refusal: u32,
     pub used: u32,
@@ -204,34 +201,28 @@ pub fn limit_of(squares: &[f64], n: usize) -> f64
 // ---- the calls
 
 // Row 15: fewer samples than the least of the type.
-fn few_refusal(gm_type: u8, samples: usize) -> u32
-    ensures { result ≡ few_refusal gm_type samples }
+fn few_refusal(gm_type: u8, samples: usize) -> Result<(), Refusal>
+    ensures { refusal_number result ≡ few_refusal gm_type samples }
 {
     if samples < least_of(gm_type) {
-        return TOO_SHORT;
+        return Err(Refusal::TooFew);
     }
-    0
+    Ok(())
 }
 
-pub fn list_refusal(gm_type: u8, samples: usize) -> u32
-    ensures { result ≡ list_refusal gm_type samples }
+pub fn list_refusal(gm_type: u8, samples: usize) -> Result<(), Refusal>
+    ensures { refusal_number result ≡ list_refusal gm_type samples }
 {
-    let first = fit::fit_refusal(gm_type, samples);
-    if first != 0 {
-        return first;
-    }
+    fit::fit_refusal(gm_type, samples)?;
     few_refusal(gm_type, samples)
 }
 
-pub fn model_refusal(gm_type: u8, flag: u8, samples: usize) -> u32
-    ensures { result ≡ model_refusal gm_type flag samples }
+pub fn model_refusal(gm_type: u8, flag: u8, samples: usize) -> Result<(), Refusal>
+    ensures { refusal_number result ≡ model_refusal gm_type flag samples }
 {
-    let first = fit::fit_refusal(gm_type, samples);
-    if first != 0 {
-        return first;
-    }
+    fit::fit_refusal(gm_type, samples)?;
     if flag > 1 {
-        return NO_SUCH_CODE;
+        return Err(Refusal::NoSuchCode);
     }
     few_refusal(gm_type, samples)
 }
@@ -239,10 +230,9 @@ pub fn model_refusal(gm_type: u8, flag: u8, samples: usize) -> u32
 pub fn refused_model(number: u32) -> TrimmedModel
     ensures { result ≡ refused_model number }
 {
-    let params = [0i32; 6];
     TrimmedModel {
         refusal: number,
         used: 0,
-        params,
+        params: [0; 6],
     }
 }

@@ -14,20 +14,16 @@ const UNIT: i64 = 65536;
 const WARP_PARAM_REDUCE_BITS: u32 = 6;
 
 // To the range of 16 bits.
+#[tactic(auto, unfolding(crate::specs::Shear::clamped))]
 pub fn clamp(x: i64) -> i64
     ensures is { result ≡ clamped x }
     ensures small { nat_abs result ≤ 32768 }
 {
-    if x < -32768 {
-        return -32768;
-    }
-    if 32767 < x {
-        return 32767;
-    }
-    x
+    x.clamp(-32768, 32767)
 }
 
 // To a multiple of 64.
+#[tactic(auto, unfolding(crate::specs::Shear::reduced))]
 pub fn reduce(x: i64) -> i64
     requires { nat_abs x ≤ 32768 }
     ensures is { result ≡ reduced x }
@@ -36,6 +32,7 @@ pub fn reduce(x: i64) -> i64
     divisor::product(divisor::round2_signed(x, WARP_PARAM_REDUCE_BITS), 64)
 }
 
+#[tactic(auto, unfolding(crate::specs::Shear::alpha0))]
 pub fn alpha0(p2: i64) -> i64
     requires { Reach p2 }
     ensures is { result ≡ alpha0 p2 }
@@ -44,6 +41,7 @@ pub fn alpha0(p2: i64) -> i64
     clamp(p2 - UNIT)
 }
 
+#[tactic(auto, unfolding(crate::specs::Shear::gamma0))]
 pub fn gamma0(p2: i64, p4: i64) -> i64
     requires { Reach p2 × (nat_abs p4 ≤ 8192) }
     ensures is { result ≡ gamma0 p2 p4 }
@@ -52,6 +50,7 @@ pub fn gamma0(p2: i64, p4: i64) -> i64
     clamp(divisor::divided_by(p2, divisor::product(p4, UNIT)))
 }
 
+#[tactic(auto, unfolding(crate::specs::Shear::delta0))]
 pub fn delta0(p2: i64, p3: i64, p4: i64, p5: i64) -> i64
     requires { Linear p2 p3 p4 p5 }
     ensures is { result ≡ delta0 p2 p3 p4 p5 }
@@ -68,15 +67,10 @@ fn weighed(x: i64, y: i64, weight: u64) -> u64
 }
 
 // 1 where both sums are under 65536, which stands for 1.
+#[tactic(auto, unfolding(crate::specs::Shear::warp_valid))]
 pub fn warp_valid(alpha: i64, beta: i64, gamma: i64, delta: i64) -> u32
     requires { Clamped alpha beta gamma delta }
     ensures { result ≡ warp_valid alpha beta gamma delta }
 {
-    if 65536 <= weighed(alpha, beta, 7) {
-        return 0;
-    }
-    if 65536 <= weighed(gamma, delta, 4) {
-        return 0;
-    }
-    1
+    (weighed(alpha, beta, 7) < 65536 && weighed(gamma, delta, 4) < 65536) as u32
 }

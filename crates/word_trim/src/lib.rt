@@ -11,12 +11,13 @@ ghost use Rattle.sample.specs.Word.{most_samples};
 ghost use Rattle.sample.specs.Sample.{sample_of};
 ghost use Rattle.quantize.specs.Quantize.{quantized_model};
 ghost use Rattle.trim.specs.Trim.{trimmed_from, trimmed_model_from};
-ghost use Rattle.trim.specs.Inner.{squares_from, model_as};
+ghost use Rattle.trim.specs.Inner.{squares_from, model_as, list_refusal, model_refusal};
 ghost use Rattle.word_trim.specs.Inner.{at_most, refused_trim, trim_of, Asked, Measured, Trims, Placed};
 
 use fit::Fitted;
+use refusal::Refusal;
 use sample::MOST_SAMPLES;
-use trim::{INFINITE, NOT_FINITE, Trimmed, TrimmedModel};
+use trim::{INFINITE, Trimmed, TrimmedModel};
 
 // A list up to this length takes as little room: clearing the most was three tenths of the time of a
 // trim of 16 words.
@@ -29,10 +30,8 @@ fn residuals(fitted: Fitted, words: &[u32], squares: &mut [f64])
 {
     let m = trim::continuous_fit(fitted);
     let centres = sample::centres();
-    let mut i = 0usize;
-    while i < words.len() {
+    for i in 0..words.len() {
         squares[i] = score::residual(m, sample::sample_by(&centres, words[i]));
-        i += 1;
     }
 }
 
@@ -44,13 +43,11 @@ fn keep(words: &[u32], squares: &[f64], limit: f64, kept: &mut [u32]) -> usize
     ensures kept_len_unchanged { length kept.new ≡ length kept.old }
 {
     let mut n = 0usize;
-    let mut i = 0usize;
-    while i < words.len() {
+    for i in 0..words.len() {
         kept[n] = words[i];
         if squares[i] <= limit {
             n += 1;
         }
-        i += 1;
     }
     n
 }
@@ -85,7 +82,7 @@ fn second(gm_type: u8, first: Fitted, words: &[u32], squares: &[f64], kept: &mut
     ensures { Trims gm_type words.now kept.new result }
 {
     if !trim::all_finite(squares, words.len()) {
-        return refused_trim(NOT_FINITE);
+        return refused_trim(Refusal::NotFinite.number());
     }
     let limit = trim::limit_of(squares, words.len());
     let n = keep(words, squares, limit, kept);
@@ -114,10 +111,17 @@ fn trimmed(gm_type: u8, words: &[u32], squares: &mut [f64], kept: &mut [u32]) ->
 pub fn fit_trimmed(gm_type: u8, words: &[u32]) -> Trimmed
     ensures { result ≡ trimmed_from sample_of gm_type words.now }
 {
-    let refusal = trim::list_refusal(gm_type, words.len());
-    if refusal != 0 {
-        return refused_trim(refusal);
+    match trim::list_refusal(gm_type, words.len()) {
+        Err(refusal) => refused_trim(refusal.number()),
+        Ok(()) => fit_in_room(gm_type, words),
     }
+}
+
+// In as much room as the list takes.
+fn fit_in_room(gm_type: u8, words: &[u32]) -> Trimmed
+    requires { list_refusal gm_type (length words.now) ≡ 0 }
+    ensures { result ≡ trimmed_from sample_of gm_type words.now }
+{
     if words.len() <= SHORT {
         let mut few = [0.0f64; SHORT];
         let mut front = [0u32; SHORT];
@@ -166,10 +170,16 @@ fn placed(
 pub fn quantize_trimmed(gm_type: u8, flag: u8, words: &[u32]) -> TrimmedModel
     ensures { result ≡ trimmed_model_from sample_of gm_type flag words.now }
 {
-    let refusal = trim::model_refusal(gm_type, flag, words.len());
-    if refusal != 0 {
-        return trim::refused_model(refusal);
+    match trim::model_refusal(gm_type, flag, words.len()) {
+        Err(refusal) => trim::refused_model(refusal.number()),
+        Ok(()) => place_in_room(gm_type, flag, words),
     }
+}
+
+fn place_in_room(gm_type: u8, flag: u8, words: &[u32]) -> TrimmedModel
+    requires { model_refusal gm_type flag (length words.now) ≡ 0 }
+    ensures { result ≡ trimmed_model_from sample_of gm_type flag words.now }
+{
     if words.len() <= SHORT {
         let mut few = [0.0f64; SHORT];
         let mut front = [0u32; SHORT];

@@ -3,21 +3,20 @@
 use Prim.Native.Nat.{ℕ, ◌^◌, ◌<◌}
 use mathlib.Core.List.{List}
 use mathlib.Core.Logic.{⊎_elim}
-use mathlib.Core.Path.{◌≡◌, refl, sym, ap, subst, ◌∙◌}
+use mathlib.Core.Path.{◌≡◌, sym, ap, subst, ◌∙◌}
 use borrow.Author.Tests.{ne_eqb}
 use lib.ListN.{length, get_or}
 use Rattle.laws.proofs.Cases.{eq-or-ne}
 use Rattle.search.specs.Search.{sample_words}
 use Rattle.job_task.specs.Task.{Task, Lent, Sheet, sheet_in, sheet_of}
 use Rattle.job_task.specs.Rows as job
-use Rattle.job_task.proofs.Ready.{Writes}
 use Rattle.words_task.specs.Rows.{early}
 use Rattle.words_task.proofs.Accepted.{ready}
 use Rattle.words_task.proofs.AsJob.{Searchable, early-same}
 use Rattle.job_outcome.specs.declared.Report.{Report}
 use Rattle.job_outcome.specs.Words.{Finished, finish, refused, from_words}
 use Rattle.job_outcome.specs.Outcome as ending
-use Rattle.job_outcome.specs.Outcome.{Ended, finished_in}
+use Rattle.job_outcome.specs.Outcome.{finished_in}
 use Rattle.job_outcome.specs.Demand3.{ReadBack, Demand3}
 use Rattle.job_outcome.proofs.Demand3.{words_back, holds}
 use Rattle.job_outcome.proofs.Stages.{refused-early}

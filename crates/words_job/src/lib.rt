@@ -5,13 +5,15 @@
 // crate `words_task`. The blocks are of form 2, or of the form that a run holds.
 #![tactic(auto)]
 
-ghost use Rattle.job_task.specs.Task.{sheet, sheet_in};
+ghost use Rattle.job_task.specs.Task.{sheet, sheet_from};
 ghost use Rattle.job_outcome.specs.Words.{finish};
 ghost use Rattle.words_job.specs.Outcome.{Done};
 
 use forms::FORM2;
 pub use job::{Report, Settings};
+use job_task::Handed;
 
+// Handed one by one, as C hands them (`belt_job_of_words`, docs/RULES.md, 'Job of words').
 pub fn job_of_words(
     words: &[u32],
     settings: Settings,
@@ -27,51 +29,29 @@ pub fn job_of_words(
         blocks.old header.old
         (finish result blocks.new header.new) }
 {
-    job_of_words_in(
-        words, settings, FORM2, classes, types, models, prior, blocks, header,
-    )
+    let handed = Handed {
+        settings,
+        form: FORM2,
+        classes,
+        types,
+        models,
+        prior,
+    };
+    job_of_words_in(words, handed, blocks, header)
 }
 
-// The same in the form of this number.
+// The same in the form that is handed.
 pub fn job_of_words_in(
     words: &[u32],
-    settings: Settings,
-    form: u32,
-    classes: &[u8],
-    types: &[u8],
-    models: &[i32],
-    prior: &[i32],
+    handed: Handed,
     blocks: &mut [u8],
     header: &mut [u8],
 ) -> Report
-    ensures { Done
-        (sheet_in form words.now settings classes.now types.now models.now prior.now)
-        blocks.old header.old
+    ensures { Done (sheet_from words.now handed.entry) blocks.old header.old
         (finish result blocks.new header.new) }
 {
-    let refusal = words_task::refusal_of(
-        words,
-        settings,
-        form,
-        classes,
-        types,
-        models,
-        prior,
-        blocks.len(),
-        header.len(),
-    );
-    if refusal != 0 {
-        return job::refused(refusal);
+    match words_task::refusal_of(words, handed, blocks.len(), header.len()) {
+        Ok(()) => job::finish(handed, words, blocks, header),
+        Err(refusal) => job::refused(refusal.number()),
     }
-    job::finish(
-        settings,
-        form,
-        types,
-        models,
-        prior,
-        words,
-        classes,
-        &mut *blocks,
-        &mut *header,
-    )
 }

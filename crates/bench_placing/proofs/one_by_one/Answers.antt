@@ -20,18 +20,18 @@ written_step l j left v {l'} {t} {j'} {b} h eb ej el r =
 pub write_bit-next-requires : goal.write_bit-next-requires
 write_bit-next-requires c = (rw c.bit_of.ensures (bit_of-lt _ _), record { within = omega arith; small = omega arith })
 
-pub loop-left-preserved : goal.loop-left-preserved
-loop-left-preserved c = let a = c.args in
-    let loop = c.loop-left in
-    let loop-test = c.loop-left-test in
+pub loop-k-preserved : goal.loop-k-preserved
+loop-k-preserved c = let a = c.args in
+    let loop = c.loop-k in
+    let loop-test = c.loop-k-test in
     let e = c.write_bit-next.ensures in
     let inv = loop.invariant in (
       omega arith,
       omega (arith, e.at),
       ap length e.buffer ∙ simp length-put_bit inv.2,
-      written_step loop.buffer loop.next.at loop.left a.value loop-test.true c.bit_of.ensures e.at e.buffer inv.3,
+      written_step loop.buffer loop.next.at loop.k a.value loop-test.true c.bit_of.ensures e.at e.buffer inv.3,
     )
 
 pub returns : goal.returns
-returns c = let z : c.loop-left.left ≡ 0 = omega arith in
-    record { at = omega (arith, length-field_bits c.args.n c.args.value); buffer = rw z at c.loop-left.invariant.3 }
+returns c = let z : c.loop-k.k ≡ 0 = omega arith in
+    record { at = omega (arith, length-field_bits c.args.n c.args.value); buffer = rw z at c.loop-k.invariant.3 }

@@ -6,11 +6,8 @@ use Rattle.bits.specs.Bits.{put_bits}
 use Rattle.bits.specs.Fields.{field_bits}
 use Rattle.bench_placing.proofs.one_by_one.Given as goal
 
-abbrev pub invariant-loop-left : goal.invariant-loop-left
-invariant-loop-left l = (l.left ≤ l.n)
-    × (l.next.at + l.left ≡ l.initial.next.at + l.n)
+abbrev pub invariant-loop-k : goal.invariant-loop-k
+invariant-loop-k l = (l.k ≤ l.n)
+    × (l.next.at + l.k ≡ l.initial.next.at + l.n)
     × (length l.buffer ≡ length l.initial.buffer)
-    × (put_bits l.buffer l.next.at (field_bits l.left l.value) ≡ put_bits l.initial.buffer l.initial.next.at (field_bits l.n l.value))
-
-abbrev pub decreases-loop-left : goal.decreases-loop-left
-decreases-loop-left l = l.left
+    × (put_bits l.buffer l.next.at (field_bits l.k l.value) ≡ put_bits l.initial.buffer l.initial.next.at (field_bits l.n l.value))

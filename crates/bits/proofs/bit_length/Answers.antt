@@ -1,11 +1,7 @@
 -- `bits::bit_length`: the zeros in front and the number's bits make 32. Assumes nothing.
 use native.Mathlib.Omega.{arith}
-use lib.Count.{leading_le}
 use Rattle.bits.proofs.BitLength.{behind-zeros}
 use Rattle.bits.proofs.bit_length.Goals as goal
-
-pub overflow_sub-result : goal.overflow_sub-result
-overflow_sub-result c = leading_le 32 c.args.n
 
 pub returns : goal.returns
 returns c = (behind-zeros c.args.n (omega arith), omega arith)

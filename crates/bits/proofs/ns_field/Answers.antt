@@ -4,16 +4,10 @@ use native.Mathlib.Omega.{arith}
 use Rattle.bits.proofs.Ns.{short-code, long-code, short-low, long-low}
 use Rattle.bits.proofs.ns_field.Goals as goal
 
-pub ns_width-width-requires : goal.ns_width-width-requires
-ns_width-width-requires c = omega arith
-
-pub overflow_sub-result : goal.overflow_sub-result
-overflow_sub-result c = omega arith
-
 pub returns-then-v-m : goal.returns-then-v-m
 returns-then-v-m c = let a = c.args in
-    let r = c.ns_width-width.result in
-    let w = c.ns_width-width.ensures in (
+    let r = c.ns_width-w.result in
+    let w = c.ns_width-w.ensures in (
       record {
         bits = sym (short-code a.n a.v r.w r.m w.w w.m c.if-v-m.true);
         low = short-low a.n a.v r.w r.m w.w w.m c.requires.0
@@ -22,13 +16,10 @@ returns-then-v-m c = let a = c.args in
       omega (arith, w.most),
     )
 
-pub overflow_add-result : goal.overflow_add-result
-overflow_add-result c = omega arith
-
 pub returns : goal.returns
 returns c = let a = c.args in
-    let r = c.ns_width-width.result in
-    let w = c.ns_width-width.ensures in (
+    let r = c.ns_width-w.result in
+    let w = c.ns_width-w.ensures in (
       record { bits = sym (long-code a.n a.v r.w r.m w.w w.m c.if-v-m.false); low = long-low a.n a.v r.w r.m w.w w.m c.requires.0 },
       w.most,
     )

@@ -10,12 +10,6 @@ pub coarse_candidate-best-requires : goal.coarse_candidate-best-requires
 coarse_candidate-best-requires c = let p = c.requires in
     let i = c.loop-x.invariant in record { coarse = p.coarse; y_bound = (omega (arith, c.loop-x-test.true, p.y_bound.0, p.to_bound.0), omega (arith, c.loop-x-test.true, p.y_bound.0, p.to_bound.0)); rows_bound = omega (arith, i.1, c.loop-x-test.true, p.to_bound.0, p.to_bound.1) }
 
-pub overflow_add-x : goal.overflow_add-x
-overflow_add-x c = omega arith
-
-pub loop-x-smaller : goal.loop-x-smaller
-loop-x-smaller c = omega arith
-
 pub loop-x-preserved : goal.loop-x-preserved
 loop-x-preserved c = (
   goes_on (c.args.y * 25 + (c.loop-x.x + 1)) c.loop-x.invariant.0 (omega (arith, c.loop-x-test.true)) (omega arith) c.coarse_candidate-best.ensures.same,

@@ -7,6 +7,3 @@ use Rattle.coarse.proofs.coarse_ones.Given as goal
 
 abbrev pub invariant-loop-x : goal.invariant-loop-x
 invariant-loop-x l = Turns (coarse_turn l.block l.window) (l.y * 25 + l.from) (l.y * 25 + l.to) l.initial.best (l.y * 25 + l.x) l.best × (l.best.rows ≤ l.initial.best.rows + 8 * (l.x - l.from)) × (l.from ≤ l.x)
-
-abbrev pub decreases-loop-x : goal.decreases-loop-x
-decreases-loop-x l = l.to - l.x

@@ -26,14 +26,8 @@ coarse_eight-left-requires c = record { coarse = c.requires.coarse; spread = c.r
 pub coarse_eight-middle-requires : goal.coarse_eight-middle-requires
 coarse_eight-middle-requires c = record { coarse = c.requires.coarse; spread = c.requires.spread; beside = record { row = c.requires.y_bound; columns = omega arith; apart = c.if-y-eq-COARSE_BIAS.false }; rows_bound = omega (arith, c.coarse_eight-left.ensures.few, c.requires.rows_bound, c.requires.y_bound) }
 
-pub overflow_mul-coarse_eight : goal.overflow_mul-coarse_eight
-overflow_mul-coarse_eight c = omega arith
-
 pub coarse_eight-right-requires : goal.coarse_eight-right-requires
 coarse_eight-right-requires c = record { coarse = c.requires.coarse; spread = c.requires.spread; beside = record { row = c.requires.y_bound; columns = omega arith; apart = c.if-y-eq-COARSE_BIAS.false }; rows_bound = omega (arith, c.coarse_eight-middle.ensures.few, c.coarse_eight-left.ensures.few, c.requires.rows_bound, c.requires.y_bound) }
-
-pub overflow_mul-coarse_candidate : goal.overflow_mul-coarse_candidate
-overflow_mul-coarse_candidate c = omega arith
 
 pub coarse_candidate-requires : goal.coarse_candidate-requires
 coarse_candidate-requires c = record { coarse = c.requires.coarse; y_bound = (c.requires.y_bound, omega arith); rows_bound = omega (arith, c.coarse_eight-right.ensures.few, c.coarse_eight-middle.ensures.few, c.coarse_eight-left.ensures.few, c.requires.rows_bound, c.requires.y_bound) }

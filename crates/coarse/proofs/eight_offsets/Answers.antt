@@ -29,12 +29,6 @@ offset_bounds-costs-k c = omega (arith, c.requires.y_bound.1, c.requires.columns
 pub bounds-costs-k : goal.bounds-costs-k
 bounds-costs-k c = omega (arith, c.requires.y_bound.1, c.requires.columns.long)
 
-pub overflow_add-k : goal.overflow_add-k
-overflow_add-k c = omega (arith, c.requires.y_bound.1, c.requires.columns.long)
-
-pub loop-k-smaller : goal.loop-k-smaller
-loop-k-smaller c = omega (arith, c.requires.y_bound.1, c.requires.columns.long)
-
 pub loop-k-preserved : goal.loop-k-preserved
 loop-k-preserved c = let l = c.loop-k-test.true in
     let x = c.args.x in

@@ -5,23 +5,8 @@ use native.Mathlib.Omega.{arith}
 use Rattle.divisor.proofs.Rounding.{index-small, index_is}
 use Rattle.divisor.proofs.lut_index.Goals as goal
 
-pub power_of_two-requires : goal.power_of_two-requires
-power_of_two-requires c = omega (arith, c.floor_log2-n.ensures.range.most)
-
-pub overflow_sub-d : goal.overflow_sub-d
-overflow_sub-d c = rw c.power_of_two.ensures c.floor_log2-n.ensures.range.low
-
-pub overflow_sub-n : goal.overflow_sub-n
-overflow_sub-n c = omega (arith, c.floor_log2-n.ensures.range.least)
-
-pub round2-requires : goal.round2-requires
-round2-requires c = record {
-  small = omega (arith, c.requires.high);
-  places = omega (arith, c.floor_log2-n.ensures.range.most);
-}
-
 pub returns : goal.returns
 returns c = let d = c.args.d in
     let n = c.floor_log2-n in
-    let rounded = rw c.power_of_two.ensures at c.round2.ensures.is in
+    let rounded = rw c.wide_power.ensures at c.round2.ensures.is in
     record { is = rounded ∙ index_is n.result d n.ensures.range n.ensures.is; small = omega (arith, rounded, index-small n.result d n.ensures.range) }

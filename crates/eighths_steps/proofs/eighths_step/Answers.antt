@@ -21,9 +21,6 @@ loop-k-init c = (begins _ _ _ _ _ (omega arith) (omega arith), omega arith)
 pub eighths_candidate-best-requires : goal.eighths_candidate-best-requires
 eighths_candidate-best-requires c = record { fine_bytes = c.requires.fine_bytes; roomy = c.requires.roomy; steady = c.requires.steady; k_bound = (c.loop-k-test.true, omega (arith, c.loop-k.invariant.0.within, c.loop-k.invariant.1, c.requires.rows_bound)) }
 
-pub loop-k-smaller : goal.loop-k-smaller
-loop-k-smaller c = omega arith
-
 pub loop-k-preserved : goal.loop-k-preserved
 loop-k-preserved c = (
   goes_on (c.loop-k.k + 1) c.loop-k.invariant.0 c.loop-k-test.true (omega arith) c.eighths_candidate-best.ensures.same,

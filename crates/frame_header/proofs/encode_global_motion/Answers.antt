@@ -9,7 +9,7 @@ use Rattle.frame_header.proofs.encode_global_motion.Goals as goal
 
 pub returns-then-intra : goal.returns-then-intra
 returns-then-intra c = let a = c.args in
-    rw c.if-intra.true (record { value = ap not_written c.key_refusal-refusal.ensures ∙ sym (key-written a.types.now a.params.now a.flag a.prior.now a.start (length a.header.now)); header_after = sym (key-after a.types.now a.params.now a.flag a.prior.now a.start a.header.now) })
+    rw c.if-intra.true (record { value = ap not_written (c.refusal_number-refusal.ensures ∙ c.key_refusal.ensures) ∙ sym (key-written a.types.now a.params.now a.flag a.prior.now a.start (length a.header.now)); header_after = sym (key-after a.types.now a.params.now a.flag a.prior.now a.start a.header.now) })
 
 pub returns : goal.returns
 returns c = let a = c.args in

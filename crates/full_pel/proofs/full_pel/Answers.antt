@@ -25,9 +25,6 @@ loop-k-init c = (begins _ _ _ _ _ (omega arith) (omega arith), omega (arith, c.s
 pub full_candidate-best-requires : goal.full_candidate-best-requires
 full_candidate-best-requires c = record { fine = c.requires.fine; roomy = c.requires.roomy; k_bound = (c.loop-k-test.true, omega (arith, c.loop-k.invariant.0.within, c.loop-k.invariant.1)) }
 
-pub loop-k-smaller : goal.loop-k-smaller
-loop-k-smaller c = omega arith
-
 pub loop-k-preserved : goal.loop-k-preserved
 loop-k-preserved c = (
   goes_on (c.loop-k.k + 1) c.loop-k.invariant.0 c.loop-k-test.true (omega arith) c.full_candidate-best.ensures.same,

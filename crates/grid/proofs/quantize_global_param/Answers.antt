@@ -1,32 +1,33 @@
--- `quantize_global_param`: each refusal is the first row whose test holds, and past them stands the nearest number.
+-- `quantize_global_param`: what isn't refused is quantized, and no row has the number 0.
 -- Assumes nothing.
-use borrow.Author.Tests.{lt-ltb, le-ltb}
+use Prim.Native.Nat.{ℕ}
+use mathlib.Core.Path.{◌≡◌}
+use native.Mathlib.Omega.{arith}
+use borrow.Author.Tests.{ne_eqb}
+use lib.Dec.{eqb}
 use mir.Syntax.{w32}
 use mir.Facts.{to_z-of_z}
+use Rattle.laws.specs.Refusal.{choose}
 use Rattle.laws.proofs.Signed.{result-reads}
-use Rattle.grid.specs.Grid.{answer}
+use Rattle.refusal.specs.Number.{number_of}
+use Rattle.refusal.specs.declared.Refusal.{Refusal}
+use Rattle.refusal.proofs.Rows.{above-zero}
+use Rattle.grid.specs.declared.Quantized.{Quantized}
+use Rattle.grid.specs.Grid.{rejected, answer}
 use Rattle.grid.proofs.quantize_global_param.Goals as goal
 
-pub returns-then-gm_type-gt-AFFINE : goal.returns-then-gm_type-gt-AFFINE
-unfolding answer
-returns-then-gm_type-gt-AFFINE c = rw c.refused.ensures (simp (lt-ltb _ _ c.if-gm_type-gt-AFFINE.true))
+quantizes : (n : ℕ) (q : Quantized) → 0 ≡ n → q ≡ choose (eqb n 0) q (rejected n)
+quantizes n q e = rw (← e)
 
-pub returns-then-flag-gt1 : goal.returns-then-flag-gt1
-unfolding answer
-returns-then-flag-gt1 c = rw c.refused-then-flag-gt1.ensures (simp (le-ltb _ _ c.if-gm_type-gt-AFFINE.false, lt-ltb _ _ c.if-flag-gt1.true))
+refuses : (r : Refusal) (n : ℕ) (q : Quantized) → number_of r ≡ n → rejected (number_of r) ≡ choose (eqb n 0) q (rejected n)
+refuses r n q e = rw (← e, ne_eqb (number_of r) 0 (λ z. let h = above-zero r in omega (arith, h, z)))
 
-pub returns-then-slot-gt5 : goal.returns-then-slot-gt5
+pub returns-in-Ok : goal.returns-in-Ok
 unfolding answer
-returns-then-slot-gt5 c = rw c.refused-then-slot-gt5.ensures
-    (simp (le-ltb _ _ c.if-gm_type-gt-AFFINE.false, le-ltb _ _ c.if-flag-gt1.false, lt-ltb _ _ c.if-slot-gt5.true))
+returns-in-Ok c =
+    rw (result-reads w32 c.nearest_number.result c.nearest_number.type_inv, c.nearest_number.ensures, to_z-of_z c.ranges.value)
+    (quantizes _ _ c.in-Ok.ensures)
 
-pub returns : goal.returns
+pub returns-in-Err : goal.returns-in-Err
 unfolding answer
-returns c = rw (
-  le-ltb _ _ c.if-gm_type-gt-AFFINE.false,
-  le-ltb _ _ c.if-flag-gt1.false,
-  le-ltb _ _ c.if-slot-gt5.false,
-  result-reads w32 c.nearest_number.result c.nearest_number.type_inv,
-  c.nearest_number.ensures,
-  to_z-of_z c.ranges.value,
-)
+returns-in-Err c = rw c.number.ensures (refuses c.in-Err.refusal _ _ c.in-Err.ensures)

@@ -14,13 +14,10 @@ use Rattle.header_read.proofs.read_from.Goals as goal
 
 pub returns-then-header-byte : goal.returns-then-header-byte
 returns-then-header-byte c = let a = c.args in
-    c.no_models.ensures ∙ ended a.header.now a.at a.flag a.prior.now c.if-header-byte.true
+    ended a.header.now a.at a.flag a.prior.now c.if-header-byte.true
 
 pub read_references-seven-requires : goal.read_references-seven-requires
-read_references-seven-requires c = record {
-  priors = c.requires;
-  room = omega (arith, c.new.ensures);
-}
+read_references-seven-requires c = (c.requires, omega (arith, c.new.ensures))
 
 pub answer-requires : goal.answer-requires
 answer-requires c = (omega (arith, c.read_references-seven.ensures.next, c.new.ensures), omega (arith, c.read_references-seven.ensures.near, c.new.ensures))

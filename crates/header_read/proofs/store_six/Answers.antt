@@ -1,40 +1,20 @@
-use Prim.Native.Nat.{ℕ, suc, ◌+◌, ◌≤◌, ◌<◌}
+-- `store_six`: the copy stands at its place.
+-- Assumes nothing.
+use Prim.Native.Nat.{ℕ, ◌+◌, ◌-◌}
 use mathlib.Core.List.{List}
-use mathlib.Core.Path.{◌≡◌, refl, ◌∙◌}
-use native.Mathlib.Numerals.{add-one}
-use native.Mathlib.Nat.{add-zero}
+use mathlib.Core.Path.{◌≡◌}
 use native.Mathlib.Omega.{arith}
 use borrow.Author.Rules.{rules}
-use lib.IntN.{ℤ, pos}
-use lib.ListN.{length, drop, get_or, set, length-set, drop_of_length-le}
-use lib.Seq.{sets, drop-cons}
-use mir.Syntax.{w32}
-use Rattle.laws.proofs.Placed.{sets-placed}
-use Rattle.laws.proofs.Signed.{result-reads}
+use borrow.Rule.Slice.PartMut.{put_mid}
+use lib.IntN.{ℤ}
+use lib.ListN.{length}
+use Rattle.laws.specs.Placed.{placed}
 use Rattle.header_read.proofs.store_six.Goals as goal
 
-stored : (out six t : List ℤ) (first i : ℕ) → i < length six → sets out (first + i) (drop i six) ≡ t → sets (set out (first + i) (get_or six i (pos 0))) (first + (i + 1)) (drop (i + 1) six) ≡ t
-stored out six t first i h e =
-    let n : first + (i + 1) ≡ suc (first + i) = omega arith in
-    rw (n, add-one i) (rw (drop-cons six i (pos 0) h) at e)
-
-pub loop-i-init : goal.loop-i-init
-loop-i-init c = (rw (add-zero c.args.first), refl, omega arith)
-
-pub loop-i-preserved : goal.loop-i-preserved
-loop-i-preserved c = let l = c.loop-i in
-    let a = c.args in
-    let six : length c.args.six ≡ 6 = search rules in
-    rw (result-reads w32 (get_or a.six l.i (pos 0)) c.params-1.given)
-    (stored l.params a.six _ a.first l.i (omega arith) l.invariant.0, length-set l.params (a.first + l.i) (get_or a.six l.i (pos 0)) ∙ l.invariant.1, omega arith)
-
-pub shape_of-params : goal.shape_of-params
-shape_of-params c = c.loop-i.invariant.1
+put-placed : (first k : ℕ) (six new old : List ℤ) → new ≡ six → k ≡ length six → put_mid first k old new ≡ placed first six old
+put-placed first k six new old e f = rw (e, f)
 
 pub returns : goal.returns
-returns c = let l = c.loop-i in
-    let a = c.args in
-    let six : length c.args.six ≡ 6 = search rules in
-    let none : length c.args.six ≤ c.loop-i.i = omega arith in
-    rw (drop_of_length-le a.six none) at l.invariant.0
-    ∙ sets-placed a.first a.six a.params.now (omega (arith, c.requires))
+returns c = let six : length c.args.six ≡ 6 = search rules in
+    let k : c.args.first + 6 - c.args.first ≡ length c.args.six = omega (arith, six) in
+    put-placed c.args.first _ c.args.six _ c.args.params.now c.copy_from_slice.ensures.after k

@@ -1,56 +1,41 @@
--- `held_trim::fit_under`: the tests of the type code are the definition's; each fit is that of the sums over the samples under the limit, which are few enough.
+-- `held_trim::fit_under`: the fits are those of the sums over the samples under the limit, which are few enough.
 -- Assumes nothing.
-use borrow.Author.Tests.{eq-eqb, ne_eqb}
+use borrow.Author.Rules.{rules}
+use borrow.Author.Tests.{ne_eqb}
 use Prim.Native.Nat.{ℕ, ◌≤◌}
-use mathlib.Core.List.{List}
-use mathlib.Core.Path.{◌≡◌, ap, ◌∙◌}
+use mathlib.Core.Path.{◌≡◌}
 use native.Mathlib.Omega.{arith}
 use lib.ListN.{length}
 use lib.Ieee.{Float}
+use mathlib.Core.List.{List}
 use Rattle.sample.specs.Word.{most_samples}
-use Rattle.fit.specs.declared.Fitted.{Fitted}
-use Rattle.fit.specs.Sums.{sums_of, count_as, translation_totals, rot_zoom_totals, affine_totals}
-use Rattle.fit.specs.Fitted.{fit_answer, translation_of, rot_zoom_of, affine_of, translation_from, rot_zoom_from, affine_from}
-use Rattle.trim.specs.Inner.{sample_at, under, Under}
-use Rattle.trim.proofs.Under.{fit-answers, under-few}
+use Rattle.fit.specs.Fitted.{translation_from, rot_zoom_from, affine_from}
+use Rattle.trim.specs.Inner.{Under}
+use Rattle.trim.proofs.Under.{under-few}
 use Rattle.held_trim.proofs.fit_under.Goals as goal
 
--- the answer of a fit's end, by the sums and the count
-ended : {S : Type 0} (of : S → Float → Fitted) (squares : List Float) (limit : Float) (n used : ℕ) (t s : S) (r : Fitted)
-    → Under squares limit n used → t ≡ s → r ≡ fit_answer used (of t (count_as used)) → r ≡ of s (count_as (length (under squares limit n)))
-ended {S} of squares limit n used t s r u e h =
-    let few : length (under squares limit n) ≤ most_samples = omega (arith, under-few squares limit n, u.few) in
-    h
-    ∙ ap (λ (x : S). fit_answer used (of x (count_as used))) e
-    ∙ ap (λ (k : ℕ). fit_answer k (of s (count_as k))) u.counted
-    ∙ fit-answers (length (under squares limit n)) (of s (count_as (length (under squares limit n)))) few
+few-used : (squares : List Float) (limit : Float) (n used : ℕ) → Under squares limit n used → used ≤ most_samples
+few-used squares limit n used u = omega (arith, u.counted, under-few squares limit n, u.few)
 
-pub returns-then-gm_type-eq-TRANSLATION : goal.returns-then-gm_type-eq-TRANSLATION
+pub fit-requires : goal.fit-requires
+fit-requires c = few-used c.args.squares.now c.args.limit (length c.args.samples.now) c.args.used c.requires
+
+pub returns-in-1 : goal.returns-in-1
 unfolding translation_from
-returns-then-gm_type-eq-TRANSLATION c = let s = c.before in
-    let a = s.args in
-    let sums = c.translation_under in
-    let ends = c.translation_ends in
-    let kept = sums_of (sample_at a.numbers.now) (under a.squares.now a.limit a.n) in
-    rw (eq-eqb _ _ c.if-gm_type-eq-TRANSLATION.true)
-    (ended translation_of a.squares.now a.limit a.n a.used sums.result (translation_totals kept) ends.result s.requires sums.ensures ends.ensures)
+returns-in-1 c = rw (c.in-1.is, ← c.sums_under.ensures, ← c.requires.counted) c.fit.ensures
 
-pub returns-then-gm_type-eq-ROTZOOM : goal.returns-then-gm_type-eq-ROTZOOM
+pub fit-requires-in-2 : goal.fit-requires-in-2
+fit-requires-in-2 c = few-used c.args.squares.now c.args.limit (length c.args.samples.now) c.args.used c.requires
+
+pub returns-in-2 : goal.returns-in-2
 unfolding rot_zoom_from
-returns-then-gm_type-eq-ROTZOOM c = let s = c.before in
-    let a = s.args in
-    let sums = c.rotzoom_under in
-    let ends = c.rotzoom_ends in
-    let kept = sums_of (sample_at a.numbers.now) (under a.squares.now a.limit a.n) in
-    rw (ne_eqb _ _ c.if-gm_type-eq-TRANSLATION.false, eq-eqb _ _ c.if-gm_type-eq-ROTZOOM.true)
-    (ended rot_zoom_of a.squares.now a.limit a.n a.used sums.result (rot_zoom_totals kept) ends.result s.requires sums.ensures ends.ensures)
+returns-in-2 c = rw (c.in-2.is, ← c.sums_under-in-2.ensures, ← c.requires.counted) c.fit-in-2.ensures
 
-pub returns : goal.returns
+pub fit-requires-in_default : goal.fit-requires-in_default
+fit-requires-in_default c = few-used c.args.squares.now c.args.limit (length c.args.samples.now) c.args.used c.requires
+
+pub returns-in_default : goal.returns-in_default
 unfolding affine_from
-returns c = let s = c.before in
-    let a = s.args in
-    let sums = c.affine_under in
-    let ends = c.affine_ends in
-    let kept = sums_of (sample_at a.numbers.now) (under a.squares.now a.limit a.n) in
-    rw (ne_eqb _ _ c.if-gm_type-eq-TRANSLATION.false, ne_eqb _ _ c.if-gm_type-eq-ROTZOOM.false)
-    (ended affine_of a.squares.now a.limit a.n a.used sums.result (affine_totals kept) ends.result s.requires sums.ensures ends.ensures)
+returns-in_default c = let not-one : (c.args.gm_type ≡ 1 → ⊥) = search rules in
+    let not-two : (c.args.gm_type ≡ 2 → ⊥) = search rules in
+    rw (ne_eqb _ _ not-one, ne_eqb _ _ not-two, ← c.sums_under-in_default.ensures, ← c.requires.counted) c.fit-in_default.ensures

@@ -1,5 +1,6 @@
 -- `held_trim::refit_under`: model, flag and linear part stay as they begin, so the sums alone are walked; the walk ends with the quantized model of the samples under the limit.
 -- Assumes nothing.
+use lib.ListN.{length}
 use Prim.Native.Nat.{ℕ}
 use mathlib.Core.List.{List}
 use mathlib.Core.Path.{sym, ap, ◌∙◌}
@@ -24,8 +25,8 @@ sums_over read xs t = fold (reading (refit_step t.m) read) xs t.sums
 
 pub returns : goal.returns
 returns c = let a = c.args in
-    let kept = under a.squares.now a.limit a.n in
-    let read = sample_at a.numbers.now in
+    let kept = under a.squares.now a.limit (length a.samples.now) in
+    let read = sample_at a.samples.now in
     let begin = c.refit_begin-begun in
     let begun = begin.result in
     c.refit_ends.ensures

@@ -1,3 +1,4 @@
+use lib.ListN.{length}
 use borrow.Author.Rules.{rules}
 use Prim.Native.Nat.{ℕ}
 use mathlib.Core.List.{List}
@@ -8,7 +9,6 @@ use Rattle.laws.specs.Buffer.{onto}
 use Rattle.laws.specs.Parts.{listing}
 use Rattle.laws.proofs.Filling.{fill-front}
 use Rattle.score.specs.declared.ContinuousModel.{ContinuousModel}
-use Rattle.score.specs.Score.{residual_of}
 use Rattle.trim.specs.Inner.{sample_at, square}
 use Rattle.trim.proofs.Indices.{map-listing}
 use Rattle.held_trim.proofs.residuals.Invariants.{square_by}
@@ -23,8 +23,8 @@ loop-i-preserved c = let s = c.before in
     let l = c.loop-i in
     let m = c.continuous_fit-m.result in (
       search rules,
-      fill-front (square_by m a.numbers.now) l.i a.squares.now (search rules) l.invariant.1
-          (c.residual.ensures ∙ ap (residual_of m) c.sample_at.ensures),
+      fill-front (square_by m a.samples.now) l.i a.squares.now (search rules) l.invariant.1
+          c.residual.ensures,
       search rules,
     )
 
@@ -33,6 +33,6 @@ returns c = let a = c.args in
     let l = c.loop-i in
     let m = c.continuous_fit-m in
     l.invariant.1
-    ∙ ap (λ (k : ℕ). onto (listing (square_by m.result a.numbers.now) k) a.squares.now) (let e : l.i ≡ a.n = omega arith in e)
-    ∙ ap (λ (model : ContinuousModel). onto (listing (square_by model a.numbers.now) a.n) a.squares.now) m.ensures
-    ∙ ap (λ (rs : List Float). onto rs a.squares.now) (sym (map-listing (λ (k : ℕ). square a.fitted (sample_at a.numbers.now k)) (λ k. k) a.n))
+    ∙ ap (λ (k : ℕ). onto (listing (square_by m.result a.samples.now) k) a.squares.now) (let e : l.i ≡ (length a.samples.now) = omega arith in e)
+    ∙ ap (λ (model : ContinuousModel). onto (listing (square_by model a.samples.now) (length a.samples.now)) a.squares.now) m.ensures
+    ∙ ap (λ (rs : List Float). onto rs a.squares.now) (sym (map-listing (λ (k : ℕ). square a.fitted (sample_at a.samples.now k)) (λ k. k) (length a.samples.now)))

@@ -1,5 +1,6 @@
 -- `held_trim::second`: a residual that isn't finite is row 16; where too few are kept the first fit stands, with all samples under infinity; otherwise the fit of those under the limit is the last.
 -- Assumes nothing.
+use lib.ListN.{length}
 use borrow.Author.Tests.{not-true, not-false}
 use mathlib.Core.Path.{sym, ◌∙◌}
 use native.Mathlib.Omega.{arith}
@@ -10,26 +11,26 @@ use Rattle.held_trim.proofs.second.Goals as goal
 pub all_finite-requires : goal.all_finite-requires
 all_finite-requires c = let s = c.before in
     let a = s.args in
-    squares-long a.numbers.now a.gm_type a.n a.squares.now a.first s.requires
+    squares-long a.samples.now a.gm_type (length a.samples.now) a.squares.now a.first s.requires
 
 pub returns-then-not-all_finite : goal.returns-then-not-all_finite
 returns-then-not-all_finite c = let s = c.before in
     let a = s.args in
     let test = c.all_finite in
     let infinite = sym test.ensures ∙ not-true test.result c.if-not-all_finite.true-raw in
-    rw c.refused_cut.ensures
-    (infinite-cuts a.numbers.now a.gm_type a.n a.squares.now a.first s.requires infinite)
+    rw (c.refused_cut.ensures, c.number.ensures)
+    (infinite-cuts a.samples.now a.gm_type (length a.samples.now) a.squares.now a.first s.requires infinite)
 
 pub limit_of-limit-requires : goal.limit_of-limit-requires
 limit_of-limit-requires c = let s = c.before in
     let a = s.args in
     let test = c.all_finite in
-    let finite = sym test.ensures ∙ not-false test.result c.if-not-all_finite.false-raw in record { n_in_bounds = squares-long a.numbers.now a.gm_type a.n a.squares.now a.first s.requires; findable = squares-findable a.numbers.now a.gm_type a.n a.squares.now a.first s.requires finite }
+    let finite = sym test.ensures ∙ not-false test.result c.if-not-all_finite.false-raw in record { n_in_bounds = squares-long a.samples.now a.gm_type (length a.samples.now) a.squares.now a.first s.requires; findable = squares-findable a.samples.now a.gm_type (length a.samples.now) a.squares.now a.first s.requires finite }
 
 pub count_under-kept-requires : goal.count_under-kept-requires
 count_under-kept-requires c = let s = c.before in
     let a = s.args in
-    squares-long a.numbers.now a.gm_type a.n a.squares.now a.first s.requires
+    squares-long a.samples.now a.gm_type (length a.samples.now) a.squares.now a.first s.requires
 
 pub float_from_bits-cut_of : goal.float_from_bits-cut_of
 unfolding nan_bits
@@ -43,7 +44,7 @@ returns-then-kept-least_of c = let s = c.before in
     let limit = c.limit_of-limit in
     let count = c.count_under-kept in
     rw c.cut_of.ensures
-    (stood-cuts a.numbers.now a.gm_type a.n a.squares.now a.first s.requires
+    (stood-cuts a.samples.now a.gm_type (length a.samples.now) a.squares.now a.first s.requires
     finite limit.result limit.ensures count.result count.ensures (omega (arith, c.if-kept-least_of.true, c.least_of.ensures)) _ infinity-is)
 
 pub fit_under-requires : goal.fit_under-requires
@@ -53,7 +54,7 @@ fit_under-requires c = let s = c.before in
     let finite = sym test.ensures ∙ not-false test.result c.if-not-all_finite.false-raw in
     let limit = c.limit_of-limit in
     let count = c.count_under-kept in
-    kept-under-limit a.numbers.now a.gm_type a.n a.squares.now a.first s.requires
+    kept-under-limit a.samples.now a.gm_type (length a.samples.now) a.squares.now a.first s.requires
     finite limit.result limit.ensures count.result count.ensures
 
 pub cut_of-requires-2 : goal.cut_of-requires-2
@@ -63,7 +64,7 @@ cut_of-requires-2 c = let s = c.before in
     let finite = sym test.ensures ∙ not-false test.result c.if-not-all_finite.false-raw in
     let limit = c.limit_of-limit in
     let count = c.count_under-kept in
-    few-kept a.numbers.now a.gm_type a.n a.squares.now a.first s.requires
+    few-kept a.samples.now a.gm_type (length a.samples.now) a.squares.now a.first s.requires
     finite limit.result limit.ensures count.result count.ensures
 
 pub returns : goal.returns
@@ -74,6 +75,6 @@ returns c = let s = c.before in
     let limit = c.limit_of-limit in
     let count = c.count_under-kept in
     rw c.cut_of-2.ensures
-    (fitted-cuts a.numbers.now a.gm_type a.n a.squares.now a.first s.requires
+    (fitted-cuts a.samples.now a.gm_type (length a.samples.now) a.squares.now a.first s.requires
     finite limit.result limit.ensures count.result count.ensures
     (omega (arith, c.if-kept-least_of.false, c.least_of.ensures)) c.fit_under.result c.fit_under.ensures)

@@ -1,19 +1,19 @@
 -- `job::finish`: the model's refusal decides, as in the definition.
 -- Assumes nothing.
+use mathlib.Core.Path.{refl}
 use borrow.Author.Rules.{rules}
 use Rattle.job.proofs.Ending.{finish-refused, finish-written}
 use Rattle.job.proofs.finish.Goals as goal
 
-pub model_of_named-m-requires : goal.model_of_named-m-requires
-model_of_named-m-requires c = c.requires
+pub model_of_named-requires : goal.model_of_named-requires
+model_of_named-requires c = c.requires
 
-pub returns-then-m-ne0 : goal.returns-then-m-ne0
-returns-then-m-ne0 c = let a = c.args in
-    finish-refused a.settings a.form a.types.now a.models.now a.prior.now a.words.now a.classes.now a.blocks.now a.header.now
-    c.model_of_named-m.ensures c.if-m-ne0.true c.refused.ensures
+pub returns-in-Err : goal.returns-in-Err
+returns-in-Err c = let h = c.args.handed in
+    finish-refused h.settings h.form h.types.now h.models.now h.prior.now c.args.words.now h.classes.now c.args.blocks.now c.args.header.now
+    c.in-Err.ensures.answer c.in-Err.ensures.refused c.refused.ensures
 
-pub returns : goal.returns
-returns c = let a = c.args in
-    finish-written a.settings a.form a.types.now a.models.now a.prior.now a.words.now a.classes.now a.blocks.now a.header.now
-    c.model_of_named-m.ensures
-    c.if-m-ne0.false c.write_out.ensures
+pub returns-in-Ok : goal.returns-in-Ok
+returns-in-Ok c = let h = c.args.handed in
+    finish-written h.settings h.form h.types.now h.models.now h.prior.now c.args.words.now h.classes.now c.args.blocks.now c.args.header.now
+    c.in-Ok.ensures.answer refl c.write_out.ensures

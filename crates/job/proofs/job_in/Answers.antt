@@ -1,23 +1,39 @@
--- `job::job_in`: refused by its first rows it leaves all as it was; otherwise the run's outcome is the job's, with demand 3.
+-- `job::job_in`: refused by its first rows it leaves all as it was; otherwise the search accepts, the words that it found are the job's, and what follows from them is its outcome, with demand 3.
 -- Assumes nothing.
 use mathlib.Core.Path.{sym, ◌∙◌}
 use borrow.Author.Rules.{rules}
-use Rattle.job_task.specs.Task.{task_in, lend}
+use Rattle.class_set.proofs.Front.{front-count, front-there}
+use Rattle.job_task.specs.Task.{Task, Lent, task_of, lend}
+use Rattle.job_task.proofs.Accepted.{ready}
 use Rattle.job_outcome.proofs.Demand3.{done}
-use Rattle.job.proofs.Ending.{done_refused}
+use Rattle.job.proofs.Ending.{done_refused, numbered, found_front, found-naming, ended-found}
 use Rattle.job.proofs.job_in.Goals as goal
 
-pub returns-then-refusal-ne0 : goal.returns-then-refusal-ne0
-returns-then-refusal-ne0 c = let a = c.args in
-    done_refused (task_in a.form a.input.now a.reference.now a.width a.height a.settings a.classes.now a.types.now a.models.now a.prior.now)
-    (lend a.input_half.now a.ref_half.now a.words.now a.blocks.now a.header.now)
-    c.refusal_of-refusal.ensures c.if-refusal-ne0.true c.refused.ensures
+pub returns-in-Err : goal.returns-in-Err
+returns-in-Err c = let a = c.args in
+    done_refused (task_of a.pair a.handed) (lend a.input_half.now a.ref_half.now a.words.now a.blocks.now a.header.now)
+    (c.number.ensures ∙ c.in-Err.ensures) (λ z. numbered c.in-Err.refusal (sym c.number.ensures ∙ z)) c.refused.ensures
 
-pub run-requires : goal.run-requires
-run-requires c = sym c.refusal_of-refusal.ensures ∙ c.if-refusal-ne0.false
+pub slice_bounds-finish-end : goal.slice_bounds-finish-end
+slice_bounds-finish-end c = let a = c.args in
+    let j : Task = task_of a.pair a.handed in
+    let l : Lent = lend a.input_half.now a.ref_half.now a.words.now a.blocks.now a.header.now in
+    front-there (found_front j l (ready j l (sym c.in-Ok.ensures)) c.collect_motion_samples-found.ensures)
 
-pub returns : goal.returns
-returns c = let a = c.args in
-    done (task_in a.form a.input.now a.reference.now a.width a.height a.settings a.classes.now a.types.now a.models.now a.prior.now)
-    (lend a.input_half.now a.ref_half.now a.words.now a.blocks.now a.header.now)
-    c.run.ensures
+pub slice_bounds-finish-end-in-Ok : goal.slice_bounds-finish-end-in-Ok
+slice_bounds-finish-end-in-Ok c = let a = c.args in
+    let j : Task = task_of a.pair a.handed in
+    let l : Lent = lend a.input_half.now a.ref_half.now a.words.now a.blocks.now a.header.now in
+    front-count (found_front j l (ready j l (sym c.in-Ok.ensures)) c.collect_motion_samples-found.ensures)
+
+pub finish-requires : goal.finish-requires
+finish-requires c = let a = c.args in
+    let j : Task = task_of a.pair a.handed in
+    let l : Lent = lend a.input_half.now a.ref_half.now a.words.now a.blocks.now a.header.now in
+    found-naming j l (ready j l (sym c.in-Ok.ensures)) c.collect_motion_samples-found.ensures
+
+pub returns-in-Ok : goal.returns-in-Ok
+returns-in-Ok c = let a = c.args in
+    let j : Task = task_of a.pair a.handed in
+    let l : Lent = lend a.input_half.now a.ref_half.now a.words.now a.blocks.now a.header.now in
+    done j l (ended-found j l (sym c.in-Ok.ensures) c.collect_motion_samples-found.ensures c.finish.ensures)

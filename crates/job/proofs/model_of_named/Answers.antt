@@ -18,5 +18,7 @@ pub models_of-requires : goal.models_of-requires
 models_of-requires c = rw c.choose-n.ensures.front c.requires.modelling
 
 pub returns : goal.returns
-returns c = let a = c.args in
-    c.models_of.ensures ∙ ap (λ (ws : List ℕ). modelled a.settings a.types.now a.models.now ws) c.choose-n.ensures.front
+returns c = let h = c.args.handed in record {
+  answer = c.models_of.ensures.answer ∙ ap (λ (ws : List ℕ). modelled h.settings h.types.now h.models.now ws) c.choose-n.ensures.front;
+  refused = c.models_of.ensures.refused;
+}

@@ -1,30 +1,26 @@
-use Rattle.cost.proofs.Sum.{none, more, all}
+use Rattle.std.specs.Int.{from_bool}
+use Prim.Native.Nat.{◌≤◌}
+use mathlib.Core.Bool.{Bool, true, false}
+use mathlib.Core.Path.{◌≡◌, refl, ◌∙◌}
 use native.Mathlib.Omega.{arith}
+use Rattle.laws.specs.Refusal.{choose}
+use Rattle.cost.proofs.Sum.{none, more, all}
 use Rattle.lanes.proofs.count_below.Goals as goal
 
-pub loop-k-init : goal.loop-k-init
-loop-k-init c = none _ _ _
+one : (t : Bool) → from_bool t ≡ choose t 1 0
+one true = refl
+one false = refl
 
-pub offset_bounds-costs-k : goal.offset_bounds-costs-k
-offset_bounds-costs-k c = omega arith
+few : (t : Bool) → from_bool t ≤ 1
+few true = omega arith
+few false = omega arith
 
-pub bounds-costs-k : goal.bounds-costs-k
-bounds-costs-k c = omega arith
+pub loop-cost-init : goal.loop-cost-init
+loop-cost-init c = none _ _ _
 
-pub one_below-below-requires : goal.one_below-below-requires
-one_below-below-requires c = omega arith
-
-pub overflow_add-below : goal.overflow_add-below
-overflow_add-below c = omega arith
-
-pub overflow_add-k : goal.overflow_add-k
-overflow_add-k c = omega arith
-
-pub loop-k-smaller : goal.loop-k-smaller
-loop-k-smaller c = omega arith
-
-pub loop-k-preserved : goal.loop-k-preserved
-loop-k-preserved c = more c.loop-k.invariant (omega arith) c.one_below-below.ensures.same c.one_below-below.ensures.small
+pub loop-cost-preserved : goal.loop-cost-preserved
+loop-cost-preserved c = let e = c.from-below.ensures in
+    more c.loop-cost.invariant (omega arith) (e ∙ one _) (rw e (few _))
 
 pub returns : goal.returns
-returns c = all _ c.loop-k.invariant (omega arith) (omega arith)
+returns c = all _ c.loop-cost.invariant (omega arith) (omega arith)

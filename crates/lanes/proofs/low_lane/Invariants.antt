@@ -1,6 +1,6 @@
 -- `low_lane`: each turn adds the difference of the next two pels of the lane; eight differences of low pels fit 16 bits.
 -- Assumes nothing.
-use Prim.Native.Nat.{◌+◌, ◌*◌, ◌-◌}
+use Prim.Native.Nat.{◌+◌, ◌*◌}
 use lib.ListN.{get_or}
 use Rattle.plane.specs.Difference.{difference}
 use Rattle.cost.proofs.Sum.{Adds}
@@ -8,6 +8,3 @@ use Rattle.lanes.proofs.low_lane.Given as goal
 
 abbrev pub invariant-loop-j : goal.invariant-loop-j
 invariant-loop-j l = Adds (λ i. difference (get_or l.row (8 * i + l.k) 0) (get_or l.part (i + l.k) 0)) 8191 8 l.j l.cost
-
-abbrev pub decreases-loop-j : goal.decreases-loop-j
-decreases-loop-j l = 8 - l.j

@@ -12,35 +12,11 @@ low_sums-lanes-requires c = record { lane_row = c.requires.lane_row; at_most = c
 pub loop-k-init : goal.loop-k-init
 loop-k-init c = fill_none _ _ _ _ _ refl
 
-pub offset_bounds-costs-k : goal.offset_bounds-costs-k
-offset_bounds-costs-k c = omega arith
-
-pub bounds-costs-k : goal.bounds-costs-k
-bounds-costs-k c = omega arith
-
-pub offset_bounds-lanes-k : goal.offset_bounds-lanes-k
-offset_bounds-lanes-k c = omega arith
-
-pub bounds-lanes-k : goal.bounds-lanes-k
-bounds-lanes-k c = omega arith
-
 pub overflow_cast-sums : goal.overflow_cast-sums
 overflow_cast-sums c = omega (arith, lane-read c.low_sums-lanes.ensures c.loop-k.k c.loop-k-test.true, c.low_sums-lanes.ensures.small c.loop-k.k c.loop-k-test.true)
 
 pub overflow_add-sums : goal.overflow_add-sums
 overflow_add-sums c = omega (arith, c.requires.room.each c.loop-k.k c.loop-k-test.true, lane-read c.low_sums-lanes.ensures c.loop-k.k c.loop-k-test.true, c.low_sums-lanes.ensures.small c.loop-k.k c.loop-k-test.true)
-
-pub offset_bounds-sums-k : goal.offset_bounds-sums-k
-offset_bounds-sums-k c = omega arith
-
-pub bounds-sums-k : goal.bounds-sums-k
-bounds-sums-k c = omega arith
-
-pub overflow_add-k : goal.overflow_add-k
-overflow_add-k c = omega arith
-
-pub loop-k-smaller : goal.loop-k-smaller
-loop-k-smaller c = omega arith
 
 pub loop-k-preserved : goal.loop-k-preserved
 loop-k-preserved c = let k = c.loop-k.k in

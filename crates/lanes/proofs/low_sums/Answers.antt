@@ -9,18 +9,6 @@ loop-k-init c = fill_none _ _ _ _ _ refl
 pub low_lane-requires : goal.low_lane-requires
 low_lane-requires c = record { lane_row = c.requires.lane_row; at_most = c.requires.at_most; at_most_2 = c.requires.at_most_2; k_bound = c.loop-k-test.true }
 
-pub offset_bounds-sums-k : goal.offset_bounds-sums-k
-offset_bounds-sums-k c = omega arith
-
-pub bounds-sums-k : goal.bounds-sums-k
-bounds-sums-k c = omega arith
-
-pub overflow_add-k : goal.overflow_add-k
-overflow_add-k c = omega arith
-
-pub loop-k-smaller : goal.loop-k-smaller
-loop-k-smaller c = omega arith
-
 pub loop-k-preserved : goal.loop-k-preserved
 loop-k-preserved c = fill_more c.loop-k.invariant c.loop-k-test.true c.low_lane.ensures.same (omega (arith, c.low_lane.ensures.same, c.low_lane.ensures.small))
 

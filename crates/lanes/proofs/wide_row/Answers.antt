@@ -8,29 +8,11 @@ use Rattle.lanes.proofs.wide_row.Goals as goal
 pub loop-k-init : goal.loop-k-init
 loop-k-init c = fill_none _ _ _ _ _ refl
 
-pub offset_bounds-costs-k : goal.offset_bounds-costs-k
-offset_bounds-costs-k c = omega arith
-
-pub bounds-costs-k : goal.bounds-costs-k
-bounds-costs-k c = omega arith
-
 pub lane-requires : goal.lane-requires
 lane-requires c = record { lane_row = c.requires.lane_row; k_bound = c.loop-k-test.true }
 
 pub overflow_add-sums : goal.overflow_add-sums
 overflow_add-sums c = omega (arith, c.requires.room.each c.loop-k.k c.loop-k-test.true, c.lane.ensures.small)
-
-pub offset_bounds-sums-k : goal.offset_bounds-sums-k
-offset_bounds-sums-k c = omega arith
-
-pub bounds-sums-k : goal.bounds-sums-k
-bounds-sums-k c = omega arith
-
-pub overflow_add-k : goal.overflow_add-k
-overflow_add-k c = omega arith
-
-pub loop-k-smaller : goal.loop-k-smaller
-loop-k-smaller c = omega arith
 
 pub loop-k-preserved : goal.loop-k-preserved
 loop-k-preserved c = fill_more c.loop-k.invariant c.loop-k-test.true (ap (λ (a : ℕ). get_or c.args.costs c.loop-k.k 0 + a) c.lane.ensures.same)

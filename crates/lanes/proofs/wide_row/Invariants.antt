@@ -1,6 +1,6 @@
 -- `wide_row`: each turn stores the cost of the next lane with its row added.
 -- Assumes nothing.
-use Prim.Native.Nat.{◌+◌, ◌-◌}
+use Prim.Native.Nat.{◌+◌}
 use lib.ListN.{get_or}
 use Rattle.lanes.specs.Inner.{lane_row}
 use Rattle.cost.proofs.Bounded.{Filling}
@@ -8,6 +8,3 @@ use Rattle.lanes.proofs.wide_row.Given as goal
 
 abbrev pub invariant-loop-k : goal.invariant-loop-k
 invariant-loop-k l = Filling (lane_row l.row l.part) (λ j. get_or l.costs j 0 + lane_row l.row l.part j) 524280 8 l.initial.sums l.sums l.k
-
-abbrev pub decreases-loop-k : goal.decreases-loop-k
-decreases-loop-k l = 8 - l.k

@@ -1,16 +1,20 @@
--- `lent_sets::judge`: the rows' number, or the named samples where there is none. Assumes nothing.
-use mathlib.Core.Path.{refl, sym, ◌∙◌}
+-- `lent_sets::judge`: the rows' refusal, or the named samples where there is none. Assumes nothing.
+use mathlib.Core.Path.{refl, sym}
+use native.Mathlib.Omega.{arith}
+use Rattle.std.proofs.lemmas.Result.{err_from_is_err_and}
 use Rattle.lent_sets.proofs.Answers.{lent-passed}
 use Rattle.lent_sets.proofs.judge.Goals as goal
-
-pub returns-then-refusal-ne0 : goal.returns-then-refusal-ne0
-returns-then-refusal-ne0 c = record { judged = c.set_refusal-refusal.ensures; gathered = λ z. absurd (c.if-refusal-ne0.true z) }
 
 pub gather-requires : goal.gather-requires
 gather-requires c =
     let a = c.args in
-    let p = lent-passed a.wrong a.set a.samples.now a.classes.now refl c.set_refusal-refusal.ensures c.if-refusal-ne0.false in
-    record { samples_len = sym p.classed; samples_len_bound = p.few; numbers_len = c.requires }
+    let p = lent-passed a.wrong a.set a.samples.now a.classes.now refl c.in_ok-set_refusal.ensures refl in
+    record { samples_len = sym p.classed; room = omega (arith, p.few, c.requires) }
+
+pub returns-in_err-set_refusal : goal.returns-in_err-set_refusal
+returns-in_err-set_refusal c =
+    let p = err_from_is_err_and c.from_residual.result c.from_residual.ensures.1 in
+    rw (p.1, p.2) (record { judged = c.in_err-set_refusal.ensures; gathered = tt })
 
 pub returns : goal.returns
-returns c = record { judged = sym c.if-refusal-ne0.false ∙ c.set_refusal-refusal.ensures; gathered = λ z. c.gather.ensures }
+returns c = record { judged = c.in_ok-set_refusal.ensures; gathered = c.gather.ensures }

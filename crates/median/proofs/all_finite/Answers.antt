@@ -1,21 +1,13 @@
-use borrow.Author.Rules.{rules}
-use mathlib.Core.Path.{refl, sym, ◌∙◌}
-use native.Mathlib.Omega.{arith}
-use Rattle.median.proofs.Counting.{stops, goes_on, passed}
+-- `median::all_finite`: the chain asks each number.
+-- Assumes nothing.
+use Rattle.std.proofs.Common.{rules, ◌∙◌}
+use Rattle.std.specs.Float.{float_is_finite}
+use Rattle.std.proofs.lemmas.Iterator.{YieldsList-from_slice}
+use Rattle.std.proofs.lemmas.Iterator.Search.{all_from_yields_List}
+use borrow.Author.Tests.{tests}
+use Rattle.median.proofs.Counting.{finite-all}
 use Rattle.median.proofs.all_finite.Goals as goal
 
-pub loop-i-init : goal.loop-i-init
-loop-i-init c = (omega arith, refl)
-
-pub returns-then-not-is_finite : goal.returns-then-not-is_finite
-returns-then-not-is_finite c = let a = c.args in
-    let loop = c.loop-i in
-    stops a.values.now loop.i loop.invariant.1 c.loop-i-test.true (sym c.is_finite.ensures ∙ c.if-not-is_finite.true)
-
-pub loop-i-preserved : goal.loop-i-preserved
-loop-i-preserved c = let a = c.args in
-    let loop = c.loop-i in
-    (search rules, goes_on a.values.now loop.i loop.invariant.1 c.loop-i-test.true (sym c.is_finite.ensures ∙ c.if-not-is_finite.false))
-
 pub returns : goal.returns
-returns c = passed c.args.values.now c.loop-i.i c.loop-i.invariant.1 c.loop-i-test.false
+returns c =
+    all_from_yields_List float_is_finite _ _ c.all.result c.all.ensures.ran (YieldsList-from_slice c.args.values.now cc) (λ x b q k. search (rules, tests)) ∙ finite-all c.args.values.now

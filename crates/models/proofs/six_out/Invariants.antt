@@ -1,6 +1,6 @@
 -- `six_out`: no prior before the counter's is out of range, and the first that is ends the loop.
 -- Assumes nothing.
-use Prim.Native.Nat.{◌+◌, ◌-◌, ◌≤◌}
+use Prim.Native.Nat.{◌+◌}
 use mathlib.Core.Bool.{false}
 use mathlib.Core.Path.{◌≡◌}
 use Rattle.laws.specs.Below.{any_below}
@@ -8,7 +8,4 @@ use Rattle.models.specs.Models.{prior_at}
 use Rattle.models.proofs.six_out.Given as goal
 
 abbrev pub invariant-loop-slot : goal.invariant-loop-slot
-invariant-loop-slot l = (any_below (prior_at l.prior) (l.first + l.slot) ≡ false) × (l.slot ≤ 6)
-
-abbrev pub decreases-loop-slot : goal.decreases-loop-slot
-decreases-loop-slot l = 6 - l.slot
+invariant-loop-slot l = any_below (prior_at l.prior) (l.first + l.slot) ≡ false

@@ -1,8 +1,6 @@
 -- `named_samples::residuals_named`: as the sums of a fit, with the step of the score.
 -- Assumes nothing.
-use Prim.Native.Nat.{◌-◌}
 use mathlib.Core.Path.{◌≡◌}
-use lib.ListN.{length}
 use Rattle.laws.specs.Loops.{fold}
 use Rattle.score.specs.Score.{score_step}
 use Rattle.named_samples.specs.Named.{named_samples}
@@ -11,6 +9,3 @@ use Rattle.named_samples.proofs.residuals_named.Given as goal
 
 abbrev pub invariant-loop-i : goal.invariant-loop-i
 invariant-loop-i l = fold_from l.set l.samples l.classes (score_step l.m) l.i l.t ≡ fold (score_step l.m) (named_samples l.set l.samples l.classes) l.initial.t
-
-abbrev pub decreases-loop-i : goal.decreases-loop-i
-decreases-loop-i l = length l.samples - l.i

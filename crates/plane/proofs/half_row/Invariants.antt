@@ -1,15 +1,10 @@
 -- `half_row`: each turn writes the next mean of four after those before it.
 -- Assumes nothing.
-use Prim.Native.Nat.{◌≤◌, ◌-◌}
 use mathlib.Core.Path.{◌≡◌}
-use lib.ListN.{length}
 use Rattle.laws.specs.Buffer.{onto}
 use Rattle.laws.specs.Parts.{listing}
 use Rattle.plane.specs.Inner.{half_of_rows}
 use Rattle.plane.proofs.half_row.Given as goal
 
 abbrev pub invariant-loop-c : goal.invariant-loop-c
-invariant-loop-c l = (l.c ≤ length l.initial.out) × (l.out ≡ onto (listing (half_of_rows l.top l.bottom) l.c) l.initial.out) × (length l.out ≡ length l.initial.out)
-
-abbrev pub decreases-loop-c : goal.decreases-loop-c
-decreases-loop-c l = length l.initial.out - l.c
+invariant-loop-c l = l.out ≡ onto (listing (half_of_rows l.top l.bottom) l.c) l.initial.out

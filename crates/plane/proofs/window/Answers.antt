@@ -1,5 +1,5 @@
 use Prim.Native.Nat.{◌+◌, ◌*◌, ◌≤◌}
-use mathlib.Core.Path.{refl, ◌∙◌}
+use mathlib.Core.Path.{◌∙◌}
 use native.Mathlib.Omega.{arith}
 use lib.ListN.{length}
 use Rattle.plane.specs.Plane.{largest_side}
@@ -7,9 +7,6 @@ use Rattle.plane.specs.Inner.{window_pel}
 use Rattle.plane.proofs.Listing.{row_by_row-more}
 use Rattle.plane.proofs.Windows.{row-of-window, window-whole}
 use Rattle.plane.proofs.window.Goals as goal
-
-pub loop-a-init : goal.loop-a-init
-loop-a-init c = (omega arith, refl, refl)
 
 pub place_row-requires : goal.place_row-requires
 place_row-requires c = let a = c.args in
@@ -25,20 +22,16 @@ place_row-requires c = let a = c.args in
         close = record { r_small = row; c_small = n.close.c_small; y_small = n.close.y_small; x_small = n.close.x_small };
       };
       window_row = record {
-        row = row-of-window a.side i (length c.loop-a.out) (c.loop-a.invariant.2 ∙ c.requires.out_len) (omega arith);
+        row = row-of-window a.side i (length c.loop-a.out) (c.loop-a.auto.out ∙ c.requires.out_len) (omega arith);
         row_small = omega (arith, row);
         narrow = omega (arith, rows);
       };
     }
 
 pub loop-a-preserved : goal.loop-a-preserved
-loop-a-preserved c = let a = c.args in (
-  omega arith,
-  c.place_row.ensures ∙ row_by_row-more (window_pel a.plane.now a.place a.by a.bias) a.side
-      c.loop-a.a a.out.now c.loop-a.invariant.1,
-  c.place_row.auto.out ∙ c.loop-a.invariant.2,
-)
+loop-a-preserved c = let a = c.args in
+    c.place_row.ensures ∙ row_by_row-more (window_pel a.plane.now a.place a.by a.bias) a.side c.loop-a.a a.out.now c.loop-a.invariant
 
 pub returns : goal.returns
 returns c = let a = c.args in
-    window-whole a.plane.now a.place a.by a.bias a.side a.out.now c.loop-a.a (omega arith) c.requires.out_len c.loop-a.invariant.1
+    window-whole a.plane.now a.place a.by a.bias a.side a.out.now c.loop-a.a (omega arith) c.requires.out_len c.loop-a.invariant

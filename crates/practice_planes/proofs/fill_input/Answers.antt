@@ -9,24 +9,20 @@ use Rattle.practice_planes.proofs.fill_input.Invariants.{pel_of}
 use Rattle.practice_planes.proofs.fill_input.Goals as goal
 
 pub loop-r-init : goal.loop-r-init
-loop-r-init c = (omega arith, refl, refl)
+loop-r-init c = refl
 
 pub place_row-requires : goal.place_row-requires
-place_row-requires c = let p = c.requires in record { moved_row = record { small = p.room.small; pels = p.pels; inside = c.loop-r-test.true; near = p.near }; width_in_bounds = rw c.loop-r.invariant.2 p.room.room }
+place_row-requires c = let p = c.requires in record { moved_row = record { small = p.room.small; pels = p.pels; inside = c.loop-r-test.true; near = p.near }; width_in_bounds = rw c.loop-r.auto.input p.room.room }
 
 pub loop-r-preserved : goal.loop-r-preserved
 loop-r-preserved c = let a = c.args in
-    let l = c.loop-r in (
-      omega arith,
-      c.place_row.ensures
-          ∙ row_by_row-more (pel_of a.reference.now a.sides a.by) a.sides.width l.r a.input.now l.invariant.1,
-      c.place_row.auto.input ∙ l.invariant.2,
-    )
+    let l = c.loop-r in
+    c.place_row.ensures ∙ row_by_row-more (pel_of a.reference.now a.sides a.by) a.sides.width l.r a.input.now l.invariant
 
 pub returns : goal.returns
 unfolding input_plane
 returns c = let a = c.args in
     let l = c.loop-r in
-    l.invariant.1
+    l.invariant
     ∙ ap (λ (k : ℕ). onto (row_by_row (pel_of a.reference.now a.sides a.by) a.sides.width k) a.input.now)
     (let e : l.r ≡ a.sides.height = omega arith in e)

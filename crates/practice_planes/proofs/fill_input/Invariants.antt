@@ -1,9 +1,8 @@
 -- `fill_input`: each turn places the next row after the rows before it.
 -- Assumes nothing.
-use Prim.Native.Nat.{ℕ, ◌≤◌, ◌-◌}
+use Prim.Native.Nat.{ℕ}
 use mathlib.Core.List.{List}
 use mathlib.Core.Path.{◌≡◌}
-use lib.ListN.{length}
 use Rattle.laws.specs.Buffer.{onto}
 use Rattle.plane.specs.declared.Offset.{Offset}
 use Rattle.plane.specs.declared.Sides.{Sides}
@@ -16,7 +15,4 @@ abbrev pub pel_of : List ℕ → Sides → Offset → ℕ → ℕ → ℕ
 pel_of p sides by r = moved p (record { width = sides.width; height = sides.height; r = r; c = 0 }) by
 
 abbrev pub invariant-loop-r : goal.invariant-loop-r
-invariant-loop-r l = (l.r ≤ l.sides.height) × (l.input ≡ onto (row_by_row (pel_of l.reference l.sides l.by) l.sides.width l.r) l.initial.input) × (length l.input ≡ length l.initial.input)
-
-abbrev pub decreases-loop-r : goal.decreases-loop-r
-decreases-loop-r l = l.sides.height - l.r
+invariant-loop-r l = l.input ≡ onto (row_by_row (pel_of l.reference l.sides l.by) l.sides.width l.r) l.initial.input

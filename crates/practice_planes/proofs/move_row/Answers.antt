@@ -1,12 +1,11 @@
 use mathlib.Core.Path.{refl}
 use native.Mathlib.Omega.{arith}
-use lib.ListN.{length-set}
 use Rattle.plane.proofs.Listing.{listing-more, listing-all}
 use Rattle.practice_planes.specs.Inner.{moved}
 use Rattle.practice_planes.proofs.move_row.Goals as goal
 
 pub loop-c-init : goal.loop-c-init
-loop-c-init c = (omega arith, refl, refl)
+loop-c-init c = refl
 
 pub displaced-requires : goal.displaced-requires
 displaced-requires c = let p = c.requires in
@@ -19,13 +18,9 @@ displaced-requires c = let p = c.requires in
     }
 
 pub loop-c-preserved : goal.loop-c-preserved
-loop-c-preserved c = let a = c.args in (
-  omega arith,
-  listing-more (moved a.reference.now a.row a.by) a.out.now
-      c.loop-c.c (omega arith) c.loop-c.invariant.1 c.displaced.ensures,
-  simp length-set c.loop-c.invariant.2,
-)
+loop-c-preserved c = let a = c.args in
+    listing-more (moved a.reference.now a.row a.by) a.out.now c.loop-c.c (omega arith) c.loop-c.invariant c.displaced.ensures
 
 pub returns : goal.returns
 returns c = let a = c.args in
-    listing-all (moved a.reference.now a.row a.by) a.out.now {i = c.loop-c.c} (omega arith) refl c.loop-c.invariant.1
+    listing-all (moved a.reference.now a.row a.by) a.out.now {i = c.loop-c.c} (omega arith) refl c.loop-c.invariant

@@ -20,19 +20,19 @@ returns-then-bits-abs_bits c = let a = c.args in
 
 pub overflow_cast-result : goal.overflow_cast-result
 overflow_cast-result c = let h = c.requires in
-    omega (arith, c.power_of_two.ensures, pow_mono h.of.twelve)
+    omega (arith, c.wide_power.ensures, pow_mono h.of.twelve)
 
 pub overflow_sub-result : goal.overflow_sub-result
 overflow_sub-result c = let a = c.args in
     let h = c.requires in
-    omega (arith, c.power_of_two.ensures, pow_mono h.of.twelve, pow_pos a.abs_bits)
+    omega (arith, c.wide_power.ensures, pow_mono h.of.twelve, pow_pos a.abs_bits)
 
 pub returns-then-bits-abs_bits-2 : goal.returns-then-bits-abs_bits-2
 returns-then-bits-abs_bits-2 c = let a = c.args in
     let h = c.requires in
     sym
     (listed-last a.abs_bits h.of.four a.bits (omega (arith, h.least, c.if-bits-eq-SHORTEST.false)) c.if-bits-abs_bits-2.true
-    ∙ omega (arith, c.power_of_two.ensures, pow_mono h.of.twelve))
+    ∙ omega (arith, c.wide_power.ensures, pow_mono h.of.twelve))
 
 pub returns-then-bits-eq0 : goal.returns-then-bits-eq0
 returns-then-bits-eq0 c = let a = c.args in
@@ -45,7 +45,7 @@ pub overflow_cast-result-2 : goal.overflow_cast-result-2
 overflow_cast-result-2 c = let a = c.args in
     let h = c.requires in
     let le : (a.bits + 1) / 2 ≤ 12 = omega (arith, h.most, h.of.twelve) in
-    omega (arith, c.power_of_two-2.ensures, pow_mono le)
+    omega (arith, c.wide_power-2.ensures, pow_mono le)
 
 pub returns : goal.returns
 returns c = let a = c.args in
@@ -54,4 +54,4 @@ returns c = let a = c.args in
     sym
     (listed-odd a.abs_bits h.of.four a.bits (omega (arith, h.least, c.if-bits-eq-SHORTEST.false))
     (omega (arith, h.most, c.if-bits-abs_bits.false, c.if-bits-abs_bits-2.false)) (omega (arith, c.if-bits-eq0.false))
-    ∙ omega (arith, c.power_of_two-2.ensures, pow_mono le))
+    ∙ omega (arith, c.wide_power-2.ensures, pow_mono le))

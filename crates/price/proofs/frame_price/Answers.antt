@@ -8,7 +8,4 @@ pub returns-then-intra : goal.returns-then-intra
 returns-then-intra c = let a = c.args in
     rw c.if-intra.true
     (key-price a.types.now a.params.now a.flag a.prior.now _
-    (c.key_refusal-refusal.ensures ∙ sym (key-price-refusal a.types.now a.params.now a.flag a.prior.now)))
-
-pub returns : goal.returns
-returns c = rw c.if-intra.false c.inter_price.ensures
+    ((c.refusal_number-refusal.ensures ∙ c.key_refusal.ensures) ∙ sym (key-price-refusal a.types.now a.params.now a.flag a.prior.now)))

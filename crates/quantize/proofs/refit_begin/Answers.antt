@@ -6,4 +6,4 @@ use Rattle.quantize.proofs.refit_begin.Goals as goal
 
 pub returns : goal.returns
 returns c = let m = c.continuous_linear-m in
-    rw (c.translation_begin-sums.ensures ∙ refit-of-none m.result, m.ensures, c.linear_unless_refused-linear.ensures)
+    rw (c.begin-sums.ensures ∙ refit-of-none m.result, m.ensures, c.linear_unless_refused-linear.ensures)

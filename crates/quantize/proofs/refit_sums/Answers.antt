@@ -8,21 +8,21 @@ use Rattle.laws.specs.Loops.{fold}
 use mathlib.Core.Path.{refl, ◌∙◌, ap}
 use Rattle.quantize.proofs.refit_sums.Goals as goal
 
-pub loop-i-init : goal.loop-i-init
-loop-i-init c = refl
+pub loop-word-init : goal.loop-word-init
+loop-word-init c = refl
 
 pub sample_by-requires : goal.sample_by-requires
 sample_by-requires c = c.centres-centres.ensures
 
-pub loop-i-preserved : goal.loop-i-preserved
-loop-i-preserved c = let l = c.before in
+pub loop-word-preserved : goal.loop-word-preserved
+loop-word-preserved c = let l = c.before in
     let a = l.args in
-    fold-again (reading (refit_step a.m) sample_of) a.words.now l.loop-i.i 0
-    c.loop-i-test.true (c.refit_step-t.ensures ∙ ap (refit_step a.m l.loop-i.t) c.sample_by.ensures) l.loop-i.invariant
+    fold-again (reading (refit_step a.m) sample_of) a.words.now l.loop-word.word-index 0
+    c.loop-word-test.true (c.refit_step-t.ensures ∙ ap (refit_step a.m l.loop-word.t) c.sample_by.ensures) l.loop-word.invariant
 
 pub returns : goal.returns
 unfolding refit_totals
 returns c = let a = c.args in
-    fold_done (reading (refit_step a.m) sample_of) a.words.now c.loop-i.i c.loop-i-test.false c.loop-i.invariant
-    ∙ ap (fold (reading (refit_step a.m) sample_of) a.words.now) (c.translation_begin-t.ensures ∙ refit-of-none a.m)
+    fold_done (reading (refit_step a.m) sample_of) a.words.now c.loop-word.word-index c.loop-word-test.false c.loop-word.invariant
+    ∙ ap (fold (reading (refit_step a.m) sample_of) a.words.now) (c.begin-t.ensures ∙ refit-of-none a.m)
     ∙ refit-sums sample_of a.m a.words.now

@@ -4,13 +4,9 @@ use Rattle.quantize.specs.Inner.{refit_step}
 use Rattle.fit.specs.Sums.{reading}
 use Rattle.sample.specs.Sample.{sample_of}
 use Rattle.laws.specs.Loops.{fold}
-use lib.ListN.{length, drop}
-use Prim.Native.Nat.{◌-◌}
+use lib.ListN.{drop}
 use mathlib.Core.Path.{◌≡◌}
 use Rattle.quantize.proofs.refit_sums.Given as goal
 
-abbrev pub invariant-loop-i : goal.invariant-loop-i
-invariant-loop-i l = fold (reading (refit_step l.m) sample_of) (drop l.i l.words) l.t ≡ fold (reading (refit_step l.m) sample_of) l.words l.initial.t
-
-abbrev pub decreases-loop-i : goal.decreases-loop-i
-decreases-loop-i l = length l.words - l.i
+abbrev pub invariant-loop-word : goal.invariant-loop-word
+invariant-loop-word l = fold (reading (refit_step l.m) sample_of) (drop l.word-index l.words) l.t ≡ fold (reading (refit_step l.m) sample_of) l.words l.initial.t

@@ -9,7 +9,7 @@ use Rattle.run.proofs.start.Goals as goal
 
 pub returns-then-codes_wrong : goal.returns-then-codes_wrong
 returns-then-codes_wrong c = let a = c.args in
-    ap (moved 4) c.no_run-run.ensures ∙ start-refused a.flag a.form (sym c.codes_wrong.ensures ∙ c.if-codes_wrong.true)
+    rw (c.no_run-run.ensures, c.number.ensures) (start-refused a.flag a.form (sym c.codes_wrong.ensures ∙ c.if-codes_wrong.true))
 
 pub returns : goal.returns
 returns c = let a = c.args in

@@ -1,19 +1,14 @@
--- `run_job::job_in_run`: the job's own contract, with the run's prior, flag and form; the run moves where the job is accepted.
+-- `run_job::job_in_run`: the job's own contract, with the run's prior, flag and form; the run after it is the definition's.
 -- Assumes nothing.
+use mathlib.Core.Path.{refl}
 use borrow.Author.Rules.{rules}
 use Rattle.job_task.specs.Task.{Lent, lend}
 use Rattle.run_job.specs.Job.{Asked, asked}
-use Rattle.run_job.proofs.Ending.{stays, moves}
+use Rattle.run_job.proofs.Ending.{flagged}
 use Rattle.run_job.proofs.job_in_run.Goals as goal
-
-pub returns-then-report-ne0 : goal.returns-then-report-ne0
-returns-then-report-ne0 c = let a = c.args in
-    let j : Asked = asked a.input.now a.reference.now a.width a.height a.settings a.classes.now a.types.now a.models.now in
-    let l : Lent = lend a.input_half.now a.ref_half.now a.words.now a.blocks.now a.header.now in
-    stays a.run j l c.with_flag.ensures c.job_in-report.ensures c.if-report-ne0.true
 
 pub returns : goal.returns
 returns c = let a = c.args in
     let j : Asked = asked a.input.now a.reference.now a.width a.height a.settings a.classes.now a.types.now a.models.now in
     let l : Lent = lend a.input_half.now a.ref_half.now a.words.now a.blocks.now a.header.now in
-    moves a.run j l c.with_flag.ensures c.job_in-report.ensures c.if-report-ne0.false c.step_to-next.ensures
+    rw (c.stepped.ensures.same, c.stepped.ensures.run_after) (record { job = flagged a.run j l c.with_flag.ensures c.job_in-report.ensures; run = refl })

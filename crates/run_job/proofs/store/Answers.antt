@@ -1,25 +1,16 @@
 -- `run_job::store`: the lists' rows, then the run's, then the frame is stored in the run's form.
 -- Assumes nothing.
-use mathlib.Core.Path.{◌≡◌, sym, ◌∙◌}
+use mathlib.Core.Path.{sym, ◌∙◌}
 use borrow.Author.Rules.{rules}
-use Rattle.frame_store.specs.Store.{list_refusal}
-use Rattle.run_job.proofs.Rows.{lists-refuse, run-refuses, form-decides}
+use Rattle.run_job.proofs.Rows.{ahead-refuses, form-decides}
 use Rattle.run_job.proofs.store.Goals as goal
 
-pub returns-then-lists-ne0 : goal.returns-then-lists-ne0
-returns-then-lists-ne0 c = let a = c.args in
-    let lists = c.list_refusal-lists in
-    let d = lists-refuse a.run a.frame a.words.now a.classes.now a.blocks.now lists.result lists.ensures c.if-lists-ne0.true in
-    record { value = d.answers; blocks_after = d.leaves }
-
-pub returns-then-refusal-ne0 : goal.returns-then-refusal-ne0
-returns-then-refusal-ne0 c = let a = c.args in
-    let held = c.refusal_of-refusal in
-    let d = run-refuses a.run a.frame a.words.now a.classes.now a.blocks.now (sym c.list_refusal-lists.ensures ∙ c.if-lists-ne0.false) held.result held.ensures c.if-refusal-ne0.true in
-    record { value = d.answers; blocks_after = d.leaves }
-
-pub returns : goal.returns
-returns c = let a = c.args in
-    let d =
-    form-decides a.run a.frame a.words.now a.classes.now a.blocks.now (sym c.list_refusal-lists.ensures ∙ c.if-lists-ne0.false) (sym c.refusal_of-refusal.ensures ∙ c.if-refusal-ne0.false) in
+pub returns-in-Ok : goal.returns-in-Ok
+returns-in-Ok c = let a = c.args in
+    let d = form-decides a.run a.frame a.words.now a.classes.now a.blocks.now (sym c.in-Ok.ensures) in
     record { value = c.store.ensures.value ∙ d.answers; blocks_after = c.store.ensures.blocks_after ∙ d.leaves }
+
+pub returns-in-Err : goal.returns-in-Err
+returns-in-Err c = let a = c.args in
+    let d = ahead-refuses a.run a.frame a.words.now a.classes.now a.blocks.now c.in-Err.refusal c.in-Err.ensures c.number.ensures in
+    record { value = d.answers; blocks_after = d.leaves }

@@ -1,71 +1,60 @@
 -- `setup_shear`: a refused call gives its row, and an accepted one has a codable linear part.
 -- Assumes nothing.
-use mathlib.Core.Path.{sym, ◌∙◌}
+use mathlib.Core.Path.{sym}
 use native.Mathlib.Omega.{arith}
 use mir.Syntax.{w64}
 use Rattle.laws.proofs.Call.{answered-accepted, answered-refused}
 use Rattle.laws.proofs.Signed.{result-reads}
+use Rattle.refusal.specs.Number.{number_of}
+use Rattle.refusal.proofs.Rows.{above-zero}
 use Rattle.shear.specs.Call.{shear, rejected}
 use Rattle.shear.proofs.Accepted.{accepted}
 use Rattle.shear.proofs.setup_shear.Goals as goal
 
-pub returns-then-refusal-ne0 : goal.returns-then-refusal-ne0
-unfolding shear
-returns-then-refusal-ne0 c = let refusal = c.refusal_of-refusal in
-    rw (c.refused.ensures, ← refusal.ensures) (sym (answered-refused rejected refusal.result _ c.if-refusal-ne0.true))
+pub slot-requires : goal.slot-requires
+slot-requires c = omega (arith, (accepted c.args.params.now c.args.gm_type (sym c.in-Ok.ensures)).0)
 
-pub slot-p2-requires : goal.slot-p2-requires
-slot-p2-requires c = let e = c.args in
-    omega (arith, (accepted e.params.now e.gm_type (sym c.refusal_of-refusal.ensures ∙ c.if-refusal-ne0.false)).0)
+pub slot-requires-in-Ok : goal.slot-requires-in-Ok
+slot-requires-in-Ok c = omega (arith, (accepted c.args.params.now c.args.gm_type (sym c.in-Ok.ensures)).0)
 
-pub slot-p3-requires : goal.slot-p3-requires
-slot-p3-requires c = let e = c.args in
-    omega (arith, (accepted e.params.now e.gm_type (sym c.refusal_of-refusal.ensures ∙ c.if-refusal-ne0.false)).0)
+pub slot-requires-in-Ok-2 : goal.slot-requires-in-Ok-2
+slot-requires-in-Ok-2 c = omega (arith, (accepted c.args.params.now c.args.gm_type (sym c.in-Ok.ensures)).0)
 
-pub slot-p4-requires : goal.slot-p4-requires
-slot-p4-requires c = let e = c.args in
-    omega (arith, (accepted e.params.now e.gm_type (sym c.refusal_of-refusal.ensures ∙ c.if-refusal-ne0.false)).0)
-
-pub slot-p5-requires : goal.slot-p5-requires
-slot-p5-requires c = let e = c.args in
-    omega (arith, (accepted e.params.now e.gm_type (sym c.refusal_of-refusal.ensures ∙ c.if-refusal-ne0.false)).0)
+pub slot-requires-in-Ok-3 : goal.slot-requires-in-Ok-3
+slot-requires-in-Ok-3 c = omega (arith, (accepted c.args.params.now c.args.gm_type (sym c.in-Ok.ensures)).0)
 
 pub shear_of-requires : goal.shear_of-requires
-shear_of-requires c = let e = c.args in
-    let p2 = c.slot-p2 in
-    let p3 = c.slot-p3 in
-    let p4 = c.slot-p4 in
-    let p5 = c.slot-p5 in
+shear_of-requires c =
     rw (
-      result-reads w64 p2.result p2.type_inv,
-      result-reads w64 p3.result p3.type_inv,
-      result-reads w64 p4.result p4.type_inv,
-      result-reads w64 p5.result p5.type_inv,
-      p2.ensures,
-      p3.ensures,
-      p4.ensures,
-      p5.ensures,
+      result-reads w64 c.slot.result c.slot.type_inv,
+      result-reads w64 c.slot-in-Ok.result c.slot-in-Ok.type_inv,
+      result-reads w64 c.slot-in-Ok-2.result c.slot-in-Ok-2.type_inv,
+      result-reads w64 c.slot-in-Ok-3.result c.slot-in-Ok-3.type_inv,
+      c.slot.ensures,
+      c.slot-in-Ok.ensures,
+      c.slot-in-Ok-2.ensures,
+      c.slot-in-Ok-3.ensures,
     )
-    (accepted e.params.now e.gm_type
-    (sym c.refusal_of-refusal.ensures ∙ c.if-refusal-ne0.false)).1
+    (accepted c.args.params.now c.args.gm_type (sym c.in-Ok.ensures)).1
 
-pub returns : goal.returns
+pub returns-in-Ok : goal.returns-in-Ok
 unfolding shear
-returns c = let p2 = c.slot-p2 in
-    let p3 = c.slot-p3 in
-    let p4 = c.slot-p4 in
-    let p5 = c.slot-p5 in
-    let refusal = c.refusal_of-refusal in
+returns-in-Ok c =
     rw (
       c.shear_of.ensures,
-      result-reads w64 p2.result p2.type_inv,
-      result-reads w64 p3.result p3.type_inv,
-      result-reads w64 p4.result p4.type_inv,
-      result-reads w64 p5.result p5.type_inv,
-      p2.ensures,
-      p3.ensures,
-      p4.ensures,
-      p5.ensures,
-      ← refusal.ensures,
+      result-reads w64 c.slot.result c.slot.type_inv,
+      result-reads w64 c.slot-in-Ok.result c.slot-in-Ok.type_inv,
+      result-reads w64 c.slot-in-Ok-2.result c.slot-in-Ok-2.type_inv,
+      result-reads w64 c.slot-in-Ok-3.result c.slot-in-Ok-3.type_inv,
+      c.slot.ensures,
+      c.slot-in-Ok.ensures,
+      c.slot-in-Ok-2.ensures,
+      c.slot-in-Ok-3.ensures,
+      ← c.in-Ok.ensures,
     )
-    (sym (answered-accepted rejected refusal.result _ c.if-refusal-ne0.false))
+
+pub returns-in-Err : goal.returns-in-Err
+unfolding shear
+returns-in-Err c =
+    rw (c.refused.ensures, ← c.in-Err.ensures)
+    (sym (answered-refused rejected (number_of c.in-Err.refusal) _ (λ z. let h = above-zero c.in-Err.refusal in omega (arith, h, z))))

@@ -1,4 +1,3 @@
-use native.Mathlib.Omega.{arith}
 use Rattle.laws.proofs.Loops.{again, done}
 use mathlib.Core.Path.{refl}
 use Rattle.solve.specs.Elimination.{system}
@@ -7,15 +6,6 @@ use Rattle.solve.proofs.back_substitute.Goals as goal
 
 pub loop-i-init : goal.loop-i-init
 loop-i-init c = refl
-
-pub unknown_step-requires : goal.unknown_step-requires
-unknown_step-requires c = omega arith
-
-pub overflow_add-i : goal.overflow_add-i
-overflow_add-i c = omega arith
-
-pub loop-i-smaller : goal.loop-i-smaller
-loop-i-smaller c = omega arith
 
 pub loop-i-preserved : goal.loop-i-preserved
 loop-i-preserved c = let e = c.args in

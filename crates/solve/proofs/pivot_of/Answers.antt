@@ -1,24 +1,11 @@
-use native.Mathlib.Omega.{arith}
 use Rattle.laws.proofs.Loops.{again, done}
 use mathlib.Core.Path.{refl}
 use Rattle.solve.specs.Elimination.{pivot_step}
 use borrow.Author.Rules.{rules}
 use Rattle.solve.proofs.pivot_of.Goals as goal
 
-pub overflow_add-row : goal.overflow_add-row
-overflow_add-row c = omega arith
-
 pub loop-row-init : goal.loop-row-init
 loop-row-init c = (refl, search rules)
-
-pub pivot_step-pivot-requires : goal.pivot_step-pivot-requires
-pivot_step-pivot-requires c = omega arith
-
-pub overflow_add-row-in-loop-row : goal.overflow_add-row-in-loop-row
-overflow_add-row-in-loop-row c = omega arith
-
-pub loop-row-smaller : goal.loop-row-smaller
-loop-row-smaller c = omega arith
 
 pub loop-row-preserved : goal.loop-row-preserved
 loop-row-preserved c = let e = c.args in

@@ -1,33 +1,17 @@
-use native.Mathlib.Omega.{arith}
 use Rattle.solve.proofs.Rows.{row-reduced}
 use Rattle.laws.proofs.Loops.{again, done}
 use mathlib.Core.Path.{refl}
 use Rattle.solve.specs.Elimination.{reduce_row, reduced}
 use Rattle.solve.proofs.reduce_below.Goals as goal
 
-pub overflow_add-row : goal.overflow_add-row
-overflow_add-row c = omega arith
-
 pub loop-row-init : goal.loop-row-init
 loop-row-init c = refl
-
-pub reduce_row-factor-requires : goal.reduce_row-factor-requires
-reduce_row-factor-requires c = omega arith
-
-pub reduce_right-requires : goal.reduce_right-requires
-reduce_right-requires c = omega arith
-
-pub overflow_add-row-in-loop-row : goal.overflow_add-row-in-loop-row
-overflow_add-row-in-loop-row c = omega arith
-
-pub loop-row-smaller : goal.loop-row-smaller
-loop-row-smaller c = omega arith
 
 pub loop-row-preserved : goal.loop-row-preserved
 loop-row-preserved c = let l = c in
     let e = l.args in
     let row = c.reduce_row-factor.ensures in
-    let step = row-reduced e.size e.col l.loop-row.row l.loop-row.a l.loop-row.b row.value row.a_after c.reduce_right.ensures in
+    let step = row-reduced e.size e.col l.loop-row.row l.loop-row.a l.loop-row.b row.value row.a_after refl in
     again (reduce_row e.size e.col) c.loop-row-test.true step l.loop-row.invariant
 
 pub returns : goal.returns

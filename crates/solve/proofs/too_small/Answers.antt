@@ -3,4 +3,4 @@
 use Rattle.solve.proofs.too_small.Goals as goal
 
 pub returns : goal.returns
-returns c = rw (← c.abs.ensures)
+returns c = rw (← c.magnitude.ensures)

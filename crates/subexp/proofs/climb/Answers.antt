@@ -7,12 +7,6 @@ use Rattle.bits.proofs.Buffer.{bit_at_lt}
 use Rattle.subexp.proofs.Window.{climb-stops, climb-ends}
 use Rattle.subexp.proofs.climb.Goals as goal
 
-pub overflow_add-at : goal.overflow_add-at
-overflow_add-at c = omega (arith, c.last_rung-last.ensures.few)
-
-pub overflow_add-at-then-ones-last : goal.overflow_add-at-then-ones-last
-overflow_add-at-then-ones-last c = omega (arith, c.last_rung-last.ensures.few)
-
 pub returns-then-ones-last : goal.returns-then-ones-last
 returns-then-ones-last c = let f = c.f-window in
     let pre = c.requires in
@@ -21,9 +15,6 @@ returns-then-ones-last c = let f = c.f-window in
     let l = c.last_rung-last in
     climb-stops (bit_at a.bytes.now) (bit_at_lt a.bytes.now) a.cursor.at f.result.value b.result f.ensures.value b.ensures.0
     a.num_syms (32 - b.result) l.result pre.0 pre.1 refl l.ensures c.new.result c.if-ones-last.true c.new.ensures
-
-pub overflow_add-at-2 : goal.overflow_add-at-2
-overflow_add-at-2 c = omega (arith, c.last_rung-last.ensures.few)
 
 pub returns : goal.returns
 returns c = let f = c.f-window in

@@ -7,9 +7,6 @@ use Rattle.bits.specs.Fields.{field}
 use Rattle.subexp.proofs.Climbing.{first_read}
 use Rattle.subexp.proofs.decode_subexp.Goals as goal
 
-pub returns-then-num_syms-le-FIRST_REACH : goal.returns-then-num_syms-le-FIRST_REACH
-returns-then-num_syms-le-FIRST_REACH c = c.rungs_read.ensures
-
 pub returns-then-first-lt-FIRST_RUNG : goal.returns-then-first-lt-FIRST_RUNG
 returns-then-first-lt-FIRST_RUNG c = let a = c.args in
     let f = c.f-first in
@@ -17,6 +14,3 @@ returns-then-first-lt-FIRST_RUNG c = let a = c.args in
     let near : field (bit_at a.bytes.now) a.cursor.at 4 < 8 = omega (arith, f.ensures.value, c.if-first-lt-FIRST_RUNG.true) in
     let e = first_read (bit_at a.bytes.now) a.num_syms a.cursor.at more near in
     record { value = f.ensures.value ∙ e.0; next = f.ensures.next ∙ e.1 }
-
-pub returns : goal.returns
-returns c = c.rungs_read-2.ensures

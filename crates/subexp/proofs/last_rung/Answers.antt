@@ -1,11 +1,8 @@
 -- `subexp::last_rung`: behind the first rung each reaches as far as a power of two. Assumes nothing.
 use Prim.Native.Nat.{◌<◌}
 use native.Mathlib.Omega.{arith}
-use Rattle.subexp.proofs.Window.{last-first, last-later}
+use Rattle.subexp.proofs.Window.{last-later}
 use Rattle.subexp.proofs.last_rung.Goals as goal
-
-pub returns-then-num_syms-le-FIRST_REACH : goal.returns-then-num_syms-le-FIRST_REACH
-returns-then-num_syms-le-FIRST_REACH c = last-first c.args.num_syms c.if-num_syms-le-FIRST_REACH.true
 
 pub overflow_sub-result : goal.overflow_sub-result
 overflow_sub-result c = let a = c.args in

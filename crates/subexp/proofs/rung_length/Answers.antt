@@ -9,13 +9,10 @@ use Rattle.bits.proofs.Words.{field-length}
 use Rattle.subexp.proofs.Climbing.{last_code, stop-code}
 use Rattle.subexp.proofs.rung_length.Goals as goal
 
-pub ns_field-field-requires : goal.ns_field-field-requires
-ns_field-field-requires c = (omega (arith, c.requires.start, c.requires.less, c.rung_start-mk.ensures.0), omega (arith, c.requires.small))
-
 pub returns-then-is_last : goal.returns-then-is_last
 returns-then-is_last c = let a = c.args in
     let m = c.rung_start-mk in
-    let f = c.ns_field-field in (
+    let f = c.ns_field in (
       field-length f.result (ns_bits (a.num_syms - m.result) (a.v - m.result)) f.ensures.0
           ∙ ap length (sym (last_code a.num_syms a.v a.i m.result m.ensures.0 (sym c.is_last.ensures ∙ c.if-is_last.true))),
       omega (arith, f.ensures.1),

@@ -15,6 +15,6 @@ pub returns-then-i-last : goal.returns-then-i-last
 returns-then-i-last c = let a = c.args in
     by_length a.num_syms a.v c.last_rung-last.result c.requires.0 c.requires.1 c.last_rung-last.ensures c.bit_length-i.result c.bit_length-i.ensures.0 (omega arith) (omega arith)
 
-pub returns : goal.returns
-returns c = let a = c.args in
+pub returns-else-i-last : goal.returns-else-i-last
+returns-else-i-last c = let a = c.args in
     by_last a.num_syms a.v c.last_rung-last.result c.requires.0 c.requires.1 c.last_rung-last.ensures c.bit_length-i.result c.bit_length-i.ensures.0 (omega arith) (omega arith)

@@ -3,17 +3,13 @@ use Prim.Native.Nat.{ℕ, ◌-◌}
 use mathlib.Core.Path.{◌≡◌, ap, sym, ◌∙◌}
 use native.Mathlib.Omega.{arith}
 use Rattle.subexp.specs.Recenter.{symbol_of}
-use Rattle.subexp.proofs.Centring.{symbol-near, symbol-far, symbol-lt, inverse-within}
+use Rattle.subexp.proofs.Centring.{symbol-near, symbol-far, symbol-lt}
 use Rattle.subexp.proofs.symbol_of.Goals as goal
 
 pub returns-then-r-mx : goal.returns-then-r-mx
 returns-then-r-mx c = let a = c.args in
     let e : c.inverse_recenter.result ≡ symbol_of a.mx a.r a.x = c.inverse_recenter.ensures ∙ sym (symbol-near a.mx a.r a.x c.if-r-mx.true) in
     (e, omega (arith, e, symbol-lt a.mx a.r (omega arith) a.x (omega arith)))
-
-pub overflow_sub-result-2 : goal.overflow_sub-result-2
-overflow_sub-result-2 c = let a = c.args in
-    omega (arith, c.inverse_recenter-2.ensures, inverse-within a.mx (a.mx - 1 - a.r) a.x (omega arith) (omega arith))
 
 pub returns : goal.returns
 returns c = let a = c.args in

@@ -25,54 +25,22 @@ module _ (p q : ℤ) (h : Reach p) (s : nat_abs q < 2 ^ 62) where
       sfits-nat_abs w64 ((p -ℤ q) -ℤ pos 65536)
       (omega (arith, nat_abs-sub-le (p -ℤ q) (pos 65536), nat_abs-sub-le p q, (reach-divisor p h).high))
 
-pub product-requires : goal.product-requires
-product-requires c = rw (to_z-of_z c.ranges.p3, to_z-of_z c.ranges.p4)
-    (omega (arith, nat_abs-product c.args.p3 c.args.p4, product-within c.args.p3 c.args.p4 8192 8192 c.requires.slot3 c.requires.slot4))
-
-pub divided_by-requires : goal.divided_by-requires
-divided_by-requires c = let e = c.before in
-    rw (
-      result-reads w64 c.product.result c.product.type_inv,
-      c.product.ensures,
-      to_z-of_z e.ranges.p3,
-      to_z-of_z e.ranges.p4,
-      to_z-of_z e.ranges.p2,
-    )
-    (record { by = e.requires.slot2; small = omega (arith, product-within e.args.p3 e.args.p4 8192 8192 e.requires.slot3 e.requires.slot4) })
-
-pub overflow_sub-p5 : goal.overflow_sub-p5
-overflow_sub-p5 c = let e = c.before in
-    let quotient = c.divided_by in
-    rw (to_z-of_z e.ranges.p5, result-reads w64 quotient.result quotient.type_inv)
-    (less-fits e.args.p5 quotient.result e.requires.slot5 quotient.ensures.small)
-
-pub overflow_sub-p5-2 : goal.overflow_sub-p5-2
-overflow_sub-p5-2 c = let e = c.before in
-    let quotient = c.divided_by in
-    rw (
-      to_z-of_z e.ranges.p5,
-      result-reads w64 quotient.result quotient.type_inv,
-      to_z-of_z (less-fits e.args.p5 quotient.result e.requires.slot5 quotient.ensures.small),
-    )
-    (difference-fits e.args.p5 quotient.result e.requires.slot5 quotient.ensures.small)
-
-pub returns : goal.returns
+pub returns-clause-is : goal.returns-clause-is
 unfolding delta0
-returns c = let e = c.before in
+returns-clause-is c = let a = c.args in
     let product = c.product in
     let quotient = c.divided_by in
     rw (
       result-reads w64 c.clamp.result c.clamp.type_inv,
       c.clamp.ensures.is,
-      to_z-of_z e.ranges.p5,
+      to_z-of_z c.ranges.p5,
       result-reads w64 quotient.result quotient.type_inv,
-      to_z-of_z (less-fits e.args.p5 quotient.result e.requires.slot5 quotient.ensures.small),
-      to_z-of_z (difference-fits e.args.p5 quotient.result e.requires.slot5 quotient.ensures.small),
+      to_z-of_z (less-fits a.p5 quotient.result c.requires.slot5 quotient.ensures.small),
+      to_z-of_z (difference-fits a.p5 quotient.result c.requires.slot5 quotient.ensures.small),
       quotient.ensures.is,
       result-reads w64 product.result product.type_inv,
       product.ensures,
-      to_z-of_z e.ranges.p3,
-      to_z-of_z e.ranges.p4,
-      to_z-of_z e.ranges.p2,
+      to_z-of_z c.ranges.p3,
+      to_z-of_z c.ranges.p4,
+      to_z-of_z c.ranges.p2,
     )
-    (record { is = refl; small = clamped-small ((e.args.p5 -ℤ divided_by e.args.p2 (e.args.p3 *ℤ e.args.p4)) -ℤ pos 65536) })

@@ -1,10 +1,9 @@
--- `word_elect::elect`: rows 1 and 4 answer by the count and the flag; otherwise the winner, as it is stored.
+-- `word_elect::elect`: the words elect what the samples they stand for elect.
 -- Assumes nothing.
-use borrow.Author.Tests.{ne_eqb}
+use Rattle.std.proofs.Common.{◌∙◌}
+use Rattle.sample.specs.Sample.{sample_of}
+use Rattle.elect.proofs.Mapped.{elected-mapped}
 use Rattle.word_elect.proofs.elect.Goals as goal
 
-pub returns-then-refusal-ne0 : goal.returns-then-refusal-ne0
-returns-then-refusal-ne0 c = rw (← c.elect_refusal-refusal.ensures, ne_eqb _ 0 c.if-refusal-ne0.true) c.stopped.ensures
-
 pub returns : goal.returns
-returns c = rw (← c.elect_refusal-refusal.ensures, c.if-refusal-ne0.false, ← c.winner.ensures) c.as_stored.ensures
+returns c = c.elected.ensures ∙ elected-mapped sample_of c.args.flag c.args.words.now

@@ -1,36 +1,40 @@
 -- `word_elect::turn`: each return is a case of the definition, in its order.
 -- Assumes nothing.
-use mathlib.Core.Path.{sym, ◌∙◌}
-use Rattle.sample.specs.Sample.{sample_of}
-use Rattle.elect.proofs.Turns.{turn-ended, turn-stops, turn-passes, turn-unfit, turn-judged}
+use Rattle.std.proofs.Common.{◌≡◌, Bool, true, false, refl, sym, ◌∙◌}
+use Rattle.laws.specs.Refusal.{choose}
+use Rattle.fit.specs.Sums.{itself}
+use Rattle.elect.specs.declared.Elected.{Elected}
+use Rattle.elect.specs.Elect.{held_after}
+use Rattle.elect.proofs.Turns.{turn-stops, turn-passes, turn-unfit, turn-judged}
+use Rattle.word_elect.proofs.turn.Goals.{then-candidate-ne0-via-then-candidate-ne0, then-candidate-ne0-via-else-candidate-ne0+then-unfit}
 use Rattle.word_elect.proofs.turn.Goals as goal
 
-pub returns-then-held-ne0 : goal.returns-then-held-ne0
-returns-then-held-ne0 c = let a = c.args in
-    turn-ended sample_of a.flag a.words.now a.energy a.held a.gm_type c.if-held-ne0.true
+pub returns-then-candidate-number-clause-answer : goal.returns-then-candidate-number-clause-answer
+returns-then-candidate-number-clause-answer g c = let a = c.args in
+    let m = c.candidate-candidate in
+    turn-stops itself a.flag (g.L.Electorate.samples a.list) a.energy a.held a.gm_type c.requires.running m.result m.ensures (c.if-candidate-number.true ∙ c.number.ensures)
 
-pub returns-then-candidate-eq-NOT_FINITE : goal.returns-then-candidate-eq-NOT_FINITE
-returns-then-candidate-eq-NOT_FINITE c = let a = c.args in
-    let m = c.quantize_trimmed-candidate in
-    c.stopped.ensures
-    ∙ turn-stops sample_of a.flag a.words.now a.energy a.held a.gm_type c.if-held-ne0.false m.result m.ensures c.if-candidate-eq-NOT_FINITE.true
+pub returns-then-candidate-ne0-clause-answer : goal.returns-then-candidate-ne0-clause-answer
+returns-then-candidate-ne0-clause-answer g c = let a = c.args in
+    let m = c.candidate-candidate in
+    let xs = g.L.Electorate.samples a.list in
+    elim c.then-candidate-ne0.branch [
+      | then-candidate-ne0-via-then-candidate-ne0 w ↦ turn-passes itself a.flag xs a.energy a.held a.gm_type c.requires.running m.result m.ensures (λ e. c.if-candidate-number.false (e ∙ sym c.number.ensures)) w.if-candidate-ne0.true
+      | then-candidate-ne0-via-else-candidate-ne0+then-unfit w ↦ turn-unfit itself a.flag xs a.energy a.held a.gm_type c.requires.running m.result m.ensures w.if-candidate-ne0.false (sym w.unfit.ensures ∙ w.if-unfit.true)
+    ]
 
-pub returns-then-candidate-ne0 : goal.returns-then-candidate-ne0
-returns-then-candidate-ne0 c = let a = c.args in
-    let m = c.quantize_trimmed-candidate in
-    turn-passes sample_of a.flag a.words.now a.energy a.held a.gm_type c.if-held-ne0.false m.result m.ensures c.if-candidate-eq-NOT_FINITE.false c.if-candidate-ne0.true
-
-pub returns-then-unfit : goal.returns-then-unfit
-returns-then-unfit c = let a = c.args in
-    let m = c.quantize_trimmed-candidate in
-    let running = c.if-held-ne0.false in
-    turn-unfit sample_of a.flag a.words.now a.energy a.held a.gm_type running m.result m.ensures c.if-candidate-ne0.false
-    (sym c.unfit.ensures ∙ c.if-unfit.true)
-
-pub returns : goal.returns
-returns c = let a = c.args in
-    let m = c.quantize_trimmed-candidate in
-    let running = c.if-held-ne0.false in
+pub returns-clause-answer : goal.returns-clause-answer
+returns-clause-answer g c = let a = c.args in
+    let m = c.candidate-candidate in
     c.held_after.ensures
-    ∙ turn-judged sample_of a.flag a.words.now a.energy a.held a.gm_type running m.result m.ensures c.if-candidate-ne0.false
-    (sym c.unfit.ensures ∙ c.if-unfit.false) c.error_of.result c.error_of.ensures
+    ∙ turn-judged itself a.flag (g.L.Electorate.samples a.list) a.energy a.held a.gm_type c.requires.running m.result m.ensures c.if-candidate-ne0.false
+    (sym c.unfit.ensures ∙ c.if-unfit.false) c.error_of-err.result c.error_of-err.ensures
+
+either-runs : (b d : Bool) (h e : Elected) → h.refusal ≡ 0 → e.refusal ≡ 0 → (choose b h (choose d e h)).refusal ≡ 0
+either-runs true d h e p q = p
+either-runs false true h e p q = q
+either-runs false false h e p q = p
+
+pub returns-clause-running : goal.returns-clause-running
+unfolding held_after
+returns-clause-running g c = rw c.held_after.ensures (either-runs _ _ _ _ c.requires.running refl)

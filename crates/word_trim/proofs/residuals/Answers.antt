@@ -49,12 +49,6 @@ offset_bounds-squares-i c = omega arith
 pub bounds-squares-i : goal.bounds-squares-i
 bounds-squares-i c = omega arith
 
-pub overflow_add-i : goal.overflow_add-i
-overflow_add-i c = omega arith
-
-pub loop-i-smaller : goal.loop-i-smaller
-loop-i-smaller c = omega arith
-
 pub loop-i-preserved : goal.loop-i-preserved
 loop-i-preserved c = let a = c.args in
     let l = c.loop-i in

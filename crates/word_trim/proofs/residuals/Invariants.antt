@@ -1,6 +1,6 @@
 -- `word_trim::residuals`: each turn writes the next word's square.
 -- Assumes nothing.
-use Prim.Native.Nat.{ℕ, ◌-◌, ◌≤◌}
+use Prim.Native.Nat.{ℕ, ◌≤◌}
 use mathlib.Core.Path.{◌≡◌}
 use lib.ListN.{length, get_or}
 use lib.Ieee.{Float}
@@ -17,6 +17,3 @@ square_by m w = residual_of m (sample_of w)
 
 abbrev pub invariant-loop-i : goal.invariant-loop-i
 invariant-loop-i l = (l.i ≤ length l.words) × (l.squares ≡ onto (listing (λ k. square_by l.m (get_or l.words k 0)) l.i) l.initial.squares) × (length l.squares ≡ length l.initial.squares)
-
-abbrev pub decreases-loop-i : goal.decreases-loop-i
-decreases-loop-i l = length l.words - l.i

@@ -16,7 +16,7 @@ all_finite-requires c = let a = c.args in
 pub returns-then-not-all_finite : goal.returns-then-not-all_finite
 returns-then-not-all_finite c = let a = c.args in
     let test = c.all_finite in
-    rw c.refused_trim.ensures
+    rw (c.refused_trim.ensures, c.number.ensures)
     (infinite-trims a.gm_type a.first a.words.now a.squares.now a.kept.now c.requires (sym test.ensures ∙ c.if-not-all_finite.true))
 
 pub limit_of-limit-requires : goal.limit_of-limit-requires

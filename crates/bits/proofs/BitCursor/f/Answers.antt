@@ -9,18 +9,6 @@ use Rattle.bits.proofs.Fields.{field-inside}
 use Rattle.bits.proofs.Words.{five-field}
 use Rattle.bits.proofs.BitCursor.f.Goals as goal
 
-pub overflow_cast-used : goal.overflow_cast-used
-overflow_cast-used c = omega arith
-
-pub five_bytes-word-requires : goal.five_bytes-word-requires
-five_bytes-word-requires c = omega arith
-
-pub bits_inside-requires : goal.bits_inside-requires
-bits_inside-requires c = omega arith
-
-pub overflow_add-result : goal.overflow_add-result
-overflow_add-result c = omega arith
-
 pub returns : goal.returns
 returns c = let a = c.args in
     let g = bit_at a.bytes.now in

@@ -17,40 +17,25 @@ small bytes at w v le e =
     let sixteen : w - 1 ≤ 16 = omega arith in
     omega (arith, field_lt (bit_at bytes) (bit_at_lt bytes) at (w - 1), pow_mono sixteen)
 
-pub ns_width-width-requires : goal.ns_width-width-requires
-ns_width-width-requires c = omega arith
-
-pub overflow_sub-w : goal.overflow_sub-w
-overflow_sub-w c = omega arith
-
-pub f-v-requires : goal.f-v-requires
-f-v-requires c = omega arith
-
 pub returns-then-v-m : goal.returns-then-v-m
 returns-then-v-m c = let a = c.args in
-    let ns-width = c.ns_width-width in
+    let ns-width = c.ns_width-w in
     let f = c.f-v in
     let w = ns-width.ensures in
     let e = short-read a.n f.result.value ns-width.result.w ns-width.result.m w.w w.m (bit_at a.bytes.now) a.self.at f.ensures.value c.if-v-m.true in
     record { value = sym (ap (λ (t : Taken). t.value) e); next = f.ensures.next ∙ sym (ap (λ (t : Taken). a.self.at + t.bits) e) }
 
-pub read_bit-extra_bit-requires : goal.read_bit-extra_bit-requires
-read_bit-extra_bit-requires c = omega arith
-
 pub overflow_mul-result : goal.overflow_mul-result
-overflow_mul-result c = omega (arith, small c.args.bytes.now c.args.self.at c.ns_width-width.result.w c.f-v.result.value (omega arith) c.f-v.ensures.value)
-
-pub overflow_sub-result : goal.overflow_sub-result
-overflow_sub-result c = omega arith
+overflow_mul-result c = omega (arith, small c.args.bytes.now c.args.self.at c.ns_width-w.result.w c.f-v.result.value (omega arith) c.f-v.ensures.value)
 
 pub overflow_add-result : goal.overflow_add-result
 overflow_add-result c = let a = c.args in
     let f = c.f-v in
-    omega (arith, small c.args.bytes.now c.args.self.at c.ns_width-width.result.w c.f-v.result.value (omega arith) c.f-v.ensures.value, c.read_bit-extra_bit.ensures.value, bit_at_lt a.bytes.now f.result.next.at)
+    omega (arith, small c.args.bytes.now c.args.self.at c.ns_width-w.result.w c.f-v.result.value (omega arith) c.f-v.ensures.value, c.read_bit-extra_bit.ensures.value, bit_at_lt a.bytes.now f.result.next.at)
 
 pub returns : goal.returns
 returns c = let a = c.args in
-    let ns-width = c.ns_width-width in
+    let ns-width = c.ns_width-w in
     let f = c.f-v in
     let if1 = c.if-v-m in
     let read-bit = c.read_bit-extra_bit in

@@ -2,7 +2,6 @@ use Prim.Native.Nat.{ℕ, ◌-◌, ◌/◌, ◌<◌}
 use mathlib.Core.Path.{◌≡◌, refl, ap, ◌∙◌}
 use native.Mathlib.Nat.{div-lt_iff_lt-mul, mod-lt}
 use native.Mathlib.Omega.{arith}
-use lib.ListN.{length-set}
 use Rattle.laws.specs.Buffer.{onto}
 use Rattle.laws.specs.Loops.{sum}
 use Rattle.laws.specs.Parts.{listing}
@@ -37,7 +36,7 @@ overflow_mul-samples c = let a = c.args in
     )
 
 pub loop-k-init : goal.loop-k-init
-loop-k-init c = (omega arith, refl, refl, refl)
+loop-k-init c = (refl, refl)
 
 pub overflow_add-at : goal.overflow_add-at
 overflow_add-at c = let a = c.args in
@@ -75,10 +74,7 @@ overflow_add-rows c = let a = c.args in
     let k = c.loop-k.k in
     let l : k < 4096 = omega (arith, c.loop-k-test.true, few, most) in
     let new = ap (λ (f : Sampled). f.rows) c.word_at-found.ensures in
-    omega (arith, rows-so-far s (band_at a.sides.width a.first) k l, c.loop-k.invariant.3, new)
-
-pub loop-k-smaller : goal.loop-k-smaller
-loop-k-smaller c = omega arith
+    omega (arith, rows-so-far s (band_at a.sides.width a.first) k l, c.loop-k.invariant.1, new)
 
 pub loop-k-preserved : goal.loop-k-preserved
 unfolding sample_word
@@ -86,17 +82,12 @@ loop-k-preserved c = let a = c.args in
     let s = scene a.input.now a.reference.now a.sides.width a.sides.height a.input_half.now a.ref_half.now in
     let k = c.loop-k.k in
     let e = c.word_at-found.ensures in (
-      omega arith,
-      listing-more (λ i. sample_word s (band_at a.sides.width a.first i)) a.words.now k (omega (arith, c.requires.band.room)) c.loop-k.invariant.1 (ap (λ (f : Sampled). f.word) e),
-      simp length-set c.loop-k.invariant.2,
-      rows_next s (band_at a.sides.width a.first) k c.loop-k.invariant.3 (ap (λ (f : Sampled). f.rows) e),
+      listing-more (λ i. sample_word s (band_at a.sides.width a.first i)) a.words.now k (omega (arith, c.requires.band.room)) c.loop-k.invariant.0 (ap (λ (f : Sampled). f.word) e),
+      rows_next s (band_at a.sides.width a.first) k c.loop-k.invariant.1 (ap (λ (f : Sampled). f.rows) e),
     )
-
-pub shape_of-words : goal.shape_of-words
-shape_of-words c = c.loop-k.invariant.2
 
 pub returns : goal.returns
 unfolding band_words band_rows
 returns c = let a = c.args in
     let s = scene a.input.now a.reference.now a.sides.width a.sides.height a.input_half.now a.ref_half.now in
-    let e : c.loop-k.k ≡ band_count a.sides.width a.first a.end = omega arith in record { words_after = c.loop-k.invariant.1 ∙ ap (λ (n : ℕ). onto (listing (λ i. sample_word s (band_at a.sides.width a.first i)) n) a.words.now) e; value = c.loop-k.invariant.3 ∙ ap (sum (λ i. sample_rows s (band_at a.sides.width a.first i))) e }
+    let e : c.loop-k.k ≡ band_count a.sides.width a.first a.end = omega arith in record { words_after = c.loop-k.invariant.0 ∙ ap (λ (n : ℕ). onto (listing (λ i. sample_word s (band_at a.sides.width a.first i)) n) a.words.now) e; value = c.loop-k.invariant.1 ∙ ap (sum (λ i. sample_rows s (band_at a.sides.width a.first i))) e }

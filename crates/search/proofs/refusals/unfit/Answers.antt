@@ -8,7 +8,7 @@ pub returns-then-too_large : goal.returns-then-too_large
 returns-then-too_large c = rw (sym c.too_large.ensures ∙ c.if-too_large.true)
 
 pub wrong_length-requires : goal.wrong_length-requires
-wrong_length-requires c = small c.args.width c.args.height (sym c.too_large.ensures ∙ c.if-too_large.false)
+wrong_length-requires c = small c.args.sides.width c.args.sides.height (sym c.too_large.ensures ∙ c.if-too_large.false)
 
 pub returns-then-wrong_length : goal.returns-then-wrong_length
 returns-then-wrong_length c = rw ((sym c.too_large.ensures ∙ c.if-too_large.false), (sym c.wrong_length.ensures ∙ c.if-wrong_length.true))

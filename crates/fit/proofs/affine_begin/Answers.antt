@@ -1,9 +1,0 @@
--- `fit::affine_begin`: eleven sums of nothing.
--- Assumes nothing.
-use mathlib.Core.Path.{refl}
-use Rattle.fit.specs.Sums.{affine_totals}
-use Rattle.fit.proofs.affine_begin.Goals as goal
-
-pub returns : goal.returns
-unfolding affine_totals
-returns c = refl

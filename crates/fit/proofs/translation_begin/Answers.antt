@@ -1,9 +1,0 @@
--- `fit::translation_begin`: two sums of nothing.
--- Assumes nothing.
-use mathlib.Core.Path.{refl}
-use Rattle.fit.specs.Sums.{translation_totals}
-use Rattle.fit.proofs.translation_begin.Goals as goal
-
-pub returns : goal.returns
-unfolding translation_totals
-returns c = refl

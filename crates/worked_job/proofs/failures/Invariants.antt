@@ -1,9 +1,0 @@
--- `worked_job::failures`: a case adds at most one failure, so the sum is at most the counter, which rises. Assumes nothing.
-use Rattle.std.proofs.Common.{◌≤◌, ◌-◌, rules}
-use Rattle.worked_job.proofs.failures.Given as goal
-
-abbrev pub invariant-loop-case : goal.invariant-loop-case
-invariant-loop-case g l = (l.failed ≤ l.case) × (l.case ≤ l.count)
-
-abbrev pub decreases-loop-case : goal.decreases-loop-case
-decreases-loop-case g l = l.count - l.case
