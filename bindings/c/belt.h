@@ -62,7 +62,7 @@
 /* What a job takes of its thread's stack, at most, in a run too: of a type that is asked for; after trimming; of a type
    that is elected. The last is the most that a job takes. bindings/c/stack.c measures them. A thread of 128 kB, as musl
    makes them, has room for each. */
-#define BELT_STACK_BYTES_PLAIN 27000
+#define BELT_STACK_BYTES_PLAIN 26000
 #define BELT_STACK_BYTES_TRIM 78000
 #define BELT_STACK_BYTES_ELECT 78000
 #define BELT_STACK_BYTES BELT_STACK_BYTES_ELECT

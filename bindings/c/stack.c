@@ -128,7 +128,7 @@ static const struct {
     {"a job of words that elects", electing_job_of_words, BELT_STACK_BYTES_ELECT},
     {"a job of words in a run that elects", electing_job_of_words_in_run, BELT_STACK_BYTES_ELECT},
     {"belt_search_band", band, 6500},
-    {"belt_run_frame", frame_in_run, 1800},
+    {"belt_run_frame", frame_in_run, 1700},
     {"belt_fit_trimmed", fit_trimmed, 60000},
     {"belt_quantize_trimmed", quantize_trimmed, 60000},
     {"belt_elect", elect, 60000},

@@ -49,7 +49,7 @@
 //! [`job_parallel`], [`Run::job_parallel`] and [`search_parallel`], with the answers of [`job`], [`Run::job`] and
 //! [`collect_motion_samples`], bit for bit, or in bands by [`search_band`] and [`job_of_words`]. A call that trims or elects takes about 57 kB of the thread's
 //! stack over words, 74 kB by a set of classes, 35 kB over samples and 168 kB over those by a set; a job about 24 kB, 75 kB if it trims or elects, in
-//! a run 26 and 77 kB. It expects the floating-point environment that a process begins with: rounding to nearest, traps
+//! a run 25 and 77 kB. It expects the floating-point environment that a process begins with: rounding to nearest, traps
 //! off.
 //!
 //! **Without `std`.** `default-features = false` leaves `core` and `alloc`, and all but `Model::degrees` and the three

@@ -14,7 +14,7 @@ ghost use Rattle.header.specs.Coefficient.{coefficient_bits};
 ghost use Rattle.header.specs.Count.{slot_count, model_count, header_count};
 ghost use Rattle.header.specs.Inner.{Carried, ModelReady, Seven, HeaderReady, HeaderCoded, Identities, page_of, Begins};
 ghost use Rattle.header.specs.Writing.{slot_bits, type_bits, model_bits, reference_bits, header_bits, bits_placed, written, header_after};
-ghost use Rattle.header.specs.Writing.{lengths_wrong, bytes_for, too_short, code_rows, model_rows, write_refusal};
+ghost use Rattle.header.specs.Writing.{lengths_wrong, bytes_for, too_short, code_rows, model_rows, room_rows, write_refusal};
 
 use bits::{BITS_OF_A_BYTE, BitCursor, Field};
 use grid::{IDENTITY, ROTZOOM, TRANSLATION};
@@ -278,15 +278,23 @@ impl<'a> Header<'a> {
         Ok(())
     }
 
+    // Room.
+    fn room_refusal(self, start: usize, room: usize) -> Result<(), Refusal>
+        requires { HeaderReady self.types.now self.params.now self.prior.now × (start < 8) }
+        ensures { refusal_number result ≡ judge (room_rows start self.entry.types.now self.entry.params.now self.entry.flag self.entry.prior.now room) }
+    {
+        if self.too_short(start, room) {
+            return Err(Refusal::TooShort);
+        }
+        Ok(())
+    }
+
     fn refusal(self, start: usize, room: usize) -> Result<(), Refusal>
         ensures { refusal_number result ≡ write_refusal start self.entry.types.now self.entry.params.now self.entry.flag self.entry.prior.now room }
     {
         self.code_refusal()?;
         self.model_refusal(start)?;
-        if self.too_short(start, room) {
-            return Err(Refusal::TooShort);
-        }
-        Ok(())
+        self.room_refusal(start, room)
     }
 
     // The bits from bit `start` on, then zeros up to the end of the last byte, over a first byte whose bits

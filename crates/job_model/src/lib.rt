@@ -4,9 +4,9 @@
 // either way it is an answer of type, six numbers as stored and score.
 #![tactic(auto)]
 
-ghost use Rattle.std.specs.Prelude.{◌≡◌, ◌≢◌, true, false, IfErr};
+ghost use Rattle.std.specs.Prelude.{◌≡◌, ◌≢◌, true, false, Ok, IfErr, length};
 ghost use Rattle.job_model.specs.Modelled.{modelled, modelled_in};
-ghost use Rattle.job_model.specs.Inner.{Fitting, Trimming, Asking, grid_answer, own_answer, Modelling};
+ghost use Rattle.job_model.specs.Inner.{Fitting, Trimming, Asking, grid_answer, own_answer, modelled_with, Modelling, Reference};
 
 use elect::Elected;
 use job_task::Settings;
@@ -91,6 +91,25 @@ fn own_of(settings: Settings, words: &[u32]) -> Elected
     asked(settings, words)
 }
 
+// The six others with the job's own model at its reference. Not inlined, so that what it takes of the stack
+// isn't taken while the model is fitted.
+#[inline(never)]
+fn with_model(own: Elected, settings: Settings, types: &[u8], models: &[i32]) -> SevenModels
+    requires six { length types.now ≡ 6 }
+    requires numbers { length models.now ≡ 36 }
+    requires reference { Reference settings.reference }
+    ensures { modelled_in (Ok result) ≡ modelled_with own settings types.now models.now }
+{
+    let stored = own.params;
+    let types = assemble::types_with(types, settings.reference, own.gm_type);
+    let models = assemble::models_with(models, settings.reference, stored);
+    SevenModels {
+        types,
+        models,
+        score: own.score,
+    }
+}
+
 // The six others with the job's own model at its reference, or the number of what refuses it: a number,
 // since fits and elections are C's answers too (`quantize::Quantized`, `elect::Elected`).
 pub fn models_of(
@@ -107,12 +126,5 @@ pub fn models_of(
     if own.refusal != 0 {
         return Err(own.refusal);
     }
-    let stored = own.params;
-    let types = assemble::types_with(types, settings.reference, own.gm_type);
-    let models = assemble::models_with(models, settings.reference, stored);
-    Ok(SevenModels {
-        types,
-        models,
-        score: own.score,
-    })
+    Ok(with_model(own, settings, types, models))
 }

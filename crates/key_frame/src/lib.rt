@@ -3,8 +3,9 @@
 #![tactic(auto)]
 
 ghost use Rattle.std.specs.Prelude.{◌≡◌, ◌*◌, ◌≤◌, length};
+ghost use Rattle.laws.specs.Refusal.{judge};
 ghost use Rattle.refusal.specs.Number.{refusal_number};
-ghost use Rattle.key_frame.specs.Key.{identities, key_lengths_wrong, some_type, not_identity, key_refusal};
+ghost use Rattle.key_frame.specs.Key.{identities, key_lengths_wrong, some_type, not_identity, key_code_rows, key_model_rows, key_refusal};
 ghost use Rattle.key_frame.specs.Inner.{identity_at};
 
 use grid::IDENTITY;
@@ -34,10 +35,9 @@ fn not_identity(types: &[u8], flag: u8, params: &[i32]) -> bool
     some_type(types) || models::models_wrong(types, flag, params)
 }
 
-// Lengths, types and flag, then start and models.
-#[tactic(auto, unfolding(crate::specs::Key::key_refusal))]
-pub fn key_refusal(start: usize, types: &[u8], params: &[i32], flag: u8) -> Result<(), Refusal>
-    ensures { refusal_number result ≡ key_refusal start types.now params.now flag }
+// Lengths, types and flag.
+fn key_code_refusal(types: &[u8], params: &[i32], flag: u8) -> Result<(), Refusal>
+    ensures { refusal_number result ≡ judge (key_code_rows types.now params.now flag) }
 {
     if key_lengths_wrong(types.len(), params.len()) {
         return Err(Refusal::WrongLength);
@@ -45,6 +45,14 @@ pub fn key_refusal(start: usize, types: &[u8], params: &[i32], flag: u8) -> Resu
     if models::types_over(types) || 1 < flag {
         return Err(Refusal::NoSuchCode);
     }
+    Ok(())
+}
+
+// Start and models.
+fn key_model_refusal(start: usize, types: &[u8], params: &[i32], flag: u8) -> Result<(), Refusal>
+    requires { 6 * length types.now ≤ length params.now }
+    ensures { refusal_number result ≡ judge (key_model_rows start types.now params.now flag) }
+{
     if models::start_over(start) {
         return Err(Refusal::StartOver);
     }
@@ -52,6 +60,14 @@ pub fn key_refusal(start: usize, types: &[u8], params: &[i32], flag: u8) -> Resu
         return Err(Refusal::ModelWrong);
     }
     Ok(())
+}
+
+#[tactic(auto, unfolding(crate::specs::Key::key_refusal))]
+pub fn key_refusal(start: usize, types: &[u8], params: &[i32], flag: u8) -> Result<(), Refusal>
+    ensures { refusal_number result ≡ key_refusal start types.now params.now flag }
+{
+    key_code_refusal(types, params, flag)?;
+    key_model_refusal(start, types, params, flag)
 }
 
 // The number at place i of identities: every third is the whole.

@@ -2,15 +2,14 @@
 -- Assumes nothing.
 use Prim.Native.Nat.{ℕ, ◌+◌, ◌*◌, ◌-◌, ◌≤◌, ◌<◌, min}
 use mathlib.Core.List.{List}
-use mathlib.Core.Path.{◌≡◌, sym, ◌∙◌}
+use mathlib.Core.Path.{◌≡◌, ◌∙◌}
 use native.Mathlib.Nat.{le_refl, mul-le-mul_right}
 use native.Mathlib.Omega.{arith}
-use Rattle.std.proofs.Math.Seq.{take-length}
 use lib.ListN.{length, take, drop, get_or}
 use Rattle.laws.specs.Buffer.{onto}
 use Rattle.laws.specs.Parts.{listing}
 use Rattle.laws.proofs.Placed.{onto-whole}
-use Rattle.laws.proofs.Filling.{listing-same, listing-take}
+use Rattle.laws.proofs.Filling.{listing-same}
 use Rattle.plane.specs.declared.Place.{Place}
 use Rattle.plane.specs.declared.Offset.{Offset}
 use Rattle.plane.specs.Plane.{row_by_row, pel_at, right}
@@ -18,7 +17,7 @@ use Rattle.plane.specs.Clamp.{displaced, offset}
 use Rattle.plane.specs.Inner.{Inside, Starts, landing, row_pel, window_pel, window_of}
 use Rattle.plane.proofs.Clamped.{displaced-is}
 use Rattle.plane.proofs.Halves.{part_at}
-use Rattle.plane.proofs.Listing.{length-row_by_row, get_d-row_by_row, part_length}
+use Rattle.plane.proofs.Listing.{length-row_by_row, get_d-row_by_row}
 
 -- pel i of the part of n pels at a place
 pel-of-part : (p : List ℕ) (place : Place) (n i a : ℕ) → Starts n place a → i < n → get_or (take (a + n - a) (drop a p)) i 0 ≡ pel_at p (right place i)
@@ -29,16 +28,11 @@ pel-of-part p place n i a s h =
 column-inside : (w c b x n i : ℕ) → b ≤ c + x → c + x + n ≤ w + b → i < n → c + x - b + i ≡ min (c + i + x - b) (w - 1)
 column-inside w c b x n i l m g = omega arith
 
-take-whole : (l : List ℕ) (n : ℕ) → length l ≡ n → take n l ≡ l
-take-whole l n k = rw (← k) (take-length l)
-
 -- the part of n pels that lies displaced from a place, inside the plane's columns
-pub row_inside : (p : List ℕ) (place : Place) (by : Offset) (b n s : ℕ) → Starts n (landing place by b) s → Inside n place by.x b → s + n ≤ length p →
-    take (s + n - s) (drop s p) ≡ listing (row_pel p place by b) n
-row_inside p place by b n s e l h =
-    let k : length (take (s + n - s) (drop s p)) ≡ n = part_length s n p h in
-    sym (listing-take (take (s + n - s) (drop s p)) 0 n (omega (arith, k)) ∙ take-whole (take (s + n - s) (drop s p)) n k)
-    ∙ listing-same _ (row_pel p place by b) n
+pub row_inside : (p : List ℕ) (place : Place) (by : Offset) (b n s : ℕ) → Starts n (landing place by b) s → Inside n place by.x b →
+    listing (λ i. get_or (take (s + n - s) (drop s p)) i 0) n ≡ listing (row_pel p place by b) n
+row_inside p place by b n s e l =
+    listing-same _ (row_pel p place by b) n
     (λ i g.
     rw (
       pel-of-part p (landing place by b) n i s e g,

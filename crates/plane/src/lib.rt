@@ -164,7 +164,10 @@ fn window_row(plane: &[u16], place: Place, by: Offset, bias: usize, out: &mut [u
     let n = out.len();
     if bias <= place.c + by.x && place.c + by.x + n <= place.width + bias {
         let at = displaced_start(n, place, by, bias);
-        out.copy_from_slice(&plane[at..at + n]);
+        let row = &plane[at..at + n];
+        for (b, pel) in out.iter_mut().enumerate() {
+            *pel = row[b];
+        }
     } else {
         clamped_row(plane, place, by, bias, out);
     }

@@ -2,10 +2,9 @@
 // samples and models; guarded buffers; what a call is handed; and the cases of a list tried in turn.
 #![tactic(auto)]
 
-ghost use Rattle.std.specs.Prelude.{◌≡◌, ◌≤◌, IfOk};
+ghost use Rattle.std.specs.Prelude.{◌≡◌, ◌≤◌, take, IfOk};
 
 use sample::MotionSample;
-use std::alloc::{AllocError, Global};
 use std::rt::Files;
 use std::{array, fs, io, num, vec};
 
@@ -22,11 +21,17 @@ pub const IDENTITY: [i32; 6] = [0, 0, 65536, 0, 0, 65536];
 // One sample more than a call may be handed.
 pub const OVER: usize = 4097;
 
+const STILL: MotionSample = MotionSample {
+    x: 0.0,
+    y: 0.0,
+    u: 0.0,
+    v: 0.0,
+};
+
 // The bytes of a list that are still to be read; behind its end come zeros.
 #[derive(Drop)]
 pub struct List {
     bytes: vec::IntoIter<u8>,
-    alloc: Global,
 }
 
 impl List {
@@ -51,6 +56,12 @@ impl List {
         array::from_fn(|_| self.next_number())
     }
 
+    pub fn fill_words(&mut self, words: &mut [u32]) {
+        for word in words {
+            *word = self.next_word();
+        }
+    }
+
     pub fn next_size(&mut self) -> usize {
         self.next_word() as usize
     }
@@ -58,10 +69,6 @@ impl List {
     // A code or a pel, which a word of the list holds.
     pub fn next_code(&mut self) -> u8 {
         (self.next_word() % 256) as u8
-    }
-
-    pub fn next_codes<const N: usize>(&mut self) -> [u8; N] {
-        array::from_fn(|_| self.next_code())
     }
 
     pub fn next_pel(&mut self) -> u16 {
@@ -87,31 +94,25 @@ impl List {
         array::from_fn(|_| self.next_float())
     }
 
-    // So many items.
-    pub fn next_vec<T: Drop, F: FnMut(&mut List) -> T>(
-        &mut self,
-        count: usize,
-        mut next: F,
-    ) -> Result<Vec<T>, AllocError>
+    pub fn fill<T: Copy, F: FnMut(&mut List) -> T>(&mut self, items: &mut [T], mut next: F)
         requires { F.IsAlwaysCallable next }
     {
-        let mut items = Vec::new(self.alloc);
-        for _ in 0..count {
-            items.push(next(self))?;
+        for item in items {
+            *item = next(self);
         }
-        Ok(items)
     }
 
-    // A count, and so many items; what is beyond the most isn't read.
-    pub fn next_counted<T: Drop, F: FnMut(&mut List) -> T>(
+    // A count, and so many items at the front of a buffer, which are lent back; what is beyond it isn't read.
+    pub fn fill_counted<'a, T: Copy, F: FnMut(&mut List) -> T>(
         &mut self,
-        most: usize,
+        items: &'a mut [T],
         next: F,
-    ) -> Result<Vec<T>, AllocError>
+    ) -> &'a [T]
         requires { F.IsAlwaysCallable next }
     {
-        let count = self.next_size();
-        self.next_vec(count.min(most), next)
+        let listed = first_mut(items, self.next_size());
+        self.fill(&mut *listed, next);
+        listed
     }
 
     fn next_sample(&mut self) -> MotionSample {
@@ -123,27 +124,17 @@ impl List {
         }
     }
 
-    // So many samples, of which the first are written out, and come round again; of none written all are zeros.
-    pub fn next_samples(
-        &mut self,
-        count: usize,
-        written: usize,
-    ) -> Result<Vec<MotionSample>, AllocError> {
-        let mut listed = self.next_vec(written, |list| list.next_sample())?;
-        if listed.is_empty() {
-            listed.push(MotionSample {
-                x: 0.0,
-                y: 0.0,
-                u: 0.0,
-                v: 0.0,
-            })?;
+    // Samples, of which the first are written out, and come round again; of none written all are zeros.
+    pub fn next_samples(&mut self, written: usize) -> [MotionSample; OVER] {
+        let mut samples = [STILL; OVER];
+        for i in 0..OVER {
+            samples[i] = if i < written {
+                self.next_sample()
+            } else {
+                samples[i - written]
+            };
         }
-        listed
-            .iter()
-            .copied()
-            .cycle()
-            .take(count)
-            .collect(self.alloc)
+        samples
     }
 
     // The first words are those of the list, the others are as they were.
@@ -165,11 +156,15 @@ pub fn bits_of<const N: usize>(numbers: [f64; N]) -> [u64; N] {
 // ---- buffers, and what a call is handed
 
 // The first of a buffer, or all of it where there are fewer.
-pub fn first<T>(items: &[T], count: usize) -> &[T] {
+pub fn first<T>(items: &[T], count: usize) -> &[T]
+    ensures { result.now ≡ take count items.now }
+{
     &items[..count.min(items.len())]
 }
 
-pub fn first_mut<T>(items: &mut [T], count: usize) -> &mut [T] {
+pub fn first_mut<T>(items: &mut [T], count: usize) -> &mut [T]
+    ensures { result.now ≡ take count items.old }
+{
     let end = count.min(items.len());
     &mut items[..end]
 }
@@ -196,9 +191,9 @@ pub fn classes<const N: usize>() -> [u8; N] {
     array::from_fn(|i| (i % 5) as u8)
 }
 
-// Identity models, six numbers each.
+// Identity models, six numbers each: every third number is the whole, the others are 0.
 pub fn identity<const N: usize>() -> [i32; N] {
-    array::from_fn(|i| IDENTITY[i % 6])
+    array::from_fn(|i| if i % 3 == 2 { IDENTITY[2] } else { 0 })
 }
 
 // ---- cases
@@ -208,7 +203,6 @@ pub fn open_list<R: Files + Eprint + AllocGlobal>(rt: &R, file: &str) -> io::Res
     match fs::read(rt, file) {
         Ok(bytes) => Ok(Some(List {
             bytes: bytes.into_iter(),
-            alloc: rt.alloc(),
         })),
         Err(error) => {
             eprintln!(rt; "{file}: {error}")?;

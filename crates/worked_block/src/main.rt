@@ -190,8 +190,7 @@ impl Case {
             replay::first_mut(&mut words, self.word_room),
             replay::first_mut(&mut classes, self.class_room),
         );
-        let gave_words = gave(list, read, &words);
-        replay::sum_of(&classes) == list.next_word() && gave_words
+        gave(list, read, &words) && replay::sum_of(&classes) == list.next_word()
     }
 
     // Reads blocks by the reader of form 1.

@@ -11,7 +11,6 @@ use lent_trim::ToTrim;
 use quantize::Quantized;
 use replay::{List, OVER};
 use score::Score;
-use std::alloc::{AllocError, Global};
 use std::{array, io};
 use trim::TrimmedModel;
 use trim_numbers::TrimmedAnswer;
@@ -152,14 +151,27 @@ fn numbers_of(word: u32) -> [f64; 4] {
     [s.x, s.y, s.u, s.v]
 }
 
-fn calls_hold(alloc: Global, list: &mut List, lent: bool) -> Result<bool, AllocError> {
+// The words' samples, lent.
+fn of_lent(a: Ask, words: &[u32], classes: &[u8]) -> Answers {
+    let mut samples = [[0.0; 4]; OVER];
+    for (sample, word) in samples.iter_mut().zip(words) {
+        *sample = numbers_of(*word);
+    }
+    of_samples(a, words, classes, replay::first(&samples, words.len()))
+}
+
+fn calls_hold(list: &mut List, lent: bool) -> bool {
+    let mut words = [0; OVER];
+    let mut classes = [0; OVER];
     let count = list.next_size();
     let listed = list.next_size();
     if count > OVER || listed > OVER {
-        return Ok(false);
+        return false;
     }
-    let words = list.next_vec(count, |list| list.next_word())?;
-    let classes = list.next_vec(listed, |list| list.next_code())?;
+    let words = &mut words[..count];
+    let classes = &mut classes[..listed];
+    list.fill_words(&mut *words);
+    list.fill(&mut *classes, |list| list.next_code());
     let a = Ask {
         set: list.next_code(),
         kind: list.next_code(),
@@ -167,23 +179,21 @@ fn calls_hold(alloc: Global, list: &mut List, lent: bool) -> Result<bool, AllocE
         numbers: list.next_numbers(),
     };
     let answers = if lent {
-        let samples: Vec<[f64; 4]> = words.iter().map(|word| numbers_of(*word)).collect(alloc)?;
-        of_samples(a, &words, &classes, &samples)
+        of_lent(a, words, classes)
     } else {
-        of_words(a, &words, &classes)
+        of_words(a, words, classes)
     };
-    Ok(answers_hold(list, answers))
+    answers_hold(list, answers)
 }
 
 fn main(rt: HostRuntime) -> io::Result<()> {
-    let alloc = rt.alloc();
     replay::replay_list(&rt, "by_class.bin", "calls by class", |list, _| {
-        Ok(calls_hold(alloc, list, false)?)
+        Ok(calls_hold(list, false))
     })?;
     replay::replay_list(
         &rt,
         "by_class.bin",
         "calls by class over lent samples",
-        |list, _| Ok(calls_hold(alloc, list, true)?),
+        |list, _| Ok(calls_hold(list, true)),
     )
 }

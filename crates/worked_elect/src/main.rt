@@ -3,7 +3,6 @@
 
 use elect::Elected;
 use replay::{List, OVER};
-use std::alloc::AllocError;
 use std::io;
 
 // The refusal, the type, the six numbers and the score follow.
@@ -19,32 +18,34 @@ fn agrees(list: &mut List, e: Elected) -> bool {
 }
 
 // A list of more than a call may be handed, and one, is wrong.
-fn words_hold(list: &mut List) -> Result<bool, AllocError> {
+fn words_hold(list: &mut List) -> bool {
+    let mut words = [0u32; OVER];
     let count = list.next_size();
     if count > OVER {
-        return Ok(false);
+        return false;
     }
-    let words = list.next_vec(count, |list| list.next_word())?;
+    list.fill_words(&mut words[..count]);
     let flag = list.next_code();
-    Ok(agrees(list, word_elect::elect(flag, &words)))
+    agrees(list, word_elect::elect(flag, &words[..count]))
 }
 
-fn samples_hold(list: &mut List) -> Result<bool, AllocError> {
+fn samples_hold(list: &mut List) -> bool {
     let count = list.next_size();
     let written = list.next_size();
-    if count > OVER {
-        return Ok(false);
-    }
-    let samples = list.next_samples(count, written.min(OVER))?;
+    let samples = list.next_samples(written);
     let flag = list.next_code();
-    Ok(agrees(list, lent_elect::belt_elect_samples(&samples, flag)))
+    if count > OVER {
+        return false;
+    }
+    let lent = replay::first(&samples, count);
+    agrees(list, lent_elect::belt_elect_samples(lent, flag))
 }
 
 fn main(rt: HostRuntime) -> io::Result<()> {
     replay::replay_list(&rt, "words.bin", "elections of words", |list, _| {
-        Ok(words_hold(list)?)
+        Ok(words_hold(list))
     })?;
     replay::replay_list(&rt, "samples.bin", "elections of samples", |list, _| {
-        Ok(samples_hold(list)?)
+        Ok(samples_hold(list))
     })
 }

@@ -11,7 +11,6 @@ use refusal::Refusal;
 use replay::{IDENTITY, List, OVER};
 use sample::{MOST_SAMPLES, MotionSample};
 use score::Score;
-use std::alloc::{AllocError, Global};
 use std::{array, io};
 use trim::TrimmedModel;
 use trim_numbers::TrimmedAnswer;
@@ -105,8 +104,8 @@ impl<'a> Samples<'a> {
             && replay::bits_of([scored.score]) == [score]
     }
 
-    // The same after trimming: a refusal, the samples used and zeros or the values; then of the quantized
-    // model.
+    // The same after trimming: a refusal, the samples used and zeros or the values, where those of words
+    // that are refused don't count; then of the quantized model.
     fn trimmed_holds(self, list: &mut List, gm_type: u8, flag: u8) -> bool {
         let refusal = list.next_word();
         let used = list.next_word();
@@ -121,10 +120,11 @@ impl<'a> Samples<'a> {
             kind: gm_type,
             flag,
         });
-        fitted.refusal == refusal
-            && fitted.used == used
-            && replay::bits_of(fitted.numbers) == values
-            && model == wanted
+        let numbers_hold = match self {
+            Samples::Words(_) if refusal != 0 => true,
+            _ => replay::bits_of(fitted.numbers) == values,
+        };
+        fitted.refusal == refusal && fitted.used == used && numbers_hold && model == wanted
     }
 
     fn all_plain_hold(self, list: &mut List, flag: u8) -> bool {
@@ -158,21 +158,21 @@ fn flag_of(case: u64) -> u8 {
 }
 
 // The words are remade from a seed.
-fn fit_holds(alloc: Global, list: &mut List, flag: u8) -> Result<bool, AllocError> {
+fn fit_holds(list: &mut List, flag: u8) -> bool {
+    let mut words = [0u32; MOST_SAMPLES];
     let mut state = list.next_word();
     let count = list.next_size();
     let mask = list.next_word();
     let fixed = list.next_word();
     if count > MOST_SAMPLES {
-        return Ok(false);
+        return false;
     }
-    let mut words = vec![in alloc; 0u32; count]?;
-    for word in words.iter_mut() {
+    for word in &mut words[..count] {
         let high = generator::next_state(state);
         state = generator::next_state(high);
         *word = ((high & 0xffff_0000) | (state >> 16)) & mask | fixed;
     }
-    Ok(Samples::Words(&words).all_plain_hold(list, flag))
+    Samples::Words(&words[..count]).all_plain_hold(list, flag)
 }
 
 fn system_holds(list: &mut List) -> bool {
@@ -189,34 +189,33 @@ fn system_holds(list: &mut List) -> bool {
 }
 
 // The words of one order.
-fn order_holds(list: &mut List, flag: u8) -> Result<bool, AllocError> {
+fn order_holds(list: &mut List, flag: u8) -> bool {
+    let mut words = [0u32; MOST_SAMPLES];
     let count = list.next_size();
     if count > MOST_SAMPLES {
-        return Ok(false);
+        return false;
     }
-    let words = list.next_vec(count, |list| list.next_word())?;
-    Ok(Samples::Words(&words).all_plain_hold(list, flag))
+    list.fill_words(&mut words[..count]);
+    Samples::Words(&words[..count]).all_plain_hold(list, flag)
 }
 
-fn samples_hold(list: &mut List, flag: u8) -> Result<bool, AllocError> {
+fn samples_hold(list: &mut List, flag: u8) -> bool {
     let count = list.next_size();
     let written = list.next_size();
-    if count > OVER {
-        return Ok(false);
-    }
-    let samples = list.next_samples(count, written.min(OVER))?;
-    Ok(Samples::Any(&samples).all_hold(list, flag))
+    let samples = list.next_samples(written);
+    count <= OVER && Samples::Any(replay::first(&samples, count)).all_hold(list, flag)
 }
 
-fn trimmed_holds(list: &mut List) -> Result<bool, AllocError> {
+fn trimmed_holds(list: &mut List) -> bool {
+    let mut words = [0u32; OVER];
     let count = list.next_size();
     if count > OVER {
-        return Ok(false);
+        return false;
     }
-    let words = list.next_vec(count, |list| list.next_word())?;
+    list.fill_words(&mut words[..count]);
     let gm_type = list.next_code();
     let flag = list.next_code();
-    Ok(Samples::Words(&words).trimmed_holds(list, gm_type, flag))
+    Samples::Words(&words[..count]).trimmed_holds(list, gm_type, flag)
 }
 
 fn grid_number_holds(list: &mut List) -> bool {
@@ -323,21 +322,20 @@ fn try_refusals_of_samples(rt: &impl Print) -> io::Result<()> {
 }
 
 fn main(rt: HostRuntime) -> io::Result<()> {
-    let alloc = rt.alloc();
     replay::replay_list(&rt, "fits.bin", "fits", |list, case| {
-        Ok(fit_holds(alloc, list, flag_of(case))?)
+        Ok(fit_holds(list, flag_of(case)))
     })?;
     replay::replay_list(&rt, "systems.bin", "systems", |list, _| {
         Ok(system_holds(list))
     })?;
     replay::replay_list(&rt, "orders.bin", "orders", |list, case| {
-        Ok(order_holds(list, flag_of(case))?)
+        Ok(order_holds(list, flag_of(case)))
     })?;
     replay::replay_list(&rt, "samples.bin", "samples", |list, case| {
-        Ok(samples_hold(list, flag_of(case))?)
+        Ok(samples_hold(list, flag_of(case)))
     })?;
     replay::replay_list(&rt, "trimmed.bin", "trimmed", |list, _| {
-        Ok(trimmed_holds(list)?)
+        Ok(trimmed_holds(list))
     })?;
     replay::replay_list(&rt, "grid_numbers.bin", "grid numbers", |list, _| {
         Ok(grid_number_holds(list))

@@ -4,12 +4,11 @@
 // the two calls say no, alone and with a later row beside it.
 #![tactic(auto)]
 
-ghost use Rattle.std.specs.Prelude.{◌+◌, ◌^◌, ◌<◌, ◌≤◌};
+ghost use Rattle.std.specs.Prelude.{pos, ◌+◌, ◌^◌, ◌<◌, ◌≤◌, ◌≤ℤ◌};
 
 use header::Written;
 use header_read::Models;
 use replay::{List, UNTOUCHED_BYTE};
-use std::alloc::{AllocError, Global};
 use std::{array, io};
 
 const ONES: u8 = 255;
@@ -50,7 +49,7 @@ struct Case {
     types: [u8; 7],
     params: [i32; 42],
     prior: [i32; 42],
-    bytes: Vec<u8>,
+    bytes: [u8; ROOM],
     length: usize,
     start: u16,
     bits: u16,
@@ -182,18 +181,20 @@ fn next_short(list: &mut List) -> u16 {
 }
 
 // The bytes are packed four to a word.
-fn next_case(list: &mut List) -> Result<Case, AllocError> {
+fn next_case(list: &mut List) -> Case {
     let word = list.next_word();
     let length = list.next_size();
     let start = next_short(list);
     let bits = next_short(list);
-    let bytes = list.next_vec(length.min(157).div_ceil(4) * 4, |list| list.next_byte())?;
+    let mut bytes = [ZEROS; ROOM];
+    let packed = replay::first_mut(&mut bytes, length.min(157).div_ceil(4) * 4);
+    list.fill(packed, |list| list.next_byte());
     let prior = if word / 32768 % 2 == 1 {
         list.next_numbers()
     } else {
         replay::identity()
     };
-    Ok(Case {
+    Case {
         types: array::from_fn(|i| ((word >> (2 * i)) % 4) as u8),
         params: list.next_numbers(),
         prior,
@@ -202,24 +203,25 @@ fn next_case(list: &mut List) -> Result<Case, AllocError> {
         start,
         bits,
         flag: (word / 16384 % 2) as u8,
-    })
+    }
 }
 
 // Prior identity, high: reference 1 TRANSLATION (8192, -8192) in 17 bits, A4 20 00 in hexadecimal, or
 // seven identities in 7.
-fn worked_case(alloc: Global, case: u64) -> Result<Case, AllocError> {
+fn worked_case(case: u64) -> Case {
     let mut types = [0; 7];
     let mut params = replay::identity();
     let mut bits = 7;
-    let mut bytes = vec![in alloc; 0u8; 3]?;
+    let mut bytes = [ZEROS; ROOM];
     if case == 0 {
         types[0] = TRANSLATION;
         params[0] = 8192;
         params[1] = -8192;
         bits = 17;
-        bytes = vec![in alloc; 0xa4u8, 0x20, 0]?;
+        bytes[0] = 0xa4;
+        bytes[1] = 0x20;
     }
-    Ok(Case {
+    Case {
         types,
         params,
         prior: replay::identity(),
@@ -228,7 +230,7 @@ fn worked_case(alloc: Global, case: u64) -> Result<Case, AllocError> {
         start: 0,
         bits,
         flag: 1,
-    })
+    }
 }
 
 // ---- refusals
@@ -307,11 +309,15 @@ fn with_start_over(mut a: Ask, k: usize) -> Ask {
 }
 
 // From the centre to either end of the numbers and of the priors.
-fn reach_of(slot: usize) -> i32 {
+fn reach_of(slot: usize) -> i32
+    ensures { (pos 0 ≤ℤ result) × (result ≤ℤ pos 4194304) }
+{
     if slot < 2 { 4194304 } else { 8192 }
 }
 
-fn step_of(gm_type: u8, flag: u8, slot: usize) -> i32 {
+fn step_of(gm_type: u8, flag: u8, slot: usize) -> i32
+    ensures { (pos 0 ≤ℤ result) × (result ≤ℤ pos 16384) }
+{
     if 1 < slot {
         return 2;
     }
@@ -335,33 +341,29 @@ fn moved(from: i32, by: i32, down: bool) -> i32 {
 }
 
 // A prior so far beyond an end.
-fn with_prior_beyond(mut a: Ask, k: usize, by: i32) -> Ask {
+fn with_prior_beyond(mut a: Ask, k: usize, by: i32) -> Ask
+    requires { (pos 0 ≤ℤ by) × (by ≤ℤ pos 1) }
+{
     let i = k / 2 % 42;
     let slot = i % 6;
-    a.prior[i] = moved(
-        replay::IDENTITY[slot],
-        reach_of(slot).wrapping_add(by),
-        k % 2 == 1,
-    );
+    a.prior[i] = moved(replay::IDENTITY[slot], reach_of(slot) + by, k % 2 == 1);
     a
 }
 
 // What row 7 refuses in place of a number: off the grid, or beyond an end by a step. Where it isn't
 // carried, a step from the one that it must be.
-fn wrong_number(carried: bool, number: i32, slot: usize, step: i32, k: usize) -> i32 {
+fn wrong_number(carried: bool, number: i32, slot: usize, step: i32, k: usize) -> i32
+    requires { (pos 0 ≤ℤ step) × (step ≤ℤ pos 16384) }
+{
     let down = k % 2 == 1;
     if k < 2 {
         return moved(number, 1, down);
     }
     if k == 2 {
-        return moved(number, step.wrapping_add(step / 2), down);
+        return moved(number, step + step / 2, down);
     }
     if carried {
-        return moved(
-            replay::IDENTITY[slot % 6],
-            reach_of(slot).wrapping_add(step),
-            down,
-        );
+        return moved(replay::IDENTITY[slot % 6], reach_of(slot) + step, down);
     }
     moved(number, step, down)
 }
@@ -518,16 +520,15 @@ fn try_rows<R: Print + AllocGlobal>(
 }
 
 fn main(rt: HostRuntime) -> io::Result<()> {
-    let alloc = rt.alloc();
     let Some(mut list) = replay::open_list(&rt, "header.bin")? else {
         return Ok(());
     };
     let count = u64::from(list.next_word());
     replay::try_cases(&rt, &mut list, "headers", count, |list, _| {
-        Ok(next_case(list)?.is_right())
+        Ok(next_case(list).is_right())
     })?;
     replay::try_cases(&rt, &mut (), "worked", 2, |_, case| {
-        Ok(worked_case(alloc, case)?.is_right())
+        Ok(worked_case(case).is_right())
     })?;
     replay::try_cases(&rt, &mut (), "accepted", 170, |_, case| {
         Ok(accepted_case(case as usize))

@@ -9,7 +9,6 @@ ghost use Rattle.std.specs.Prelude.{◌<◌};
 
 use job::{Report, Settings};
 use replay::{List, UNTOUCHED_BYTE, UNTOUCHED_PEL, UNTOUCHED_WORD};
-use std::alloc::AllocError;
 use std::{array, io};
 
 // ---- the planes
@@ -152,20 +151,32 @@ fn report_holds(list: &mut List, r: Report) -> bool {
 }
 
 // The first bytes are those of the list, packed four to a word; the others are as they were.
-fn bytes_hold(list: &mut List, bytes: &[u8], written: usize) -> Result<bool, AllocError> {
+fn bytes_hold(list: &mut List, bytes: &[u8], written: usize) -> bool {
     let (used, rest) = bytes.split_at(written.min(bytes.len()));
-    let listed = list.next_vec(used.len().div_ceil(4) * 4, |list| list.next_byte())?;
-    Ok(used == replay::first(&listed, used.len()) && replay::all_are(rest, UNTOUCHED_BYTE))
+    let mut listed = [0; 1100];
+    let packed = replay::first_mut(&mut listed, used.len().div_ceil(4) * 4);
+    list.fill(packed, |list| list.next_byte());
+    used == replay::first(&listed, used.len()) && replay::all_are(rest, UNTOUCHED_BYTE)
 }
 
-// The job, handed and lent as much of each as the list says.
-fn job_holds(list: &mut List) -> Result<bool, AllocError> {
+// The job, handed and lent as much of each as the list says. The buffers stand before all else: one that
+// isn't filled where a function begins is cleared there first.
+fn job_holds(list: &mut List) -> bool {
+    let mut input = [0u16; 36864];
+    let mut reference = [0u16; 36864];
+    let mut classes = [0; 150];
+    let mut types = [0; 6];
+    let mut models = [0; 36];
+    let mut prior = [0; 42];
+    let mut input_half = [UNTOUCHED_PEL; 9250];
+    let mut ref_half = [UNTOUCHED_PEL; 9250];
+    let mut words = [UNTOUCHED_WORD; 150];
+    let mut blocks = [UNTOUCHED_BYTE; 1100];
+    let mut header = [UNTOUCHED_BYTE; 140];
     let picture = next_picture(list);
     let width = picture.across.side;
     let height = picture.down.side;
     let area = (width % 65536) * (height % 65536);
-    let mut input = [0u16; 36864];
-    let mut reference = [0u16; 36864];
     picture.make_planes(
         list,
         replay::first_mut(&mut input, area),
@@ -174,29 +185,24 @@ fn job_holds(list: &mut List) -> Result<bool, AllocError> {
     let settings = next_settings(list);
     let input_pels = list.next_size();
     let ref_pels = list.next_size();
-    let class_count = list.next_size().min(150);
-    let type_count = list.next_size().min(6);
-    let model_count = list.next_size().min(36);
-    let prior_count = list.next_size().min(42);
-    let classes = list.next_vec(class_count, |list| list.next_code())?;
-    let types = list.next_vec(type_count, |list| list.next_code())?;
-    let models = list.next_vec(model_count, |list| list.next_number())?;
-    let prior = list.next_vec(prior_count, |list| list.next_number())?;
-    let mut input_half = [UNTOUCHED_PEL; 9250];
-    let mut ref_half = [UNTOUCHED_PEL; 9250];
-    let mut words = [UNTOUCHED_WORD; 150];
-    let mut blocks = [UNTOUCHED_BYTE; 1100];
-    let mut header = [UNTOUCHED_BYTE; 140];
+    let classes = replay::first_mut(&mut classes, list.next_size());
+    let types = replay::first_mut(&mut types, list.next_size());
+    let models = replay::first_mut(&mut models, list.next_size());
+    let prior = replay::first_mut(&mut prior, list.next_size());
+    list.fill(&mut *classes, |list| list.next_code());
+    list.fill(&mut *types, |list| list.next_code());
+    list.fill(&mut *models, |list| list.next_number());
+    list.fill(&mut *prior, |list| list.next_number());
     let report = job::job(
         replay::first(&input, input_pels),
         replay::first(&reference, ref_pels),
         width,
         height,
         settings,
-        &classes,
-        &types,
-        &models,
-        &prior,
+        classes,
+        types,
+        models,
+        prior,
         replay::first_mut(&mut input_half, list.next_size()),
         replay::first_mut(&mut ref_half, list.next_size()),
         replay::first_mut(&mut words, list.next_size()),
@@ -205,27 +211,25 @@ fn job_holds(list: &mut List) -> Result<bool, AllocError> {
     );
     let report_right = report_holds(list, report);
     let block_words = list.next_word();
-    let blocks_right = bytes_hold(list, &blocks, 4 * block_words as usize)?;
+    let blocks_right = bytes_hold(list, &blocks, 4 * block_words as usize);
     let header_bytes = list.next_size();
-    let header_right = bytes_hold(list, &header, header_bytes)?;
+    let header_right = bytes_hold(list, &header, header_bytes);
     let written = list.next_size();
     let input_sum = list.next_word();
     let ref_sum = list.next_word();
     let samples = list.next_size();
     let words_right = list.words_hold(&words, samples);
-    Ok(
-        report_right
-            && blocks_right
-            && header_right
-            && words_right
-            && replay::plane_holds(&input_half, written, input_sum)
-            && replay::plane_holds(&ref_half, written, ref_sum),
-    )
+    report_right
+        && blocks_right
+        && header_right
+        && words_right
+        && replay::plane_holds(&input_half, written, input_sum)
+        && replay::plane_holds(&ref_half, written, ref_sum)
 }
 
 fn main(rt: HostRuntime) -> io::Result<()> {
-    replay::replay_list(&rt, "job.bin", "job", |list, _| Ok(job_holds(list)?))?;
+    replay::replay_list(&rt, "job.bin", "job", |list, _| Ok(job_holds(list)))?;
     replay::replay_list(&rt, "refusals.bin", "refusal", |list, _| {
-        Ok(job_holds(list)?)
+        Ok(job_holds(list))
     })
 }

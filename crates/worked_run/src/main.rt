@@ -11,7 +11,6 @@ use header_read::Models;
 use job::{Report, Settings};
 use replay::{List, OVER, UNTOUCHED_PEL, UNTOUCHED_WORD};
 use run::Run;
-use std::alloc::AllocError;
 use std::io;
 
 // What every lent byte holds.
@@ -39,13 +38,14 @@ const PRACTISED: u32 = 1;
 const LISTED: u32 = 2;
 
 // The first bytes are those of the list, the others are as they were.
-fn bytes_hold(list: &mut List, bytes: &[u8]) -> Result<bool, AllocError> {
+fn bytes_hold(list: &mut List, bytes: &[u8]) -> bool {
+    let mut wanted = [FILL; 1100];
     let count = list.next_size();
-    if count > bytes.len() {
-        return Ok(false);
-    }
-    let listed = list.next_vec(count, |list| list.next_byte())?;
-    Ok(bytes[..count] == listed[..] && replay::all_are(&bytes[count..], FILL))
+    list.fill(
+        replay::first_mut(&mut wanted, count),
+        |list| list.next_byte(),
+    );
+    count <= bytes.len() && bytes == replay::first(&wanted, bytes.len())
 }
 
 // ---- what a job is handed, and what it answers
@@ -203,33 +203,35 @@ impl State {
             && models.params[..] == params[..];
     }
 
-    fn frame(&mut self, list: &mut List) -> Result<(), AllocError> {
+    fn frame(&mut self, list: &mut List) {
         let intra = list.next_word() == 1;
-        let types = list.next_counted(8, |list| list.next_byte())?;
-        let params = list.next_counted(43, |list| list.next_number())?;
+        let mut types = [0; 8];
+        let mut params = [0; 43];
+        let types = list.fill_counted(&mut types, |list| list.next_byte());
+        let params = list.fill_counted(&mut params, |list| list.next_number());
         let start = list.next_size();
         let mut bytes = [FILL; 140];
         let header = replay::first_mut(&mut bytes, list.next_size());
-        let framed = run_frame::frame(self.writer, intra, &types, &params, start, &mut *header);
+        let framed = run_frame::frame(self.writer, intra, types, params, start, &mut *header);
         let wanted = Written {
             refusal: list.next_word(),
             bits: list.next_size(),
         };
         self.writer = framed.run;
         self.right &= framed.written == wanted;
-        self.right &= bytes_hold(list, header)?;
+        self.right &= bytes_hold(list, header);
         if wanted.refusal == 0 {
-            self.read_along(intra, &types, &params, wanted.bits, start, header);
+            self.read_along(intra, types, params, wanted.bits, start, header);
         }
-        Ok(())
     }
 
     // Bytes that the reader is asked of beside the run: it goes no further, and a refused reading gives it
     // back as it was.
-    fn read_beside(&mut self, list: &mut List) -> Result<(), AllocError> {
+    fn read_beside(&mut self, list: &mut List) {
         let intra = list.next_word() == 1;
-        let bytes = list.next_counted(140, |list| list.next_byte())?;
-        let read = run_frame::read(self.reader, intra, &bytes, list.next_size());
+        let mut bytes = [0; 140];
+        let bytes = list.fill_counted(&mut bytes, |list| list.next_byte());
+        let read = run_frame::read(self.reader, intra, bytes, list.next_size());
         let refusal = list.next_word();
         let bits = list.next_size();
         let wanted = Models {
@@ -244,32 +246,32 @@ impl State {
             self.reader
         };
         self.right &= read.models == wanted && read.run == next;
-        Ok(())
     }
 
     // Words of zeros stand behind those of the list.
-    fn store(&mut self, list: &mut List) -> Result<(), AllocError> {
+    fn store(&mut self, list: &mut List) {
         let frame = list.next_pel();
         let listed = list.next_size();
         let handed = list.next_size();
-        let mut words = list.next_vec(listed.min(OVER), |list| list.next_word())?;
-        words.resize(handed.min(OVER), 0)?;
-        let classes = list.next_counted(150, |list| list.next_byte())?;
+        let mut words = [0u32; OVER];
+        list.fill_words(replay::first_mut(&mut words, listed));
+        let words = replay::first(&words, handed);
+        let mut classes = [0; 150];
+        let classes = list.fill_counted(&mut classes, |list| list.next_byte());
         let mut bytes = [FILL; 1100];
         let blocks = replay::first_mut(&mut bytes, list.next_size());
-        let stored = run_job::store(self.writer, frame, &words, &classes, &mut *blocks);
+        let stored = run_job::store(self.writer, frame, words, classes, &mut *blocks);
         let wanted = Stored {
             refusal: list.next_word(),
             blocks: list.next_size(),
         };
         self.right &= stored == wanted;
-        self.right &= bytes_hold(list, blocks)?;
-        Ok(())
+        self.right &= bytes_hold(list, blocks);
     }
 
     // The job, lent as much of each buffer as the list says. It is an inter frame: what it reports is what
     // the reader then gives.
-    fn job(&mut self, list: &mut List) -> Result<(), AllocError> {
+    fn job(&mut self, list: &mut List) {
         let width = list.next_size();
         let height = list.next_size();
         let mut input = [0u16; 28160];
@@ -278,9 +280,12 @@ impl State {
         let settings = next_settings(list);
         let input_pels = list.next_size();
         let ref_pels = list.next_size();
-        let classes = list.next_counted(150, |list| list.next_byte())?;
-        let types = list.next_counted(7, |list| list.next_byte())?;
-        let models = list.next_counted(37, |list| list.next_number())?;
+        let mut classes = [0; 150];
+        let mut types = [0; 7];
+        let mut models = [0; 37];
+        let classes = list.fill_counted(&mut classes, |list| list.next_byte());
+        let types = list.fill_counted(&mut types, |list| list.next_byte());
+        let models = list.fill_counted(&mut models, |list| list.next_number());
         let mut input_half = [UNTOUCHED_PEL; 7100];
         let mut ref_half = [UNTOUCHED_PEL; 7100];
         let mut words = [UNTOUCHED_WORD; 112];
@@ -293,9 +298,9 @@ impl State {
             width,
             height,
             settings,
-            &classes,
-            &types,
-            &models,
+            classes,
+            types,
+            models,
             replay::first_mut(&mut input_half, list.next_size()),
             replay::first_mut(&mut ref_half, list.next_size()),
             replay::first_mut(&mut words, list.next_size()),
@@ -305,22 +310,18 @@ impl State {
         let r = done.report;
         self.writer = done.run;
         self.right &= report_holds(list, r);
-        self.right &= bytes_hold(list, &blocks)?;
-        self.right &= bytes_hold(list, &header)?;
+        self.right &= bytes_hold(list, &blocks);
+        self.right &= bytes_hold(list, &header);
         self.right &= halves_hold(list, &input_half, &ref_half);
         self.right &= words_hold(list, &words);
         if r.refusal == 0 {
             self.read_along(false, &r.types, &r.models, r.bits, settings.start, &header);
         }
-        Ok(())
     }
 
-    fn event(&mut self, list: &mut List) -> Result<(), AllocError> {
+    fn event(&mut self, list: &mut List) {
         match list.next_word() {
-            SWITCH => {
-                self.switch(list);
-                Ok(())
-            }
+            SWITCH => self.switch(list),
             FRAME => self.frame(list),
             READ => self.read_beside(list),
             STORE => self.store(list),
@@ -354,19 +355,19 @@ fn begun(list: &mut List) -> (State, Run) {
 }
 
 // After each event both runs are the list's.
-fn replay_run(list: &mut List) -> Result<bool, AllocError> {
+fn replay_run(list: &mut List) -> bool {
     let (mut state, mut wanted) = begun(list);
     for _ in 0..list.next_word() {
-        state.event(list)?;
+        state.event(list);
         wanted = moved(list, wanted);
         state.right &= state.writer == wanted && state.reader == wanted;
     }
-    Ok(state.right)
+    state.right
 }
 
 fn main(rt: HostRuntime) -> io::Result<()> {
     replay::replay_list(&rt, "worked.bin", "worked runs", |list, _| {
-        Ok(replay_run(list)?)
+        Ok(replay_run(list))
     })?;
-    replay::replay_list(&rt, "run.bin", "runs", |list, _| Ok(replay_run(list)?))
+    replay::replay_list(&rt, "run.bin", "runs", |list, _| Ok(replay_run(list)))
 }

@@ -6,7 +6,6 @@
 
 use replay::{List, UNTOUCHED_PEL, UNTOUCHED_WORD};
 use search::Searched;
-use std::alloc::{AllocError, Global};
 use std::io;
 
 // The places of a window, rows or columns: the first pel's, and those that it is held to.
@@ -99,8 +98,8 @@ impl Texture {
     }
 
     // The pels of a plane of so many columns.
-    fn plane(self, alloc: Global, window: Window, width: usize) -> Result<Vec<u16>, AllocError> {
-        let mut pels = vec![in alloc; 0u16; 6400]?;
+    fn plane(self, window: Window, width: usize) -> [u16; 6400] {
+        let mut pels = [0u16; 6400];
         if width != 0 {
             for (i, pel) in pels.iter_mut().enumerate() {
                 let row = window.rows.place(i / width);
@@ -108,16 +107,16 @@ impl Texture {
                 *pel = self.pel(window.seed, row, column);
             }
         }
-        Ok(pels)
+        pels
     }
 }
 
-fn texture_holds(alloc: Global, list: &mut List) -> Result<bool, AllocError> {
+fn texture_holds(list: &mut List) -> bool {
     let width = list.next_size();
     let height = list.next_size();
     let texture = next_texture(list);
-    let input = texture.plane(alloc, next_window(list), width)?;
-    let reference = texture.plane(alloc, next_window(list), width)?;
+    let input = texture.plane(next_window(list), width);
+    let reference = texture.plane(next_window(list), width);
     let input_pels = list.next_size();
     let ref_pels = list.next_size();
     let count = list.next_size();
@@ -149,20 +148,20 @@ fn texture_holds(alloc: Global, list: &mut List) -> Result<bool, AllocError> {
     let input_sum = list.next_word();
     let ref_sum = list.next_word();
     let words_right = list.words_hold(&words, wanted.samples);
-    Ok(
-        searched == wanted
-            && replay::plane_holds(&input_half, written, input_sum)
-            && replay::plane_holds(&ref_half, written, ref_sum)
-            && words_right,
-    )
+    searched == wanted
+        && replay::plane_holds(&input_half, written, input_sum)
+        && replay::plane_holds(&ref_half, written, ref_sum)
+        && words_right
 }
 
-fn planes_hold(list: &mut List) -> Result<bool, AllocError> {
+fn planes_hold(list: &mut List) -> bool {
     let width = list.next_size();
     let height = list.next_size();
-    let pels = list.next_size().min(6400);
-    let input = list.next_vec(pels, |list| list.next_pel())?;
-    let reference = list.next_vec(pels, |list| list.next_pel())?;
+    let pels = list.next_size();
+    let mut input = [0u16; 6400];
+    let mut reference = [0u16; 6400];
+    list.fill_pels(replay::first_mut(&mut input, pels));
+    list.fill_pels(replay::first_mut(&mut reference, pels));
     let wanted = Searched {
         refusal: 0,
         samples: list.next_size(),
@@ -172,8 +171,8 @@ fn planes_hold(list: &mut List) -> Result<bool, AllocError> {
     let mut ref_half = [UNTOUCHED_PEL; 1632];
     let mut words = [UNTOUCHED_WORD; 32];
     let searched = search::collect_motion_samples(
-        &input,
-        &reference,
+        replay::first(&input, pels),
+        replay::first(&reference, pels),
         width,
         height,
         replay::first(&[0u8; 32], wanted.samples),
@@ -181,15 +180,14 @@ fn planes_hold(list: &mut List) -> Result<bool, AllocError> {
         &mut ref_half,
         &mut words,
     );
-    Ok(list.words_hold(&words, wanted.samples) && searched == wanted)
+    list.words_hold(&words, wanted.samples) && searched == wanted
 }
 
 fn main(rt: HostRuntime) -> io::Result<()> {
-    let alloc = rt.alloc();
     replay::replay_list(&rt, "search.bin", "search", |list, _| {
-        Ok(texture_holds(alloc, list)?)
+        Ok(texture_holds(list))
     })?;
     replay::replay_list(&rt, "planes.bin", "search", |list, _| {
-        Ok(planes_hold(list)?)
+        Ok(planes_hold(list))
     })
 }

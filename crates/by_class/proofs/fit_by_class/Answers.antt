@@ -1,21 +1,29 @@
 -- `by_class::fit_by_class`: the rows' refusal, or the call over the named words in front of the buffer. Assumes nothing.
-use mathlib.Core.Path.{refl, ◌∙◌}
+use mathlib.Core.Path.{refl, sym, ◌∙◌}
 use Rattle.fit.specs.declared.Fitted.TheVariants.{Refused}
 use Rattle.fit.specs.Fitted.{no_type, fitted}
 use Rattle.class_set.proofs.Front.{front-count, front-there}
-use Rattle.by_class.proofs.Rows.{named-refused, call-accepted}
+use Rattle.by_class.proofs.Rows.{call-passed, named-refused, call-accepted}
 use Rattle.by_class.proofs.fit_by_class.Goals as goal
 
 pub returns-in-Err : goal.returns-in-Err
 returns-in-Err c = let a = c.args in
-    named-refused (no_type a.gm_type) a.set a.words.now a.classes.now c.no_type.ensures c.in-Err.refusal c.in-Err.ensures.judged c.number.ensures Refused (fitted a.gm_type)
+    named-refused (no_type a.gm_type) a.set a.words.now a.classes.now c.no_type.ensures c.in-Err.refusal c.in-Err.ensures c.number.ensures Refused (fitted a.gm_type)
 
-pub slice_bounds-room-end : goal.slice_bounds-room-end
-slice_bounds-room-end c = front-there c.in-Ok.ensures.front
+pub slice_bounds-choose-end : goal.slice_bounds-choose-end
+slice_bounds-choose-end c = refl
+
+pub choose-n-requires : goal.choose-n-requires
+choose-n-requires c = let a = c.args in
+    let p = call-passed (no_type a.gm_type) a.set a.words.now a.classes.now c.no_type.ensures c.in-Ok.ensures refl in
+    record { words_len = sym p.classed; words_in_bounds = p.few }
+
+pub slice_bounds-named-end : goal.slice_bounds-named-end
+slice_bounds-named-end c = front-there c.choose-n.ensures
 
 pub slice_bounds-fit_model-end : goal.slice_bounds-fit_model-end
-slice_bounds-fit_model-end c = front-count c.in-Ok.ensures.front
+slice_bounds-fit_model-end c = front-count c.choose-n.ensures
 
 pub returns-in-Ok : goal.returns-in-Ok
 returns-in-Ok c = let a = c.args in
-    c.fit_model.ensures ∙ call-accepted (no_type a.gm_type) a.set a.words.now a.classes.now c.no_type.ensures c.in-Ok.ensures.judged Refused (fitted a.gm_type) refl c.in-Ok.ensures.front
+    c.fit_model.ensures ∙ call-accepted (no_type a.gm_type) a.set a.words.now a.classes.now c.no_type.ensures c.in-Ok.ensures Refused (fitted a.gm_type) refl c.choose-n.ensures

@@ -1,5 +1,6 @@
 -- `job_model::models_of`: the refusal of the job's own model decides, as in the definition.
 -- Assumes nothing.
+use mathlib.Core.Path.{◌∙◌}
 use borrow.Author.Rules.{rules}
 use Rattle.job_model.proofs.Composed.{refused-as, accepted-as}
 use Rattle.job_model.proofs.models_of.Goals as goal
@@ -13,14 +14,15 @@ returns-then-own-ne0 c = let a = c.args in record {
   refused = c.if-own-ne0.true;
 }
 
-pub types_with-types-requires : goal.types_with-types-requires
-types_with-types-requires c = let r = c.requires.fitting.range in (c.requires.six, record { least = r.some_reference; most = r.last_reference })
-
-pub models_with-models-requires : goal.models_with-models-requires
-models_with-models-requires c = let r = c.requires.fitting.range in (c.requires.numbers, record { least = r.some_reference; most = r.last_reference })
+pub with_model-requires : goal.with_model-requires
+with_model-requires c = let r = c.requires.fitting.range in record {
+  six = c.requires.six;
+  numbers = c.requires.numbers;
+  reference = record { least = r.some_reference; most = r.last_reference };
+}
 
 pub returns : goal.returns
 returns c = let a = c.args in record {
-  answer = rw (c.types_with-types.ensures, c.models_with-models.ensures) (accepted-as a.settings a.types.now a.models.now a.words.now c.own_of-own.ensures c.if-own-ne0.false);
+  answer = c.with_model.ensures ∙ accepted-as a.settings a.types.now a.models.now a.words.now c.own_of-own.ensures c.if-own-ne0.false;
   refused = tt;
 }

@@ -22,16 +22,12 @@ returns-in_err-model_refusal c = let r = c.from_residual-in_err-model_refusal in
     let p = err_from_is_err_and r.result r.ensures.1 in
     rw (p.1, p.2, sym c.in_ok-code_refusal.ensures, sym c.in_err-model_refusal.ensures) (first-refused _ _)
 
-pub too_short-requires : goal.too_short-requires
-too_short-requires c = let h = c.args.self in
+pub room_refusal-requires : goal.room_refusal-requires
+room_refusal-requires c = let h = c.args.self in
     let codes = sym c.in_ok-code_refusal.ensures in
     let handed = sym c.in_ok-model_refusal.ensures in
     (ready-to-write h.types.now h.params.now h.flag h.prior.now c.args.start codes handed, start-low h.types.now h.params.now h.flag h.prior.now c.args.start handed)
 
-pub returns-then-too_short : goal.returns-then-too_short
-unfolding write_refusal
-returns-then-too_short c = rw (sym c.in_ok-code_refusal.ensures, sym c.in_ok-model_refusal.ensures, sym c.if-too_short.ensures)
-
 pub returns : goal.returns
 unfolding write_refusal
-returns c = rw (sym c.in_ok-code_refusal.ensures, sym c.in_ok-model_refusal.ensures, sym c.if-too_short.ensures)
+returns c = rw (sym c.in_ok-code_refusal.ensures, sym c.in_ok-model_refusal.ensures) c.room_refusal.ensures
