@@ -2,9 +2,10 @@
 // samples and models; guarded buffers; what a call is handed; and the cases of a list tried in turn.
 #![tactic(auto)]
 
-ghost use Rattle.std.specs.Prelude.{◌≡◌, ◌≤◌, take, IfOk};
+ghost use Rattle.std.specs.Prelude.{◌≡◌, ◌≤◌, take, vec_len, IfOk};
 
 use sample::MotionSample;
+use std::alloc::{AllocError, Global};
 use std::rt::Files;
 use std::{array, fs, io, num, vec};
 
@@ -32,6 +33,7 @@ const STILL: MotionSample = MotionSample {
 #[derive(Drop)]
 pub struct List {
     bytes: vec::IntoIter<u8>,
+    alloc: Global,
 }
 
 impl List {
@@ -115,6 +117,35 @@ impl List {
         listed
     }
 
+    // So many items, in memory of their own, where there is no buffer for them.
+    pub fn next_vec<T: Drop, F: FnMut(&mut List) -> T>(
+        &mut self,
+        count: usize,
+        mut next: F,
+    ) -> Result<Vec<T>, AllocError>
+        requires { F.IsAlwaysCallable next }
+        ensures { IfOk result (λ items. vec_len items ≡ count) }
+    {
+        let mut items = Vec::new(self.alloc);
+        for _ in 0..count {
+            items.push(next(self))?;
+        }
+        Ok(items)
+    }
+
+    // A count, and so many items; what is beyond the most isn't read.
+    pub fn next_counted<T: Drop, F: FnMut(&mut List) -> T>(
+        &mut self,
+        most: usize,
+        next: F,
+    ) -> Result<Vec<T>, AllocError>
+        requires { F.IsAlwaysCallable next }
+        ensures { IfOk result (λ items. vec_len items ≤ most) }
+    {
+        let count = self.next_size();
+        self.next_vec(count.min(most), next)
+    }
+
     fn next_sample(&mut self) -> MotionSample {
         MotionSample {
             x: self.next_float(),
@@ -124,8 +155,28 @@ impl List {
         }
     }
 
-    // Samples, of which the first are written out, and come round again; of none written all are zeros.
-    pub fn next_samples(&mut self, written: usize) -> [MotionSample; OVER] {
+    // So many samples, of which the first are written out, and come round again; of none written all are zeros.
+    pub fn next_samples(
+        &mut self,
+        count: usize,
+        written: usize,
+    ) -> Result<Vec<MotionSample>, AllocError>
+        ensures { IfOk result (λ samples. vec_len samples ≡ count) }
+    {
+        let mut listed = self.next_vec(written, |list| list.next_sample())?;
+        if listed.is_empty() {
+            listed.push(STILL)?;
+        }
+        listed
+            .iter()
+            .copied()
+            .cycle()
+            .take(count)
+            .collect(self.alloc)
+    }
+
+    // The same in an array, one more than a call may be handed; what is beyond it isn't read.
+    pub fn next_sample_array(&mut self, written: usize) -> [MotionSample; OVER] {
         let mut samples = [STILL; OVER];
         for i in 0..OVER {
             samples[i] = if i < written {
@@ -203,6 +254,7 @@ pub fn open_list<R: Files + Eprint + AllocGlobal>(rt: &R, file: &str) -> io::Res
     match fs::read(rt, file) {
         Ok(bytes) => Ok(Some(List {
             bytes: bytes.into_iter(),
+            alloc: rt.alloc(),
         })),
         Err(error) => {
             eprintln!(rt; "{file}: {error}")?;
@@ -251,4 +303,57 @@ pub fn replay_list<
     };
     let count = u64::from(list.next_word());
     try_cases(rt, &mut list, name, count, holds)
+}
+
+#[cfg(test)]
+mod tests {
+    use super::*;
+    use std::test::Fail;
+
+    // Words, high byte first, then the end.
+    fn listed<const N: usize>(rt: &HostRuntime, words: [u32; N]) -> Result<List, Fail> {
+        let mut bytes = Vec::new(rt.alloc());
+        for word in words {
+            bytes.extend_from_slice(&word.to_be_bytes())?;
+        }
+        Ok(List {
+            bytes: bytes.into_iter(),
+            alloc: rt.alloc(),
+        })
+    }
+
+    #[test]
+    fn reads_so_many(rt: HostRuntime) -> Result<(), Fail> {
+        let mut list = listed(&rt, [7, 8, 2, 9, 10, 3, 11])?;
+        let words = list.next_vec(2, |list| list.next_word())?;
+        assert_eq!(rt; words.as_slice(), [7, 8].as_slice());
+        let words = list.next_counted(5, |list| list.next_word())?;
+        assert_eq!(rt; words.as_slice(), [9, 10].as_slice());
+        let words = list.next_counted(1, |list| list.next_word())?;
+        assert_eq!(rt; words.as_slice(), [11].as_slice());
+        let words = list.next_vec(1, |list| list.next_word())?;
+        assert_eq!(rt; words.as_slice(), [0].as_slice());
+        Ok(())
+    }
+
+    // The floats 1 and 2, of a first sample, and zeros behind the end.
+    #[test]
+    fn samples_come_round_again(rt: HostRuntime) -> Result<(), Fail> {
+        let words = [0x3ff0_0000, 0, 0x4000_0000, 0];
+        let mut list = listed(&rt, words)?;
+        let samples = list.next_samples(5, 2)?;
+        let wanted = [(1.0, 2.0), (0.0, 0.0), (1.0, 2.0), (0.0, 0.0), (1.0, 2.0)];
+        assert_eq!(rt; samples.len(), wanted.len());
+        for (sample, (x, y)) in samples.iter().zip(wanted) {
+            assert!(rt; sample.x == x && sample.y == y && sample.u == 0.0 && sample.v == 0.0);
+        }
+        let samples = list.next_samples(2, 0)?;
+        assert_eq!(rt; samples.len(), 2);
+        assert!(rt;
+            samples.iter().all(|sample| [sample.x, sample.y, sample.u, sample.v] == [0.0; 4])
+        );
+        let samples = listed(&rt, words)?.next_sample_array(2);
+        assert!(rt; samples[1].x == 0.0 && samples[2].y == 2.0 && samples[4096].x == 1.0);
+        Ok(())
+    }
 }

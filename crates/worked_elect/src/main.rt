@@ -32,7 +32,7 @@ fn words_hold(list: &mut List) -> bool {
 fn samples_hold(list: &mut List) -> bool {
     let count = list.next_size();
     let written = list.next_size();
-    let samples = list.next_samples(written);
+    let samples = list.next_sample_array(written);
     let flag = list.next_code();
     if count > OVER {
         return false;

@@ -202,7 +202,7 @@ fn order_holds(list: &mut List, flag: u8) -> bool {
 fn samples_hold(list: &mut List, flag: u8) -> bool {
     let count = list.next_size();
     let written = list.next_size();
-    let samples = list.next_samples(written);
+    let samples = list.next_sample_array(written);
     count <= OVER && Samples::Any(replay::first(&samples, count)).all_hold(list, flag)
 }
 
