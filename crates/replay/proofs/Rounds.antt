@@ -1,6 +1,8 @@
 -- Items that come round again: where the first round has one, there are as many as are taken.
 -- Assumes nothing.
-use Rattle.std.proofs.Common.{◌≡◌, ℕ, zero, suc, ◌<◌, List, [], ◌∷◌, length, Option, None, Some, MatchOption, IfOk, Result, Ok, Err, refl, arith, Bor, vec_len}
+use mathlib.Core.Logic.{inl, inr}
+use Rattle.std.proofs.Common.{◌≡◌, ℕ, List, [], ◌∷◌, length, Option, None, Some, MatchOption, IfOk, Result, Ok, Err, arith, Bor, vec_len}
+use Rattle.std.proofs.Math.Nat.{eq-zero-or-pos}
 use Rattle.std.proofs.lemmas.Option.{none-some}
 use Rattle.std.proofs.lemmas.Iterator.{IsCollectResult}
 use Rattle.std.specs.Iterator.{Yields}
@@ -17,12 +19,8 @@ goes-on : {S A : Type 0} (steps : S → Option A → S → Type 0) (Anew : S →
 goes-on steps Anew None u t full h = full h.0 t h.1 h.2
 goes-on steps Anew (Some x) u t full h = none-some x h.0
 
-none-left : (n : ℕ) → ¬ (0 < n) → 0 ≡ n
-none-left zero h = refl
-none-left (suc n) h = absurd (h (omega arith))
-
 ended : {S A : Type 0} (steps : S → Option A → S → Type 0) (clones : S → S → Type 0) (t u : Take (Cycle S)) → ((j k : S) → clones (cycle_start (take_source t)) j → ¬ (steps j None k)) → take_steps (cycle_steps steps clones) t None u → 0 ≡ take_count t
-ended steps clones t u full n = none-left (take_count t) (λ m. let h = (n m).1 in goes-on steps (clones (cycle_start (take_source t))) h.0 h.1 (cycle_source (take_source u)) full h.3)
+ended steps clones t u full n = elim (eq-zero-or-pos (take_count t)) [ inl z ↦ omega (arith, z) | inr m ↦ absurd (let h = (n m).1 in goes-on steps (clones (cycle_start (take_source t))) h.0 h.1 (cycle_source (take_source u)) full h.3) ]
 
 -- what was taken when nothing more came
 pub taken : {S A : Type 0} (steps : S → Option A → S → Type 0) (clones : S → S → Type 0) (xs : List A) (s t u : Take (Cycle S)) → ((j k : S) → clones (cycle_start (take_source s)) j → ¬ (steps j None k)) → Yields (take_steps (cycle_steps steps clones)) s xs t → take_steps (cycle_steps steps clones) t None u → length xs ≡ take_count s
